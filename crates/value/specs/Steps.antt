@@ -1,0 +1,28 @@
+-- A reduction as the program goes, value by value. Nothing to believe: `reduced` (proofs/Reduced) says that it is `reduce`.
+use Prim.Native.Nat.{ℕ}
+use mathlib.Core.Bool.{cond}
+use mathlib.Core.List.{[], _∷_}
+use lib.Dec.{eqb}
+use lib.ListN.{getD}
+use Rattle.value.specs.declared.Value.{Value}
+use Rattle.value.specs.declared.Value.the-variants.{Absent, Number}
+use Rattle.value.specs.declared.Partial.{Partial}
+use Rattle.value.specs.declared.Partial.the-variants.{Empty, Reached}
+use Rattle.value.specs.Value.{operate}
+
+-- the operator that joins the numbers of a reduction: min, max, plus, and, or
+abbrev pub joining : ℕ → ℕ
+joining reduction = getD (0 ∷ 1 ∷ 2 ∷ 3 ∷ 10 ∷ 11 ∷ []) reduction 0
+
+-- what the first number is joined to
+abbrev pub start : ℕ → ℕ → ℕ
+start reduction x = cond (eqb reduction 3) 0 x
+
+abbrev pub step : ℕ → Partial → Value → Partial
+step reduction partial Absent = partial
+step reduction Empty (Number x) = Reached (operate (joining reduction) (Number (start reduction x)) (Number x))
+step reduction (Reached t) (Number x) = Reached (operate (joining reduction) t (Number x))
+
+abbrev pub finish : Partial → Value
+finish Empty = Absent
+finish (Reached t) = t

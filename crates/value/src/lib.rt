@@ -170,7 +170,11 @@ fn step_of(reduction: u8, partial: Partial, v: Value) -> Partial
     };
     let operator = joining_of(reduction);
     match partial {
-        Partial::Empty => Partial::Reached(operate_on(operator, Value::Number(start_of(reduction, x)), v)),
+        Partial::Empty => Partial::Reached(operate_on(
+            operator,
+            Value::Number(start_of(reduction, x)),
+            v,
+        )),
         Partial::Reached(t) => Partial::Reached(operate_on(operator, t, v)),
     }
 }

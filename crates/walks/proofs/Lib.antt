@@ -1,0 +1,16 @@
+pub mod Tests
+pub mod Keys
+pub mod Order
+pub mod Optimal
+pub mod Rounds
+pub mod Same
+pub mod Quiet
+pub mod Push
+pub mod Pigeons
+pub mod Short
+pub mod Bound
+pub mod First
+pub mod Joint
+pub mod Steps
+pub mod Bounds
+pub mod Direct

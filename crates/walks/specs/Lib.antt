@@ -1,0 +1,5 @@
+pub mod Keys
+pub mod Walks
+pub mod Meaning
+pub mod Rounds
+pub mod Lists

@@ -11,7 +11,7 @@ use Rattle.walks.specs.Lists.{All}
 use Rattle.walks.specs.Rounds.{State, quiet, same, same-list, unchanged}
 use Rattle.walks.proofs.Tests.{and-both, and-left, and-right, le-step}
 
-same-list-eq : (xs ys : List ℕ) → T (same-list xs ys) → xs ≡ ys
+pub same-list-eq : (xs ys : List ℕ) → T (same-list xs ys) → xs ≡ ys
 same-list-eq [] [] t = refl
 same-list-eq [] (y ∷ ys) t = absurd t
 same-list-eq (x ∷ xs) [] t = absurd t
@@ -24,7 +24,7 @@ same-eq none (some ys) t = absurd t
 same-eq (some xs) none t = absurd t
 same-eq (some xs) (some ys) t = ap some (same-list-eq xs ys t)
 
-same-list-refl : (xs : List ℕ) → T (same-list xs xs)
+pub same-list-refl : (xs : List ℕ) → T (same-list xs xs)
 same-list-refl [] = tt
 same-list-refl (x ∷ xs) = and-both (eqb x x) (same-list xs xs) (eqb-refl x) (same-list-refl xs)
 

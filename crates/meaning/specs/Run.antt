@@ -1,0 +1,65 @@
+-- The runs of a plan, by pull and by push: the figures of each path reduction round by round, the rounds, and the rows.
+use Prim.Native.Nat.{ℕ, zero, suc}
+use mathlib.Core.List.{List, [], _∷_, map}
+use lib.ListN.{getD}
+use Rattle.value.specs.declared.Value.{Value}
+use Rattle.value.specs.declared.Value.the-variants.{Absent, Number}
+use Rattle.value.specs.Value.{operate, reduce}
+use Rattle.walks.specs.Meaning.{value}
+use Rattle.walks.specs.Rounds.{State, pushed, rounds, state}
+use Rattle.walks.specs.Walks.{Graph}
+use Rattle.meaning.specs.Meaning.{Outcome}
+use Rattle.meaning.specs.Plan.{Body, Plan, each-vertex, one-result}
+use Rattle.meaning.specs.Query.{PathReduction, Term, VertexReduction, apply, leaf, literal, network-of}
+
+-- the value of a term, of the values of its leaves; of an expression, whose leaves are indices into a list of values
+abbrev pub value-of : {A : Type 0} → (A → Value) → Term A → Value
+value-of f (leaf a) = f a
+value-of f (literal k) = Number k
+value-of f (apply o s t) = operate o (value-of f s) (value-of f t)
+
+abbrev pub evaluate : List Value → Term ℕ → Value
+evaluate vs = value-of (λ i. getD vs i Absent)
+
+-- f at the n numbers from i on
+abbrev pub tabulate : {A : Type 0} → ℕ → ℕ → (ℕ → A) → List A
+tabulate zero i f = []
+tabulate (suc n) i f = f i ∷ tabulate n (suc i) f
+
+-- the rows of a plan's body on n places, where the chains have the values F v at the place v
+abbrev pub at-vertices : (ℕ → List Value) → ℕ → Term ℕ → List Value
+at-vertices F n t = tabulate n zero (λ v. evaluate (F v) t)
+
+abbrev pub reduced : (ℕ → List Value) → ℕ → VertexReduction ℕ → Value
+reduced F n e = reduce (e .reduction) (at-vertices F n (e .body))
+
+abbrev pub body-rows : Body → (ℕ → List Value) → ℕ → List Value
+body-rows (each-vertex t) F n = at-vertices F n t
+body-rows (one-result es t) F n = evaluate (map (reduced F n) es) t ∷ []
+
+-- a way to run: the figures of each chain after each round at each place. By pull, and by push:
+abbrev pub Way : Type 0
+Way = PathReduction → ℕ → State
+
+abbrev pub pull : Graph → Way
+pull g c = state (network-of g c) (c .keys)
+
+abbrev pub push : Graph → Way
+push g c = pushed (network-of g c) (c .keys)
+
+-- "A run stops after the first round, counted from 1, in which no place changes for any chain."
+abbrev pub run-rounds : Way → ℕ → Plan → ℕ
+run-rounds W n p = rounds n (map W (p .paths))
+
+-- the values of the chains after r rounds at the place v
+abbrev pub values-at : Way → List PathReduction → ℕ → ℕ → List Value
+values-at W cs r v = map (λ c. value (W c r v)) cs
+
+-- "Each run can also be stopped after a given 16-bit number of rounds, 0 allowed; it then does that many, quiet or not, reports that number and answers from the
+-- values reached."
+unfoldable pub stopped : Way → ℕ → Plan → ℕ → Outcome
+stopped W n p r = record { count = r; rows = body-rows (p .body) (values-at W (p .paths) r) n }
+
+-- with no number given: to the first round that changes nothing
+unfoldable pub run : Way → ℕ → Plan → Outcome
+run W n p = stopped W n p (run-rounds W n p)

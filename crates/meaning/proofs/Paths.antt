@@ -1,6 +1,7 @@
--- Equal path reductions are put together: each that is written stands in the list, at its position. Assumes nothing.
+-- Equal path reductions are put together: each that is written stands in the list, at its position, and none stands twice. Assumes nothing.
 use Prim.Native.Nat.{zero, suc, _<_}
 use mathlib.Core.Path.{_≡_, refl, sym, ap, _∙_, subst}
+use mathlib.Core.Logic.{_⊎_, inl, inr}
 use mathlib.Core.Bool.{Bool, true, false, cond, _||_}
 use mathlib.Core.List.{List, [], _∷_, _++_, map}
 use native.Mathlib.Omega.{arith}
@@ -8,6 +9,7 @@ use lib.Dec.{T, eqb, eqb→eq, eqb-refl}
 use lib.ListN.{length, getD}
 use Rattle.walks.specs.Lists.{All}
 use Rattle.walks.specs.Rounds.{same-list}
+use Rattle.walks.proofs.Pigeons.{Distinct, In}
 use Rattle.walks.proofs.Same.{same-list-eq, same-list-refl}
 use Rattle.walks.proofs.Tests.{T-of, and-both, and-left, and-right}
 use Rattle.meaning.specs.Plan.{among, position, put, put-all, same-path}
@@ -132,3 +134,37 @@ pub position-stays : (c : PathReduction) (cs ds : List PathReduction) → T (amo
 position-stays c cs [] t = refl
 position-stays c cs (d ∷ ds) t = position-stays c (put cs d) ds (put-keeps cs d c t) ∙ position-put c cs d t
 
+-- no path reduction stands twice
+among-of : (c : PathReduction) (cs : List PathReduction) → In c cs → T (among c cs)
+among-of c [] h = h
+among-of c (d ∷ cs) (inl e) = or-left (same-path c d) (among c cs) (subst (λ (x : PathReduction). T (same-path c x)) e (path-refl c))
+among-of c (d ∷ cs) (inr h) = or-right (same-path c d) (among c cs) (among-of c cs h)
+
+in-last : (x c : PathReduction) (cs : List PathReduction) → In x (cs ++ (c ∷ [])) → In x cs ⊎ (x ≡ c)
+in-last x c [] (inl e) = inr e
+in-last x c [] (inr h) = absurd h
+in-last x c (d ∷ cs) (inl e) = inl (inl e)
+in-last x c (d ∷ cs) (inr h) = go (in-last x c cs h)
+  where
+    go : In x cs ⊎ (x ≡ c) → In x (d ∷ cs) ⊎ (x ≡ c)
+    go (inl i) = inl (inr i)
+    go (inr e) = inr e
+
+distinct-last : (c : PathReduction) (cs : List PathReduction) → (In c cs → ⊥) → Distinct cs → Distinct (cs ++ (c ∷ []))
+distinct-last c [] n d = (λ h. h, tt)
+distinct-last c (x ∷ cs) n d = (λ h. apart (in-last x c cs h), distinct-last c cs (λ h. n (inr h)) (d .1))
+  where
+    apart : In x cs ⊎ (x ≡ c) → ⊥
+    apart (inl h) = d .0 h
+    apart (inr e) = n (inl (sym e))
+
+put-distinct : (cs : List PathReduction) (c : PathReduction) → Distinct cs → Distinct (put cs c)
+put-distinct cs c d = go (among c cs) refl
+  where
+    go : (b : Bool) → among c cs ≡ b → Distinct (cond b cs (cs ++ (c ∷ [])))
+    go true e = d
+    go false e = distinct-last c cs (λ h. subst T e (among-of c cs h)) d
+
+pub put-all-distinct : (cs ds : List PathReduction) → Distinct cs → Distinct (put-all cs ds)
+put-all-distinct cs [] d = d
+put-all-distinct cs (c ∷ ds) d = put-all-distinct (put cs c) ds (put-distinct cs c d)

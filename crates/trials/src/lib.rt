@@ -1,0 +1,1 @@
+// The marked trials of document 01, computed from the definitions: specs/ and proofs/. No code.

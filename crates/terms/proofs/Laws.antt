@@ -1,0 +1,73 @@
+-- What the code's proofs cite. Assumes nothing.
+use Prim.Native.Nat.{ℕ, zero, suc, _+_, _-_, _≤_, _<_}
+use mathlib.Core.Path.{_≡_, refl, sym, ap, ap₂}
+use mathlib.Core.Bool.{Bool, true, false, cond}
+use mathlib.Core.List.{List, [], _∷_}
+use native.Mathlib.Omega.{arith}
+use native.Mathlib.Nat.{not-suc-le-zero, le-of-suc-le-suc}
+use borrow.Author.Tests.{ne-eqb}
+use lib.Dec.{leb, eqb, eqb·suc-suc}
+use lib.ListN.{length, getD, List·getD-eq-default}
+use Rattle.walks.specs.Keys.{table}
+use Rattle.terms.specs.declared.Step.{Step}
+use Rattle.terms.specs.declared.Walk.{Walk}
+use Rattle.terms.specs.Fields.{key-code, keys-code, then}
+use Rattle.terms.specs.Terms.{read, slot-of, term-step}
+
+-- past the end, and only there, the default shows
+pub getD-any : (s : List ℕ) (i a b : ℕ) → i < length s → getD s i a ≡ getD s i b
+getD-any [] i a b h = absurd (not-suc-le-zero h)
+getD-any (x ∷ s) zero a b h = refl
+getD-any (x ∷ s) (suc i) a b h = getD-any s i a b (le-of-suc-le-suc h)
+
+pub getD-past : (s : List ℕ) (i a : ℕ) → length s ≤ i → a ≡ getD s i a
+getD-past s i a h = sym (List·getD-eq-default s a {n = i} h)
+
+-- one key more
+pub keys-next : (n : ℕ) (s : List ℕ) (i : ℕ) → 0 < n → keys-code n s i ≡ then (key-code (getD s i 256) (eqb n 1)) (keys-code (n - 1) s (i + 1))
+unfolding keys-code
+keys-next zero s i h = absurd (not-suc-le-zero h)
+keys-next (suc n) s i h = ap₂ (λ (b : Bool) (m : ℕ). then (key-code (getD s i 256) b) (keys-code m s (i + 1))) (sym (eqb·suc-suc n 0)) (let e : n ≡ suc n - 1 = omega arith in e)
+
+-- one place of the table more
+pub slot-next : (k paths : ℕ) (table : List ℕ) (word i : ℕ) → 0 < k
+    → slot-of k paths table word i ≡ cond (leb paths i) i (cond (eqb (getD table i 0) word) i (slot-of (k - 1) paths table word (i + 1)))
+unfolding slot-of
+slot-next zero paths table word i h = absurd (not-suc-le-zero h)
+slot-next (suc k) paths table word i h =
+    ap (λ (m : ℕ). cond (leb paths i) i (cond (eqb (getD table i 0) word) i (slot-of m paths table word (i + 1)))) (let e : k ≡ suc k - 1 = omega arith in e)
+
+-- one level of depth
+pub read-none : (mode left : ℕ) (s : List ℕ) (w : Walk) → left ≡ 0 → read mode left s w ≡ cond (eqb (w .code) 0) (term-step mode left s w .walk) w
+unfolding read
+read-none mode zero s w e = refl
+read-none mode (suc left) s w e = absurd (omega arith)
+
+pub read-next : (mode left : ℕ) (s : List ℕ) (w : Walk) → (left ≡ 0 → ⊥)
+    → read mode left s w
+    ≡ cond (eqb (w .code) 0)
+    (let h = term-step mode left s w in
+    cond (eqb (h .follow) 0) (h .walk) (cond (eqb (h .follow) 1) (read 0 (left - 1) s (h .walk)) (read mode (left - 1) s (read mode (left - 1) s (h .walk)))))
+    w
+unfolding read
+read-next mode zero s w n = absurd (n refl)
+read-next mode (suc left) s w n = go (eqb (w .code) 0) (eqb (h .follow) 0) (eqb (h .follow) 1) (let e : left ≡ suc left - 1 = omega arith in e)
+  where
+    h : Step
+    h = term-step mode (suc left) s w
+
+    go : (a b c : Bool) {m : ℕ} → left ≡ m
+        → elim a [
+          | true ↦ elim b [ true ↦ h .walk | false ↦ elim c [ true ↦ read 0 left s (h .walk) | false ↦ read mode left s (read mode left s (h .walk)) ] ]
+          | false ↦ w
+        ]
+        ≡ cond a (cond b (h .walk) (cond c (read 0 m s (h .walk)) (read mode m s (read mode m s (h .walk))))) w
+    go true true c e = refl
+    go true false true e = ap (λ (k : ℕ). read 0 k s (h .walk)) e
+    go true false false e = ap (λ (k : ℕ). read mode k s (read mode k s (h .walk))) e
+    go false b c e = refl
+
+pub handed-on : (mode left : ℕ) (s : List ℕ) (w : Walk) → (w .code ≡ 0 → ⊥) → read mode left s w ≡ w
+unfolding read
+handed-on mode zero s w n = rw (ne-eqb (w .code) 0 n) refl
+handed-on mode (suc left) s w n = rw (ne-eqb (w .code) 0 n, read) refl

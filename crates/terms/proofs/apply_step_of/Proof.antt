@@ -1,0 +1,47 @@
+-- `terms::apply_step_of` meets its contract. Assumes nothing.
+use borrow.Author.Needs.{needs}
+use mathlib.Core.Path.{refl}
+use native.Mathlib.Omega.{arith}
+use borrow.Author.Tests.{eq-eqb, ne-eqb}
+use Rattle.terms.specs.Terms.{apply-step}
+use Rattle.terms.proofs.apply_step_of.Statement.{statement}
+use Rattle.terms.proofs.apply_step_of.Tie as tie
+
+add-at : tie.Need-add-at
+add-at c = search needs
+
+byte-requires : tie.Need-byte-requires
+byte-requires c κs = search needs
+
+code-of-requires : tie.Need-code-of-requires
+code-of-requires c κs = search needs
+
+stop-requires : tie.Need-stop-requires
+stop-requires c κs = search needs
+
+returns : tie.Need-returns
+unfolding apply-step
+returns c = rw (← c .before .before .before .byte .ensures .0, ← c .before .before .code-of .ensures, ne-eqb _ _ (c .before .if1 .taken)) (c .stop .ensures)
+
+add-advance : tie.Need-add-advance
+add-advance c = search needs
+
+advance-requires : tie.Need-advance-requires
+advance-requires c κs = search needs
+
+returns-2 : tie.Need-returns-2
+unfolding apply-step
+returns-2 c = rw (← c .before .before .before .byte .ensures .0, ← c .before .before .code-of .ensures, eq-eqb _ _ (c .before .if1 .left), c .advance .ensures) refl
+
+pub apply-step-of-spec : {M : Type 1} → statement M
+apply-step-of-spec =
+    tie.close
+    (tie.spec
+    add-at
+    byte-requires
+    code-of-requires
+    stop-requires
+    returns
+    add-advance
+    advance-requires
+    returns-2)

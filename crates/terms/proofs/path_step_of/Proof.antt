@@ -1,0 +1,63 @@
+-- `terms::path_step_of` meets its contract. Assumes nothing.
+use borrow.Author.Needs.{needs}
+use mathlib.Core.Path.{refl}
+use native.Mathlib.Omega.{arith}
+use borrow.Author.Tests.{eq-eqb, ne-eqb}
+use Rattle.terms.specs.Terms.{path-step}
+use Rattle.terms.proofs.path_step_of.Statement.{statement}
+use Rattle.terms.proofs.path_step_of.Tie as tie
+
+add-at : tie.Need-add-at
+add-at c = search needs
+
+path-code-requires : tie.Need-path-code-requires
+path-code-requires c κs = search needs
+
+stop-requires : tie.Need-stop-requires
+stop-requires c κs = search needs
+
+returns : tie.Need-returns
+unfolding path-step
+returns c = rw (← c .before .before .path-code .ensures, ne-eqb _ _ (c .before .if1 .taken)) (c .stop .ensures)
+
+byte-requires : tie.Need-byte-requires
+byte-requires c κs = search needs
+
+path-word-of-requires : tie.Need-path-word-of-requires
+path-word-of-requires c κs = search needs
+
+add-advance : tie.Need-add-advance
+add-advance c = search needs
+
+cast-advance : tie.Need-cast-advance
+cast-advance c = search needs
+
+add-advance-2 : tie.Need-add-advance-2
+add-advance-2 c = search needs
+
+advance-requires : tie.Need-advance-requires
+advance-requires c κs = search needs
+
+keep-path-requires : tie.Need-keep-path-requires
+keep-path-requires c κs = search needs
+
+returns-2 : tie.Need-returns-2
+unfolding path-step
+returns-2 c = rw (← c .before .before .before .before .before .path-code .ensures, eq-eqb _ _ (c .before .before .before .before .if1 .left), ← c .before .before .before .byte .ensures .0, ← c .before .before .path-word-of .ensures, ← c .before .advance .ensures, c .keep-path .ensures) refl
+
+pub path-step-of-spec : {M : Type 1} → statement M
+path-step-of-spec =
+    tie.close
+    (tie.spec
+    add-at
+    path-code-requires
+    stop-requires
+    returns
+    byte-requires
+    path-word-of-requires
+    add-advance
+    cast-advance
+    add-advance-2
+    advance-requires
+    keep-path-requires
+    returns-2)

@@ -1,0 +1,57 @@
+-- `terms::slot` meets its contract: from the place reached on the search goes as from the start. Assumes nothing.
+use Prim.Native.Nat.{_+_, _-_, _≤_}
+use mathlib.Core.Path.{_≡_, refl}
+use native.Mathlib.Omega.{arith}
+use borrow.Author.Needs.{needs}
+use borrow.Author.Tests.{le-leb, lt-leb, eq-eqb, ne-eqb}
+use Rattle.terms.specs.Terms.{slot-of}
+use Rattle.terms.proofs.Laws.{slot-next}
+use Rattle.terms.proofs.slot.Statement.{statement}
+use Rattle.terms.proofs.slot.Tie as tie
+
+abbrev Inv-loop : tie.InvT-loop
+Inv-loop paths word table i₀ i = (i ≤ 8) × (slot-of 8 paths table word 0 ≡ slot-of (8 - i) paths table word i)
+
+abbrev μ-loop : tie.MeasureT-loop
+μ-loop paths word table i₀ i = 8 - i
+
+loop-holds : tie.Need-loop-holds Inv-loop μ-loop
+loop-holds c = (omega arith, refl)
+
+returns : tie.Need-returns Inv-loop μ-loop
+returns c =
+    let l = c .before .before .loop in
+    (rw (l .inv .1, slot-next (8 - l .i) _ _ _ (l .i) (omega arith), le-leb _ _ (c .if1 .taken)) refl, omega arith)
+
+mul-if2 : tie.Need-mul-if2 Inv-loop μ-loop
+mul-if2 c = search needs
+
+array-read-if2 : tie.Need-array-read-if2 Inv-loop μ-loop
+array-read-if2 c = search needs
+
+returns-2 : tie.Need-returns-2 Inv-loop μ-loop
+returns-2 c =
+    let l = c .before .before .before .loop in
+    (rw (l .inv .1, slot-next (8 - l .i) _ _ _ (l .i) (omega arith), lt-leb _ _ (c .before .if1 .left), eq-eqb _ _ (c .if2 .taken)) refl, omega arith)
+
+add-i : tie.Need-add-i Inv-loop μ-loop
+add-i c = search needs
+
+loop-less : tie.Need-loop-less Inv-loop μ-loop
+loop-less c = search needs
+
+loop-again : tie.Need-loop-again Inv-loop μ-loop
+loop-again c =
+    let l = c .before .before .before .loop in
+    let e : 8 - l .i - 1 ≡ 8 - (l .i + 1) = omega arith in
+    (omega arith, rw (l .inv .1, slot-next (8 - l .i) _ _ _ (l .i) (omega arith), lt-leb _ _ (c .before .if1 .left), ne-eqb _ _ (c .if2 .left), e) refl)
+
+returns-3 : tie.Need-returns-3 Inv-loop μ-loop
+unfolding slot-of
+returns-3 c =
+    let l = c .before .loop in
+    let e : 8 - l .i ≡ 0 = omega arith in
+    (rw (l .inv .1, e) refl, omega arith)
+
+pub slot-spec : {M : Type 1} → statement M
+slot-spec = tie.close (tie.spec Inv-loop μ-loop loop-holds returns mul-if2 array-read-if2 returns-2 add-i loop-less loop-again returns-3)

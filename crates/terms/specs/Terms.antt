@@ -1,0 +1,107 @@
+-- Terms, "judged left to right: for a term 1, 12, 11, 9, then each field, missing (1) before wrong".
+use Prim.Native.Nat.{ℕ, zero, suc, _+_, max}
+use mathlib.Core.Bool.{true, false, cond}
+use mathlib.Core.List.{List}
+use lib.Dec.{leb, ltb, eqb}
+use lib.ListN.{length, getD, set, replicate}
+use Rattle.walks.specs.Keys.{table}
+use Rattle.terms.specs.declared.Step.{Step}
+use Rattle.terms.specs.declared.Walk.{Walk}
+use Rattle.terms.specs.Fields.{code-of, path-code, path-word}
+
+-- the state after a refusal
+unfoldable pub blank : ℕ → Walk
+blank code = record { code = code; at = 0; terms = 0; paths = 0; reductions = 0; table = replicate 8 0 }
+
+abbrev pub stopped : ℕ → Step
+stopped code = record { walk = blank code; follow = 0 }
+
+-- one term more, up to `next`
+unfoldable pub advanced : Walk → ℕ → Walk
+advanced w next = record { code = w .code; at = next; terms = w .terms + 1; paths = w .paths; reductions = w .reductions; table = w .table }
+
+-- the first of k places of the table, from place i on, that is free or holds the path reduction
+unfoldable pub slot-of : ℕ → ℕ → List ℕ → ℕ → ℕ → ℕ
+slot-of zero paths table word i = i
+slot-of (suc k) paths table word i = cond (leb paths i) i (cond (eqb (getD table i 0) word) i (slot-of k paths table word (i + 1)))
+
+-- the path reduction put after those met, where it is not among them: "14 | full sheet | a ninth chain"
+unfoldable pub kept-path : Walk → ℕ → Walk
+kept-path w word =
+    let i = slot-of 8 (w .paths) (w .table) word 0 in
+    cond (leb 8 i) (blank 14)
+    (record { code = w .code; at = w .at; terms = w .terms; paths = max (w .paths) (i + 1); reductions = w .reductions; table = set (w .table) i word })
+
+-- "0x10, key count 1 to 3, the keys, a 16-bit start"; "In a chain, 14 comes after 13."
+unfoldable pub path-step : List ℕ → Walk → Step
+path-step s w =
+    let at = w .at + 1 in
+    cond (eqb (path-code s at) 0) (record { walk = kept-path (advanced w (at + 3 + getD s at 256)) (path-word s at); follow = 0 }) (stopped (path-code s at))
+
+-- "0x20, reduction, a place term"; "A reduction's 14 follows its byte."
+unfoldable pub reduce-step : List ℕ → Walk → Step
+reduce-step s w =
+    let c = code-of (getD s (w .at + 1) 256) 5 in
+    let a = advanced w (w .at + 1 + 1) in
+    cond (eqb c 0)
+    (cond (leb 8 (w .reductions)) (stopped 14)
+    (record {
+      walk = record { code = a .code; at = a .at; terms = a .terms; paths = a .paths; reductions = w .reductions + 1; table = a .table };
+      follow = 1;
+    }))
+    (stopped c)
+
+-- "0x30 and a chain's index for a chain, 0x31 and an entry's index for a reduction"; "16 | no such row | an index not below its count"
+unfoldable pub index-step : List ℕ → Walk → ℕ → Step
+index-step s w count =
+    let b = getD s (w .at + 1) 256 in
+    cond (ltb 255 b) (stopped 1) (cond (leb count b) (stopped 16) (record { walk = advanced w (w .at + 1 + 1); follow = 0 }))
+
+-- "0x11 and a 32-bit literal", "0x21 and a 32-bit literal"
+unfoldable pub literal-step : List ℕ → Walk → Step
+literal-step s w = cond (ltb 255 (getD s (w .at + 4) 256)) (stopped 1) (record { walk = advanced w (w .at + 4 + 1); follow = 0 })
+
+-- "0x12, operator, two place terms", "0x22, operator, two result terms"
+unfoldable pub apply-step : List ℕ → Walk → Step
+apply-step s w =
+    let c = code-of (getD s (w .at + 1) 256) 11 in
+    cond (eqb c 0) (record { walk = advanced w (w .at + 1 + 1); follow = 2 }) (stopped c)
+
+-- the four kinds of terms: 0 place terms, 1 result terms, 2 entries of a worksheet, 3 its final expression
+unfoldable pub leaf-step : ℕ → List ℕ → Walk → Step
+leaf-step mode s w =
+    cond (eqb mode 0) (path-step s w)
+    (cond (eqb mode 1) (reduce-step s w)
+    (cond (eqb mode 2) (index-step s w (w .paths))
+    (index-step s w (w .reductions))))
+
+unfoldable pub leaf-tag : ℕ → ℕ
+leaf-tag mode = cond (eqb mode 0) 0x10 (cond (eqb mode 1) 0x20 (cond (eqb mode 2) 0x30 0x31))
+
+-- the byte of a literal; that of an operator is one more
+unfoldable pub literal-tag : ℕ → ℕ
+literal-tag mode = cond (eqb mode 0) 0x11 (cond (eqb mode 2) 0x11 0x21)
+
+-- a term without those that it contains, and how many follow: none, 1 place term, or 2 terms of the same kind
+unfoldable pub term-step : ℕ → ℕ → List ℕ → Walk → Step
+term-step mode left s w =
+    let tag = getD s (w .at) 0 in
+    cond (leb (length s) (w .at)) (stopped 1)
+    (cond (leb 64 (w .terms)) (stopped 12)
+    (cond (eqb left 0) (stopped 11)
+    (cond (eqb tag (leaf-tag mode)) (leaf-step mode s w)
+    (cond (eqb tag (literal-tag mode)) (literal-step s w)
+    (cond (eqb tag (literal-tag mode + 1)) (apply-step s w) (stopped 9))))))
+
+-- a term and all that it contains, with so many levels of depth left; a refusal is handed on
+unfoldable pub read : ℕ → ℕ → List ℕ → Walk → Walk
+read mode zero s w = cond (eqb (w .code) 0) (term-step mode zero s w .walk) w
+read mode (suc left) s w =
+    let h = term-step mode (suc left) s w in
+    elim (eqb (w .code) 0) [
+      | true ↦ elim (eqb (h .follow) 0) [
+        | true ↦ h .walk
+        | false ↦ elim (eqb (h .follow) 1) [ true ↦ read 0 left s (h .walk) | false ↦ read mode left s (read mode left s (h .walk)) ]
+      ]
+      | false ↦ w
+    ]

@@ -1,0 +1,408 @@
+// The reader of terms, of questions and worksheets alike (document 01, "Layouts"): bytes judged left to right, each term by the
+// numbers 1, 12, 11, 9 and then its fields. The result is how far the reading has come, or one blank state with the refusal.
+ghost use mathlib.Core.Path.{_≡_};
+ghost use Prim.Native.Nat.{ℕ, _+_, _*_, _≤_, _<_, max};
+ghost use lib.ListN.{length, getD};
+ghost use Rattle.terms.specs.Terms.{blank, stopped, slot-of, kept-path, advanced, path-step, reduce-step, index-step, leaf-step, literal-step, apply-step, leaf-tag, literal-tag, term-step, read};
+ghost use Rattle.terms.specs.Fields.{code-of, key-code, keys-code, source-code, path-code, path-word, used};
+
+// How far a reading has come. `code` is 0, or the number of the refusal; `paths` and `reductions` count what has been met, or, in a
+// worksheet, what there is; `table` holds the different path reductions, each as its six worksheet bytes in one number.
+pub struct Walk {
+    pub code: u8,
+    pub at: usize,
+    pub terms: usize,
+    pub paths: usize,
+    pub reductions: usize,
+    pub table: [u64; 8],
+}
+
+// A term read without those that it contains, and how many follow.
+pub struct Step {
+    pub walk: Walk,
+    pub follow: u8,
+}
+
+pub const PLACE: u8 = 0;
+
+pub const RESULT: u8 = 1;
+
+pub const ENTRY: u8 = 2;
+
+pub const FINAL: u8 = 3;
+
+// The byte at i, or 256 past the end.
+fn byte(s: &[u8], i: usize) -> u16
+    ensures { λ r. ⌜ (r ≡ getD (now (s .entry)) i 256) × (r ≤ 256) ⌝ }
+{
+    if i < s.len() { s[i] as u16 } else { 256 }
+}
+
+// A byte from 1 to `most`: 1 missing, 9 another.
+fn code_of(b: u16, most: u16) -> u8
+    ensures { λ r. ⌜ r ≡ code-of b most ⌝ }
+{
+    if 255 < b {
+        return 1;
+    }
+    if b == 0 {
+        return 9;
+    }
+    if most < b {
+        return 9;
+    }
+    0
+}
+
+// A key: 1 missing, 9 no such key, 10 where it may stand last only and does not.
+fn key_code(b: u16, last: bool) -> u8
+    ensures { λ r. ⌜ r ≡ key-code b last ⌝ }
+{
+    if 255 < b {
+        return 1;
+    }
+    let key = b as u8;
+    if walks::known_key(key) {
+        if last {
+            return 0;
+        }
+        let row = walks::key_row(key);
+        if row.early {
+            return 0;
+        }
+        return 10;
+    }
+    9
+}
+
+// The first refusal of n keys from `at` on, or 0.
+fn keys_code(s: &[u8], at: usize, n: usize) -> u8
+    requires { ⌜ at + n ≤ length (now s) + 300 ⌝ }
+    ensures { λ r. ⌜ r ≡ keys-code n (now (s .entry)) at ⌝ }
+{
+    let mut i = at;
+    let mut left = n;
+    while 0 < left {
+        let c = key_code(byte(s, i), left == 1);
+        if c != 0 {
+            return c;
+        }
+        i += 1;
+        left -= 1;
+    }
+    0
+}
+
+// A start: 1 missing, 13 for 256 to 65,534.
+fn source_code(low: u16, high: u16) -> u8
+    requires { ⌜ (low ≤ 256) × (high ≤ 256) ⌝ }
+    ensures { λ r. ⌜ r ≡ source-code low high ⌝ }
+{
+    if 255 < high {
+        return 1;
+    }
+    let v = (low as u32) + 256 * (high as u32);
+    if v < 256 {
+        return 0;
+    }
+    if v == 65535 {
+        return 0;
+    }
+    13
+}
+
+// The first refusal of a path reduction whose key count stands at `at`, or 0.
+fn path_code(s: &[u8], at: usize) -> u8
+    requires { ⌜ at ≤ length (now s) ⌝ }
+    ensures { λ r. ⌜ r ≡ path-code (now (s .entry)) at ⌝ }
+{
+    let n = byte(s, at);
+    let c = code_of(n, 3);
+    if c != 0 {
+        return c;
+    }
+    let k = keys_code(s, at + 1, n as usize);
+    if k != 0 {
+        return k;
+    }
+    let i = at + 1 + (n as usize);
+    source_code(byte(s, i), byte(s, i + 1))
+}
+
+fn wide(b: u16) -> u64
+    ensures { λ r. ⌜ (r ≡ b) × (r ≤ 65535) ⌝ }
+{
+    b as u64
+}
+
+fn used_of(n: u16, j: u16, b: u16) -> u64
+    ensures { λ r. ⌜ (r ≡ used n j b) × (r ≤ 65535) ⌝ }
+{
+    if j < n { wide(b) } else { 0 }
+}
+
+// The path reduction whose key count stands at `at`, as one number: its six bytes in a worksheet.
+fn path_word_of(s: &[u8], at: usize) -> u64
+    requires { ⌜ at ≤ length (now s) ⌝ }
+    ensures { λ r. ⌜ r ≡ path-word (now (s .entry)) at ⌝ }
+{
+    let n = byte(s, at);
+    let i = at + 1 + (n as usize);
+    let first = wide(n) + 256 * wide(byte(s, at + 1));
+    let later = 65536 * used_of(n, 1, byte(s, at + 2)) + 16777216 * used_of(n, 2, byte(s, at + 3));
+    let source = wide(byte(s, i)) + 256 * wide(byte(s, i + 1));
+    first + later + 4294967296 * source
+}
+
+// The first of the eight places of the table that is free or holds the path reduction; 8 where there is none.
+fn slot(table: [u64; 8], paths: usize, word: u64) -> usize
+    ensures { λ r. ⌜ (r ≡ slot-of 8 paths table word 0) × (r ≤ 8) ⌝ }
+{
+    let mut i: usize = 0;
+    while i < 8 {
+        if paths <= i {
+            return i;
+        }
+        if table[i] == word {
+            return i;
+        }
+        i += 1;
+    }
+    i
+}
+
+fn blank_of(code: u8) -> Walk
+    ensures { λ r. ⌜ r ≡ blank code ⌝ }
+{
+    let table = [0u64; 8];
+    Walk {
+        code,
+        at: 0,
+        terms: 0,
+        paths: 0,
+        reductions: 0,
+        table,
+    }
+}
+
+// No term, for the reason that the number gives.
+fn stop(code: u8) -> Step
+    ensures { λ r. ⌜ r ≡ stopped code ⌝ }
+{
+    Step {
+        walk: blank_of(code),
+        follow: 0,
+    }
+}
+
+// One term more, up to `next`.
+fn advance(w: Walk, next: usize) -> Walk
+    requires { ⌜ w .terms < 64 ⌝ }
+    ensures { λ r. ⌜ r ≡ advanced w next ⌝ }
+{
+    let mut r = w;
+    r.at = next;
+    r.terms = w.terms + 1;
+    r
+}
+
+fn greater(a: usize, b: usize) -> usize
+    ensures { λ r. ⌜ r ≡ max a b ⌝ }
+{
+    if a <= b { b } else { a }
+}
+
+// The path reduction put into the table: 14 where it is a ninth.
+fn keep_path(w: Walk, word: u64) -> Walk
+    ensures { λ r. ⌜ r ≡ kept-path w word ⌝ }
+{
+    let table = w.table;
+    let i = slot(table, w.paths, word);
+    if 8 <= i {
+        return blank_of(14);
+    }
+    let mut r = w;
+    r.table[i] = word;
+    r.paths = greater(w.paths, i + 1);
+    r
+}
+
+fn path_step_of(s: &[u8], w: Walk) -> Step
+    requires { ⌜ (w .at < length (now s)) × (w .terms < 64) ⌝ }
+    ensures { λ r. ⌜ r ≡ path-step (now (s .entry)) w ⌝ }
+{
+    let at = w.at + 1;
+    let c = path_code(s, at);
+    if c != 0 {
+        return stop(c);
+    }
+    let n = byte(s, at);
+    let word = path_word_of(s, at);
+    Step {
+        walk: keep_path(advance(w, at + 3 + (n as usize)), word),
+        follow: 0,
+    }
+}
+
+fn reduce_step_of(s: &[u8], w: Walk) -> Step
+    requires { ⌜ (w .at < length (now s)) × (w .terms < 64) ⌝ }
+    ensures { λ r. ⌜ r ≡ reduce-step (now (s .entry)) w ⌝ }
+{
+    let at = w.at + 1;
+    let c = code_of(byte(s, at), 5);
+    if c != 0 {
+        return stop(c);
+    }
+    let n = w.reductions;
+    if 8 <= n {
+        return stop(14);
+    }
+    let mut next = advance(w, at + 1);
+    next.reductions = n + 1;
+    Step {
+        walk: next,
+        follow: 1,
+    }
+}
+
+fn index_step_of(s: &[u8], w: Walk, count: usize) -> Step
+    requires { ⌜ (w .at < length (now s)) × (w .terms < 64) ⌝ }
+    ensures { λ r. ⌜ r ≡ index-step (now (s .entry)) w count ⌝ }
+{
+    let at = w.at + 1;
+    let b = byte(s, at);
+    if 255 < b {
+        return stop(1);
+    }
+    if count <= (b as usize) {
+        return stop(16);
+    }
+    Step {
+        walk: advance(w, at + 1),
+        follow: 0,
+    }
+}
+
+fn literal_step_of(s: &[u8], w: Walk) -> Step
+    requires { ⌜ (w .at < length (now s)) × (w .terms < 64) ⌝ }
+    ensures { λ r. ⌜ r ≡ literal-step (now (s .entry)) w ⌝ }
+{
+    let last = w.at + 4;
+    if 255 < byte(s, last) {
+        return stop(1);
+    }
+    Step {
+        walk: advance(w, last + 1),
+        follow: 0,
+    }
+}
+
+fn apply_step_of(s: &[u8], w: Walk) -> Step
+    requires { ⌜ (w .at < length (now s)) × (w .terms < 64) ⌝ }
+    ensures { λ r. ⌜ r ≡ apply-step (now (s .entry)) w ⌝ }
+{
+    let at = w.at + 1;
+    let c = code_of(byte(s, at), 11);
+    if c != 0 {
+        return stop(c);
+    }
+    Step {
+        walk: advance(w, at + 1),
+        follow: 2,
+    }
+}
+
+fn leaf_step_of(s: &[u8], w: Walk, mode: u8) -> Step
+    requires { ⌜ (w .at < length (now s)) × (w .terms < 64) ⌝ }
+    ensures { λ r. ⌜ r ≡ leaf-step mode (now (s .entry)) w ⌝ }
+{
+    if mode == PLACE {
+        return path_step_of(s, w);
+    }
+    if mode == RESULT {
+        return reduce_step_of(s, w);
+    }
+    if mode == ENTRY {
+        return index_step_of(s, w, w.paths);
+    }
+    index_step_of(s, w, w.reductions)
+}
+
+fn leaf_tag_of(mode: u8) -> u8
+    ensures { λ r. ⌜ r ≡ leaf-tag mode ⌝ }
+{
+    if mode == PLACE {
+        return 0x10;
+    }
+    if mode == RESULT {
+        return 0x20;
+    }
+    if mode == ENTRY {
+        return 0x30;
+    }
+    0x31
+}
+
+// Place terms and entries share the bytes of literals and operators, result terms and final expressions theirs.
+fn literal_tag_of(mode: u8) -> u8
+    ensures { λ r. ⌜ (r ≡ literal-tag mode) × (r ≤ 33) ⌝ }
+{
+    if mode == PLACE {
+        return 0x11;
+    }
+    if mode == ENTRY {
+        return 0x11;
+    }
+    0x21
+}
+
+// A term without those that it contains: "for a term 1, 12, 11, 9, then each field".
+fn term_step_of(s: &[u8], w: Walk, mode: u8, left: usize) -> Step
+    ensures { λ r. ⌜ r ≡ term-step mode left (now (s .entry)) w ⌝ }
+{
+    let at = w.at;
+    if s.len() <= at {
+        return stop(1);
+    }
+    if 64 <= w.terms {
+        return stop(12);
+    }
+    if left == 0 {
+        return stop(11);
+    }
+    let tag = s[at];
+    if tag == leaf_tag_of(mode) {
+        return leaf_step_of(s, w, mode);
+    }
+    let literal = literal_tag_of(mode);
+    if tag == literal {
+        return literal_step_of(s, w);
+    }
+    if tag == literal + 1 {
+        return apply_step_of(s, w);
+    }
+    stop(9)
+}
+
+// A term and all that it contains, from w on, with `left` levels of depth left. A refusal is handed on.
+pub fn read_term(s: &[u8], w: Walk, mode: u8, left: usize) -> Walk
+    ensures { λ r. ⌜ r ≡ read mode left (now (s .entry)) w ⌝ }
+{
+    if w.code != 0 {
+        return w;
+    }
+    let step = term_step_of(s, w, mode, left);
+    let walk = step.walk;
+    if left == 0 {
+        return walk;
+    }
+    let follow = step.follow;
+    if follow == 0 {
+        return walk;
+    }
+    if follow == 1 {
+        return read_term(s, walk, PLACE, left - 1);
+    }
+    let first = read_term(s, walk, mode, left - 1);
+    read_term(s, first, mode, left - 1)
+}

@@ -1,0 +1,65 @@
+-- What is judged of a typed form by its fields is what is judged of its bytes; and the writer's three ways out. Assumes nothing.
+use Prim.Native.Nat.{ℕ, _+_, _*_, _≤_, _<_}
+use mathlib.Core.Path.{_≡_, sym, ap, _∙_}
+use mathlib.Core.List.{List, _++_}
+use native.Mathlib.Omega.{arith}
+use borrow.Author.Tests.{lt-ltb, le-ltb, eq-eqb, ne-eqb}
+use lib.ListN.{length, drop, length-append}
+use Rattle.wire.specs.Wire.{done, refused}
+use Rattle.graph.specs.declared.EdgeTable.{EdgeTable}
+use Rattle.graph.specs.Encode.{edges-bytes, encode, head-bytes, table-bytes, table-graph, write-reply}
+use Rattle.graph.specs.Graph.{counts-code, graph-code}
+use Rattle.graph.specs.Steps.{table-code, with-edges}
+use Rattle.graph.proofs.Accepted.{counts}
+use Rattle.graph.proofs.Bytes.{edges-length}
+use Rattle.graph.proofs.Exact.{judged-bytes}
+use Rattle.graph.proofs.Fits.{TableFits}
+use Rattle.graph.proofs.Rows.{first-zero}
+use Rattle.graph.proofs.Table.{table-count, table-there}
+use Rattle.graph.proofs.Written.{with-all}
+
+module _ (t : EdgeTable) (f : TableFits t) where
+  edges-few : t .count ≤ 1024 → t .count ≡ length (table-graph t .edges)
+  edges-few h = omega (arith, table-count (t .count) (t .rows), f .room)
+
+  pub judged : graph-code (table-bytes t) ≡ table-code t
+  unfolding table-bytes table-code
+  judged =
+      judged-bytes (t .vertices) (t .count) (table-graph t .edges) (f .vertices) (f .count) edges-few
+      (λ i h. rw (table-there (t .count) (t .rows) i (omega (arith, table-count (t .count) (t .rows)))) (f .rows i (omega (arith, table-count (t .count) (t .rows)))))
+
+  pub table-few : table-code t ≡ 0 → t .count ≤ 1024
+  unfolding table-code
+  table-few z = counts (t .vertices) (t .count) (first-zero (counts-code (t .vertices) (t .count)) _ z .0) .few-edges
+
+  -- what is written is the encoding of the graph that the typed form means
+  pub write-encodes : graph-code (table-bytes t) ≡ 0 → table-bytes t ≡ encode (table-graph t)
+  unfolding table-bytes
+  write-encodes z =
+      ap (λ (m : ℕ). head-bytes (t .vertices) m ++ edges-bytes (table-graph t .edges)) (edges-few (table-few (sym judged ∙ z)))
+
+  pub write-refused : (room k : ℕ) → k ≡ table-code t → (k ≡ 0 → ⊥) → write-reply t room ≡ refused k
+  unfolding write-reply
+  write-refused room k e h = rw (judged, ← e, ne-eqb k 0 h)
+
+  pub table-size : t .count ≤ 1024 → length (table-bytes t) ≡ 9 + 8 * t .count
+  unfolding table-bytes
+  table-size h =
+      length-append (head-bytes (t .vertices) (t .count)) (edges-bytes (table-graph t .edges))
+      ∙ omega (arith, edges-length (table-graph t .edges), edges-few h)
+
+  pub write-short : (room : ℕ) → table-code t ≡ 0 → room < 9 + 8 * t .count → write-reply t room ≡ refused 15
+  unfolding write-reply
+  write-short room z h = rw (judged, eq-eqb _ _ z, table-size (table-few z), lt-ltb _ _ h)
+
+  pub write-done : (room : ℕ) → table-code t ≡ 0 → 9 + 8 * t .count ≤ room → write-reply t room ≡ done (table-bytes t)
+  unfolding write-reply
+  write-done room z h = rw (judged, eq-eqb _ _ z, table-size (table-few z), le-ltb _ _ h)
+
+  -- the rows laid behind the header are the bytes
+  pub table-laid : (out : List ℕ) → table-code t ≡ 0 →
+      with-edges (head-bytes (t .vertices) (t .count) ++ drop 9 out) (table-graph t .edges) (t .count) ≡ table-bytes t ++ drop (length (table-bytes t)) out
+  unfolding table-bytes
+  table-laid out z =
+      with-all (t .vertices) (t .count) (table-graph t .edges) out (sym (edges-few (table-few z)))
+      ∙ ap (λ (k : ℕ). table-bytes t ++ drop k out) (sym (table-size (table-few z)))

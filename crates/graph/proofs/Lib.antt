@@ -1,0 +1,8 @@
+pub mod Rows
+pub mod Accepted
+pub mod Bytes
+pub mod Table
+pub mod Fits
+pub mod Exact
+pub mod Written
+pub mod Judged

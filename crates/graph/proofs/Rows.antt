@@ -1,0 +1,88 @@
+-- Laws of the reading as its loops go: one row more is judged, one row more is stored. Assumes nothing.
+use Prim.Native.Nat.{ℕ, zero, suc, _+_, _-_, _≤_, _<_}
+use mathlib.Core.Path.{_≡_, refl, sym, ap, _∙_}
+use mathlib.Core.Bool.{Bool, true, false, cond}
+use mathlib.Core.List.{List, [], _∷_, _++_, map}
+use native.Mathlib.Numerals.{add-one}
+use native.Mathlib.Omega.{arith}
+use native.Mathlib.Nat.{add-zero, add-suc, suc-add, zero-add}
+use borrow.Author.Tests.{eqb-true, eqb-false, eq-eqb, ne-eqb}
+use lib.Dec.{eqb}
+use lib.ListN.{length, drop, set, replicate, length-append, length-map, drop-of-length-le}
+use lib.Seq.{drop-cons, append-snoc, set-at}
+use Rattle.meaning.specs.Run.{tabulate}
+use Rattle.meaning.proofs.Lists.{map-append, tabulate-at, tabulate-length}
+use Rattle.walks.specs.Walks.{Edge, edge, edge-at}
+use Rattle.wire.specs.Wire.{at16}
+use Rattle.graph.specs.Graph.{blank-row, edge-code, edge-in, edges-code, edges-in, filled, first, row-of}
+
+-- ---- the first of two refusals
+
+pub first-none : (k x : ℕ) → k ≡ 0 → first k x ≡ x
+first-none k x e = rw (eq-eqb k 0 e)
+
+pub first-some : (k x : ℕ) → (k ≡ 0 → ⊥) → first k x ≡ k
+first-some k x h = rw (ne-eqb k 0 h)
+
+pub first-zero : (k x : ℕ) → first k x ≡ 0 → (k ≡ 0) × (x ≡ 0)
+first-zero k x e = go (eqb k 0) refl e
+  where
+    go : (b : Bool) → eqb k 0 ≡ b → cond b x k ≡ 0 → (k ≡ 0) × (x ≡ 0)
+    go true t z = (eqb-true k 0 t, z)
+    go false t z = absurd (eqb-false k 0 t z)
+
+pub first-same : (k x y : ℕ) → (k ≡ 0 → x ≡ y) → first k x ≡ first k y
+first-same k x y h = go (eqb k 0) refl
+  where
+    go : (b : Bool) → eqb k 0 ≡ b → _≡_ {A = ℕ} (cond b x k) (cond b y k)
+    go true t = h (eqb-true k 0 t)
+    go false t = refl
+
+-- ---- rows judged in turn: those before row i were right
+
+module _ (n : ℕ) (es : List Edge) (i : ℕ) (right : edges-code n (drop i es) ≡ edges-code n es) where
+  next : i < length es → edges-code n es ≡ first (edge-code n (edge-at es i)) (edges-code n (drop (i + 1) es))
+  unfolding edges-code
+  next h = sym right ∙ rw (add-one i, drop-cons es i (edge 0 0 0 0) h)
+
+  pub row-refused : i < length es → (k : ℕ) → k ≡ edge-code n (edge-at es i) → (k ≡ 0 → ⊥) → k ≡ edges-code n es
+  row-refused h k e z = sym (next h ∙ rw (← e) (first-some k _ z))
+
+  pub row-passed : i < length es → (k : ℕ) → k ≡ edge-code n (edge-at es i) → k ≡ 0 → edges-code n (drop (i + 1) es) ≡ edges-code n es
+  row-passed h k e z = sym (next h ∙ rw (← e) (first-none k _ z))
+
+  pub rows-passed : length es ≤ i → 0 ≡ edges-code n es
+  unfolding edges-code
+  rows-passed h = rw (drop-of-length-le es h) at right
+
+-- ---- the rows of some bytes
+
+pub edges-count : (s : List ℕ) → length (edges-in s) ≡ at16 s 7
+unfolding edges-in
+edges-count s = tabulate-length (at16 s 7) zero (edge-in s)
+
+pub edge-there : (s : List ℕ) (i : ℕ) → i < at16 s 7 → edge-at (edges-in s) i ≡ edge-in s i
+unfolding edges-in
+edge-there s i h = tabulate-at (at16 s 7) i (edge-in s) (edge 0 0 0 0) h
+
+-- ---- rows stored in turn
+
+tabulate-more : (n i : ℕ) (f : ℕ → Edge) → tabulate (suc n) i f ≡ tabulate n i f ++ (f (i + n) ∷ [])
+tabulate-more zero i f = ap (λ (j : ℕ). f j ∷ []) (sym (add-zero i))
+tabulate-more (suc n) i f =
+    ap (λ (l : List Edge). f i ∷ l) (tabulate-more n (suc i) f ∙ ap (λ (j : ℕ). tabulate n (suc i) f ++ (f j ∷ [])) (suc-add i n ∙ sym (add-suc i n)))
+
+stored : (es : List Edge) (e : Edge) → length es < 1024 → set (filled es) (length es) (row-of e) ≡ filled (es ++ (e ∷ []))
+unfolding filled
+stored es e h =
+    let rest : ℕ = 1024 - (length es + 1) in
+    let more : 1024 - length es ≡ suc rest = omega arith in
+    rw (more, map-append, length-append)
+    (set-at (map row-of es) blank-row (replicate rest blank-row) (row-of e) (length es) (length-map es row-of)
+    ∙ sym (append-snoc (map row-of es) (row-of e) (replicate rest blank-row)))
+
+pub filled-more : (f : ℕ → Edge) (n : ℕ) → n < 1024 → set (filled (tabulate n zero f)) n (row-of (f n)) ≡ filled (tabulate (n + 1) zero f)
+filled-more f n h =
+    let k : length (tabulate n zero f) ≡ n = tabulate-length n zero f in
+    let more : tabulate (n + 1) zero f ≡ tabulate n zero f ++ (f n ∷ []) = rw (add-one n) (tabulate-more n zero f ∙ rw (zero-add n)) in
+    rw more (ap (λ (j : ℕ). set (filled (tabulate n zero f)) j (row-of (f n))) (sym k) ∙ stored (tabulate n zero f) (f n) (omega arith))

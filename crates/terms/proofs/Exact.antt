@@ -1,21 +1,22 @@
 -- The four kinds of terms: place terms, result terms, entries and final expressions of a plan. Each is read exactly. Assumes nothing.
-use Prim.Native.Nat.{ℕ, zero, suc, _+_, _<_}
+use Prim.Native.Nat.{ℕ, zero, suc, _+_, _≤_, _<_}
 use mathlib.Core.Path.{_≡_, refl, sym, ap, ap₂, _∙_, subst}
 use mathlib.Core.Bool.{Bool, true, false}
 use mathlib.Core.List.{List, [], _∷_, _++_, append-assoc, append-nil}
 use native.Mathlib.Omega.{arith}
-use borrow.Author.Tests.{leb-false, eqb-true, eqb-false, lt-leb}
-use lib.Dec.{leb, eqb}
+use borrow.Author.Tests.{ltb-false, leb-false, eqb-true, eqb-false, le-ltb, lt-leb, eq-eqb}
+use lib.Dec.{leb, ltb, eqb}
 use lib.ListN.{length, getD, drop, length-append}
 use Rattle.meaning.specs.Limits.{EveryBody, PathFits, depth, terms, unit}
 use Rattle.meaning.specs.Plan.{put-all}
-use Rattle.meaning.specs.Query.{PathReduction, ResultTerm, VertexReduction, VertexTerm, apply, bodies, leaf, leaves, literal}
+use Rattle.meaning.specs.Query.{PathReduction, ResultTerm, Term, VertexReduction, VertexTerm, apply, bodies, leaf, leaves, literal}
 use Rattle.value.specs.Steps.{step}
 use Rattle.value.specs.Value.{number}
+use Rattle.walks.specs.Keys.{kept}
 use Rattle.wire.specs.Wire.{Bytes, le16}
 use Rattle.terms.specs.declared.Walk.{Walk}
 use Rattle.terms.specs.Fields.{code-of, path-code}
-use Rattle.terms.specs.Terms.{advanced, blank, kept-path, leaf-step, leaf-tag, literal-tag, path-step, read, reduce-step, stopped, term-step}
+use Rattle.terms.specs.Terms.{advanced, blank, index-step, kept-path, leaf-step, leaf-tag, literal-tag, path-step, read, reduce-step, stopped, term-step}
 use Rattle.terms.specs.Text.{path-bytes, path-number, place-bytes}
 use Rattle.terms.proofs.Laws.{getD-any}
 use Rattle.terms.proofs.Paths.{code-range, code-zero, drop-at, nth, path-accepted, path-count, path-found, path-numbered, present}
@@ -41,7 +42,7 @@ place-count (apply o t u) = omega (arith, place-count t, place-count u)
 abbrev Always : Walk → Type 0
 Always w = Unit {0}
 
-module _ (s : List ℕ) (bytes : Bytes s) where
+module _ (s : List ℕ) where
   path-walk : (d : ℕ) (w : Walk) → w .code ≡ 0 → w .at < length s → w .terms < 64 → getD s (w .at) 0 ≡ 0x10
       → read 0 (suc d) s w ≡ path-step s w .walk
   unfolding leaf-tag leaf-step path-step
@@ -76,9 +77,9 @@ module _ (s : List ℕ) (bytes : Bytes s) where
         table = p .table;
       })
 
-  path-sound : LeafSound place-leaves s 0 Always
+  path-sound : Bytes s → LeafSound place-leaves s 0 Always
   unfolding path-step advanced leaf-tag blank
-  path-sound d w cs z t r h k tag e = go (eqb (path-code s (w .at + 1)) 0) refl (path-walk d w z h k tag)
+  path-sound bytes d w cs z t r h k tag e = go (eqb (path-code s (w .at + 1)) 0) refl (path-walk d w z h k tag)
     where
       go : (b : Bool) → eqb (path-code s (w .at + 1)) 0 ≡ b → read 0 (suc d) s w ≡ path-step s w .walk
           → (c : PathReduction) × (rest : List ℕ) × (drop (w .at) s ≡ (0x10 ∷ path-bytes c) ++ rest) × Room place-leaves (suc d) w cs (leaf c)
@@ -103,11 +104,11 @@ module _ (s : List ℕ) (bytes : Bytes s) where
   -- PLACE TERMS ARE READ EXACTLY
   pub place-complete : (t : VertexTerm) → Complete place-leaves s 0 Always t
   unfolding literal-tag leaf-tag
-  place-complete = term-complete place-leaves s bytes 0 Always (λ w n r. tt) (λ w w′ cs t r b a. tt) refl refl path-complete
+  place-complete = term-complete place-leaves s 0 Always (λ w n r. tt) (λ w w′ cs t r b a. tt) refl refl path-complete
 
-  pub place-sound : (d : ℕ) → Sound place-leaves s 0 Always d
+  pub place-sound : Bytes s → (d : ℕ) → Sound place-leaves s 0 Always d
   unfolding literal-tag leaf-tag
-  place-sound = term-sound place-leaves s bytes 0 Always (λ w n r. tt) (λ w w′ cs t r b a. tt) refl refl path-complete path-sound
+  place-sound bytes = term-sound place-leaves s 0 Always (λ w n r. tt) (λ w w′ cs t r b a. tt) refl refl bytes path-complete (path-sound bytes)
 
 -- result terms: the leaves are reductions of place terms
 abbrev pub result-leaves : Leaves (VertexReduction PathReduction)
@@ -134,7 +135,7 @@ result-count (leaf e) = refl
 result-count (literal k) = refl
 result-count (apply o t u) = omega (arith, result-count t, result-count u, length-append (leaves t) (leaves u))
 
-module _ (s : List ℕ) (bytes : Bytes s) where
+module _ (s : List ℕ) where
   -- the state after a reduction's own two bytes
   unfoldable under : Walk → Walk
   under w = record { code = w .code; at = w .at + 1 + 1; terms = w .terms + 1; paths = w .paths; reductions = w .reductions + 1; table = w .table }
@@ -169,7 +170,7 @@ module _ (s : List ℕ) (bytes : Bytes s) where
       ap (λ (i : ℕ). drop i s) (let q : w .at + 1 + 1 ≡ w .at + 2 = omega arith in q) ∙ drop-on s (w .at) 2 (0x20 ∷ e .reduction ∷ []) (place-bytes (e .body) ++ rest) p refl in
       let paths = ap (put-all cs) (place-paths (e .body)) in
       let count = place-count (e .body) in
-      let a = place-complete s bytes (e .body) d (under w) cs rest z (table-under w cs t fewer) tt next
+      let a = place-complete s (e .body) d (under w) cs rest z (table-under w cs t fewer) tt next
       (record {
         fine = f .2;
         shallow = omega (arith, room .shallow);
@@ -186,9 +187,9 @@ module _ (s : List ℕ) (bytes : Bytes s) where
         table = subst (Table (read 0 d s (under w))) paths (a .table);
       })
 
-  reduce-sound : LeafSound result-leaves s 1 Always
+  reduce-sound : Bytes s → LeafSound result-leaves s 1 Always
   unfolding leaf-tag reduce-step blank under
-  reduce-sound d w cs z t r h k tag e = go (eqb (code-of (getD s (w .at + 1) 256) 5) 0) (leb 8 (w .reductions)) refl refl
+  reduce-sound bytes d w cs z t r h k tag e = go (eqb (code-of (getD s (w .at + 1) 256) 5) 0) (leb 8 (w .reductions)) refl refl
     where
       stops : (n : ℕ) → (n ≡ 0 → ⊥) → term-step 1 (suc d) s w ≡ stopped n → ⊥
       stops n f p = f (sym (ap (λ (v : Walk). v .code) (read-by s 1 d w z (stopped n) p)) ∙ e)
@@ -224,8 +225,87 @@ module _ (s : List ℕ) (bytes : Bytes s) where
   -- RESULT TERMS ARE READ EXACTLY
   pub result-complete : (t : ResultTerm) → Complete result-leaves s 1 Always t
   unfolding literal-tag leaf-tag
-  result-complete = term-complete result-leaves s bytes 1 Always (λ w n r. tt) (λ w w′ cs t r b a. tt) refl refl reduce-complete
+  result-complete = term-complete result-leaves s 1 Always (λ w n r. tt) (λ w w′ cs t r b a. tt) refl refl reduce-complete
 
-  pub result-sound : (d : ℕ) → Sound result-leaves s 1 Always d
+  pub result-sound : Bytes s → (d : ℕ) → Sound result-leaves s 1 Always d
   unfolding literal-tag leaf-tag
-  result-sound = term-sound result-leaves s bytes 1 Always (λ w n r. tt) (λ w w′ cs t r b a. tt) refl refl reduce-complete reduce-sound
+  result-sound bytes = term-sound result-leaves s 1 Always (λ w n r. tt) (λ w w′ cs t r b a. tt) refl refl bytes reduce-complete (reduce-sound bytes)
+
+-- expressions of a plan: the leaves are indices below a count that the state holds
+abbrev pub index-leaves : ℕ → ℕ → Leaves ℕ
+index-leaves m count = record { bytes = λ i. leaf-tag m ∷ i ∷ []; size = unit; deep = unit; paths = λ i. []; count = λ i. 0; fine = λ i. i < count }
+
+module _ (m count : ℕ) where
+  pub index-paths : (t : Term ℕ) → term-paths (index-leaves m count) t ≡ []
+  index-paths (leaf c) = refl
+  index-paths (literal k) = refl
+  index-paths (apply o t u) = ap₂ _++_ (index-paths t) (index-paths u)
+
+  pub index-count : (t : Term ℕ) → term-count (index-leaves m count) t ≡ 0
+  index-count (leaf c) = refl
+  index-count (literal k) = refl
+  index-count (apply o t u) = omega (arith, index-count t, index-count u)
+
+module _ (s : List ℕ) (m count : ℕ) (few : count ≤ 256) (held : Walk → ℕ)
+    (kept : (w w′ : Walk) → w′ .paths ≡ w .paths → w′ .reductions ≡ w .reductions → held w′ ≡ held w)
+    (is-index : (w : Walk) → leaf-step m s w ≡ index-step s w (held w))
+    (literal-not-leaf : eqb (literal-tag m) (leaf-tag m) ≡ false) (apply-not-leaf : eqb (literal-tag m + 1) (leaf-tag m) ≡ false) where
+  abbrev pub Counts : Walk → Type 0
+  Counts w = held w ≡ count
+
+  counts-on : (w : Walk) (n : ℕ) → Counts w → Counts (advanced w n)
+  unfolding advanced
+  counts-on w n r = kept w (advanced w n) refl refl ∙ r
+
+  counts-past : (w w′ : Walk) (cs : List PathReduction) (t : Term ℕ) → Counts w → Table w cs → After (index-leaves m count) m w w′ cs t → Counts w′
+  counts-past w w′ cs t r b a =
+      let p = ap (λ (l : List PathReduction). length (put-all cs l)) (index-paths m count t) in
+      kept w w′ (omega (arith, a .table .count, b .count)) (omega (arith, a .reductions, index-count m count t)) ∙ r
+
+  index-is : (d : ℕ) (w : Walk) → w .at < length s → w .terms < 64 → getD s (w .at) 0 ≡ leaf-tag m → term-step m (suc d) s w ≡ index-step s w (held w)
+  index-is d w h k tag = step-is s m d w h k ∙ rw (tag, eq-eqb (leaf-tag m) (leaf-tag m) refl) (is-index w)
+
+  index-complete : (i : ℕ) → Complete (index-leaves m count) s m Counts (leaf i)
+  unfolding index-step advanced
+  index-complete i zero w cs rest z t r p room = absurd (omega (arith, room .shallow))
+  index-complete i (suc d) w cs rest z t r p room =
+      let h = there s (w .at) (leaf-tag m) (i ∷ rest) p in
+      let tag = tag-there s (w .at) (leaf-tag m) (i ∷ rest) p in
+      let b : getD s (w .at + 1) 256 ≡ i = rw (nth s (w .at) 1 (w .at + 1) 256 refl, p) refl in
+      let below : i < count = room .fine in
+      let made : index-step s w (held w) ≡ record { walk = advanced w (w .at + 1 + 1); follow = 0 } = rw (b, le-ltb 255 i (omega arith), r, lt-leb count i below) refl in
+      let walk = read-by s m d w z (record { walk = advanced w (w .at + 1 + 1); follow = 0 }) (index-is d w h (omega (arith, room .terms)) tag ∙ made) in
+      subst (λ (v : Walk). After (index-leaves m count) m w v cs (leaf i)) (sym walk)
+      (record { code = z; at = omega arith; terms = refl; reductions = omega arith; table = table-advanced w cs (w .at + 1 + 1) t })
+
+  index-sound : LeafSound (index-leaves m count) s m Counts
+  unfolding index-step blank
+  index-sound d w cs z t r h k tag e = go (ltb 255 (getD s (w .at + 1) 256)) (leb (held w) (getD s (w .at + 1) 256)) refl refl
+    where
+      stops : (n : ℕ) → (n ≡ 0 → ⊥) → term-step m (suc d) s w ≡ stopped n → ⊥
+      stops n f p = f (sym (ap (λ (v : Walk). v .code) (read-by s m d w z (stopped n) p)) ∙ e)
+
+      go : (x y : Bool) → ltb 255 (getD s (w .at + 1) 256) ≡ x → leb (held w) (getD s (w .at + 1) 256) ≡ y
+          → (i : ℕ) × (rest : List ℕ) × (drop (w .at) s ≡ (leaf-tag m ∷ i ∷ []) ++ rest) × Room (index-leaves m count) (suc d) w cs (leaf i)
+      go true y p q = absurd (stops 1 (λ n. omega arith) (index-is d w h k tag ∙ rw p refl))
+      go false true p q = absurd (stops 16 (λ n. omega arith) (index-is d w h k tag ∙ rw (p, q) refl))
+      go false false p q =
+          let here = present s (w .at + 1) (ltb-false 255 (getD s (w .at + 1) 256) p) in (
+            getD s (w .at + 1) 256,
+            drop (w .at + 1 + 1) s,
+            drop-at s (w .at) h ∙ ap₂ (λ (x : ℕ) (l : List ℕ). x ∷ l) (getD-any s (w .at) 256 0 h ∙ tag) (drop-at s (w .at + 1) here),
+            record {
+              fine = let l = leb-false (held w) (getD s (w .at + 1) 256) q in omega arith;
+              shallow = omega arith;
+              terms = omega arith;
+              paths = t .few;
+              reductions = omega (arith, t .few-reductions);
+            },
+          )
+
+  -- EXPRESSIONS ARE READ EXACTLY
+  pub expression-complete : (t : Term ℕ) → Complete (index-leaves m count) s m Counts t
+  expression-complete = term-complete (index-leaves m count) s m Counts counts-on counts-past literal-not-leaf apply-not-leaf index-complete
+
+  pub expression-sound : Bytes s → (d : ℕ) → Sound (index-leaves m count) s m Counts d
+  expression-sound bytes = term-sound (index-leaves m count) s m Counts counts-on counts-past literal-not-leaf apply-not-leaf bytes index-complete index-sound

@@ -89,7 +89,7 @@ module _ {A : Type 0} (K : Leaves A) (s : List ℕ) (m : ℕ) (Ready : Walk → 
       (d : ℕ) (w : Walk) (cs : List PathReduction) → w .code ≡ 0 → Table w cs → Ready w → w .at < length s → w .terms < 64 → getD s (w .at) 0 ≡ leaf-tag m
       → read m (suc d) s w .code ≡ 0 → (a : A) × (rest : List ℕ) × (drop (w .at) s ≡ K .bytes a ++ rest) × Room K (suc d) w cs (leaf a)
 
-module _ {A : Type 0} (K : Leaves A) (s : List ℕ) (bytes : Bytes s) (m : ℕ) (Ready : Walk → Type 0)
+module _ {A : Type 0} (K : Leaves A) (s : List ℕ) (m : ℕ) (Ready : Walk → Type 0)
     (on : (w : Walk) (n : ℕ) → Ready w → Ready (advanced w n))
     (past : (w w′ : Walk) (cs : List PathReduction) (t : Term A) → Ready w → Table w cs → After K m w w′ cs t → Ready w′)
     (literal-not-leaf : eqb (literal-tag m) (leaf-tag m) ≡ false) (apply-not-leaf : eqb (literal-tag m + 1) (leaf-tag m) ≡ false) where
@@ -177,114 +177,115 @@ module _ {A : Type 0} (K : Leaves A) (s : List ℕ) (bytes : Bytes s) (m : ℕ) 
   unfolding blank
   stops d w z k n p e = n (sym (ap (λ (v : Walk). v .code) (read-by s m d w z (stopped k) p)) ∙ e)
 
-  module _ (d : ℕ) (w : Walk) (cs : List PathReduction) (z : w .code ≡ 0) (t : Table w cs) (h : w .at < length s) (k : w .terms < 64)
-      (e : read m (suc d) s w .code ≡ 0) where
-    literal-found : getD s (w .at) 0 ≡ literal-tag m → Found K s m Ready (suc d) w cs
-    unfolding literal-step
-    literal-found tag = go (ltb 255 (getD s (w .at + 4) 256)) refl
+  module _ (bytes : Bytes s) where
+    module _ (d : ℕ) (w : Walk) (cs : List PathReduction) (z : w .code ≡ 0) (t : Table w cs) (h : w .at < length s) (k : w .terms < 64)
+        (e : read m (suc d) s w .code ≡ 0) where
+      literal-found : getD s (w .at) 0 ≡ literal-tag m → Found K s m Ready (suc d) w cs
+      unfolding literal-step
+      literal-found tag = go (ltb 255 (getD s (w .at + 4) 256)) refl
+        where
+          step : term-step m (suc d) s w ≡ literal-step s w
+          step = step-is s m d w h k ∙ rw (tag, literal-not-leaf, eq-eqb (literal-tag m) (literal-tag m) refl) refl
+
+          go : (b : Bool) → ltb 255 (getD s (w .at + 4) 256) ≡ b → Found K s m Ready (suc d) w cs
+          go true p = absurd (stops d w z 1 (λ q. omega arith) (step ∙ rw p refl) e)
+          go false p = there-is (present s (w .at + 4) (ltb-false 255 (getD s (w .at + 4) 256) p))
+            where
+              small : (i : ℕ) → w .at + i < length s → getD s (w .at + i) 256 < 256
+              small i l = rw (getD-any s (w .at + i) 256 0 l) (bytes (w .at + i))
+
+              next : (i j : ℕ) → w .at + i < length s → w .at + i + 1 ≡ w .at + j → drop (w .at + i) s ≡ getD s (w .at + i) 256 ∷ drop (w .at + j) s
+              next i j l q = drop-at s (w .at + i) l ∙ ap (λ (n : ℕ). getD s (w .at + i) 256 ∷ drop n s) q
+
+              there-is : w .at + 4 < length s → Found K s m Ready (suc d) w cs
+              there-is l =
+                  let b1 = getD s (w .at + 1) 256 in
+                  let b2 = getD s (w .at + 2) 256 in
+                  let b3 = getD s (w .at + 3) 256 in
+                  let b4 = getD s (w .at + 4) 256 in
+                  let h1 = small 1 (omega arith) in
+                  let h2 = small 2 (omega arith) in
+                  let h3 = small 3 (omega arith) in
+                  let h4 = small 4 l in (
+                    literal (b1 + 256 * b2 + 65536 * (b3 + 256 * b4)),
+                    drop (w .at + 5) s,
+                    drop-at s (w .at) h
+                        ∙ ap₂ (λ (x : ℕ) (l : List ℕ). x ∷ l) (getD-any s (w .at) 256 0 h ∙ tag)
+                        (next 1 2 (omega arith) (omega arith)
+                        ∙ ap (λ (l : List ℕ). b1 ∷ l) (next 2 3 (omega arith) (omega arith)
+                        ∙ ap (λ (l : List ℕ). b2 ∷ l) (next 3 4 (omega arith) (omega arith) ∙ ap (λ (l : List ℕ). b3 ∷ l) (next 4 5 l (omega arith))))
+                        ∙ ap (λ (l : List ℕ). l ++ drop (w .at + 5) s) (sym (four-bytes b1 b2 b3 b4 h1 h2 h3 h4))),
+                    record { fine = omega arith; shallow = omega arith; terms = omega arith; paths = t .few; reductions = omega (arith, t .few-reductions) },
+                  )
+
+      -- an operator: the first term is found, and the second after it
+      apply-found : ((t : Term A) → Complete K s m Ready t) → Sound K s m Ready d → Ready w → getD s (w .at) 0 ≡ literal-tag m + 1 → Found K s m Ready (suc d) w cs
+      unfolding apply-step advanced
+      apply-found complete ih ready tag = go (eqb (code-of (getD s (w .at + 1) 256) 11) 0) refl
+        where
+          o : ℕ
+          o = getD s (w .at + 1) 256
+
+          step : term-step m (suc d) s w ≡ apply-step s w
+          step =
+              step-is s m d w h k
+              ∙ rw (tag, apply-not-leaf, ne-eqb (literal-tag m + 1) (literal-tag m) (λ p. omega arith), eq-eqb (literal-tag m + 1) (literal-tag m + 1) refl) refl
+
+          w1 : Walk
+          w1 = advanced w (w .at + 1 + 1)
+
+          both : (lo : 1 ≤ getD s (w .at + 1) 256) (hi : getD s (w .at + 1) 256 ≤ 11) (l : w .at + 1 < length s) (r : read m (suc d) s w ≡ read m d s (read m d s (advanced w (w .at + 1 + 1))))
+              (f : Found K s m Ready d (advanced w (w .at + 1 + 1)) cs) → Found K s m Ready (suc d) w cs
+          both lo hi l r f =
+              let a = complete (f .0) d (advanced w (w .at + 1 + 1)) cs (f .1) z (table-advanced w cs (w .at + 1 + 1) t) (on w (w .at + 1 + 1) ready) (f .2) (f .3) in
+              let w2 = read m d s (advanced w (w .at + 1 + 1)) in
+              let g = ih w2 (put-all cs (term-paths K (f .0))) (a .code) (a .table)
+              (past (advanced w (w .at + 1 + 1)) w2 cs (f .0) (on w (w .at + 1 + 1) ready) (table-advanced w cs (w .at + 1 + 1) t) a) (sym (ap (λ (v : Walk). v .code) r) ∙ e) in
+              let grow = put-all-append cs (term-paths K (f .0)) (term-paths K (g .0)) in
+              let rest : f .1 ≡ text (g .0) ++ g .1 =
+              sym (ap (λ (i : ℕ). drop i s) (a .at) ∙ drop-on s (w .at + 1 + 1) (length (text (f .0))) (text (f .0)) (f .1) (f .2) refl) ∙ g .2 in
+              let x = f .3 in
+              let y = g .3 in (
+                apply (getD s (w .at + 1) 256) (f .0) (g .0),
+                g .1,
+                drop-at s (w .at) h
+                    ∙ ap₂ (λ (x : ℕ) (l : List ℕ). x ∷ l) (getD-any s (w .at) 256 0 h ∙ tag)
+                    (drop-at s (w .at + 1) l
+                    ∙ ap (λ (l : List ℕ). getD s (w .at + 1) 256 ∷ l) (f .2 ∙ ap (λ (l : List ℕ). text (f .0) ++ l) rest ∙ sym (append-assoc (text (f .0)) (text (g .0)) (g .1)))),
+                record {
+                  fine = (lo, hi, x .fine, y .fine);
+                  shallow = omega (arith, x .shallow, y .shallow);
+                  terms = omega (arith, y .terms, a .terms);
+                  paths = omega (arith, y .paths, ap length grow);
+                  reductions = omega (arith, y .reductions, a .reductions);
+                },
+              )
+
+          go : (b : Bool) → eqb (code-of (getD s (w .at + 1) 256) 11) 0 ≡ b → Found K s m Ready (suc d) w cs
+          go false p = absurd (stops d w z (code-of (getD s (w .at + 1) 256) 11) (eqb-false (code-of (getD s (w .at + 1) 256) 11) 0 p) (step ∙ rw p refl) e)
+          go true p =
+              let c = code-range (getD s (w .at + 1) 256) 11 (eqb-true (code-of (getD s (w .at + 1) 256) 11) 0 p) in
+              let r = read-by s m d w z (record { walk = advanced w (w .at + 1 + 1); follow = 2 }) (step ∙ rw p refl) in
+              both (c .1) (c .2) (present s (w .at + 1) (c .0)) r
+              (ih (advanced w (w .at + 1 + 1)) cs z (table-advanced w cs (w .at + 1 + 1) t) (on w (w .at + 1 + 1) ready) (first-read (read m d s (advanced w (w .at + 1 + 1))) (sym (ap (λ (v : Walk). v .code) r) ∙ e)))
+            where
+              first-read : (v : Walk) → read m d s v .code ≡ 0 → v .code ≡ 0
+              first-read v q = pick (eqb (v .code) 0) refl
+                where
+                  pick : (b : Bool) → eqb (v .code) 0 ≡ b → v .code ≡ 0
+                  pick true x = eqb-true (v .code) 0 x
+                  pick false x = sym (ap (λ (u : Walk). u .code) (handed-on m d s v (eqb-false (v .code) 0 x))) ∙ q
+
+    -- WHAT IS READ IS A LEGAL TERM
+    pub term-sound : ((a : A) → Complete K s m Ready (leaf a)) → LeafSound K s m Ready → (d : ℕ) → Sound K s m Ready d
+    term-sound f g zero w cs z t r e = absurd (read-flat s m w z e)
+    term-sound f g (suc d) w cs z t r e =
+        let b = read-starts s m d w z e in
+        go (term-sound f g d) (b .0) (b .1) (eqb (getD s (w .at) 0) (leaf-tag m)) (eqb (getD s (w .at) 0) (literal-tag m)) (eqb (getD s (w .at) 0) (literal-tag m + 1)) refl refl refl
       where
-        step : term-step m (suc d) s w ≡ literal-step s w
-        step = step-is s m d w h k ∙ rw (tag, literal-not-leaf, eq-eqb (literal-tag m) (literal-tag m) refl) refl
-
-        go : (b : Bool) → ltb 255 (getD s (w .at + 4) 256) ≡ b → Found K s m Ready (suc d) w cs
-        go true p = absurd (stops d w z 1 (λ q. omega arith) (step ∙ rw p refl) e)
-        go false p = there-is (present s (w .at + 4) (ltb-false 255 (getD s (w .at + 4) 256) p))
-          where
-            small : (i : ℕ) → w .at + i < length s → getD s (w .at + i) 256 < 256
-            small i l = rw (getD-any s (w .at + i) 256 0 l) (bytes (w .at + i))
-
-            next : (i j : ℕ) → w .at + i < length s → w .at + i + 1 ≡ w .at + j → drop (w .at + i) s ≡ getD s (w .at + i) 256 ∷ drop (w .at + j) s
-            next i j l q = drop-at s (w .at + i) l ∙ ap (λ (n : ℕ). getD s (w .at + i) 256 ∷ drop n s) q
-
-            there-is : w .at + 4 < length s → Found K s m Ready (suc d) w cs
-            there-is l =
-                let b1 = getD s (w .at + 1) 256 in
-                let b2 = getD s (w .at + 2) 256 in
-                let b3 = getD s (w .at + 3) 256 in
-                let b4 = getD s (w .at + 4) 256 in
-                let h1 = small 1 (omega arith) in
-                let h2 = small 2 (omega arith) in
-                let h3 = small 3 (omega arith) in
-                let h4 = small 4 l in (
-                  literal (b1 + 256 * b2 + 65536 * (b3 + 256 * b4)),
-                  drop (w .at + 5) s,
-                  drop-at s (w .at) h
-                      ∙ ap₂ (λ (x : ℕ) (l : List ℕ). x ∷ l) (getD-any s (w .at) 256 0 h ∙ tag)
-                      (next 1 2 (omega arith) (omega arith)
-                      ∙ ap (λ (l : List ℕ). b1 ∷ l) (next 2 3 (omega arith) (omega arith)
-                      ∙ ap (λ (l : List ℕ). b2 ∷ l) (next 3 4 (omega arith) (omega arith) ∙ ap (λ (l : List ℕ). b3 ∷ l) (next 4 5 l (omega arith))))
-                      ∙ ap (λ (l : List ℕ). l ++ drop (w .at + 5) s) (sym (four-bytes b1 b2 b3 b4 h1 h2 h3 h4))),
-                  record { fine = omega arith; shallow = omega arith; terms = omega arith; paths = t .few; reductions = omega (arith, t .few-reductions) },
-                )
-
-    -- an operator: the first term is found, and the second after it
-    apply-found : ((t : Term A) → Complete K s m Ready t) → Sound K s m Ready d → Ready w → getD s (w .at) 0 ≡ literal-tag m + 1 → Found K s m Ready (suc d) w cs
-    unfolding apply-step advanced
-    apply-found complete ih ready tag = go (eqb (code-of (getD s (w .at + 1) 256) 11) 0) refl
-      where
-        o : ℕ
-        o = getD s (w .at + 1) 256
-
-        step : term-step m (suc d) s w ≡ apply-step s w
-        step =
-            step-is s m d w h k
-            ∙ rw (tag, apply-not-leaf, ne-eqb (literal-tag m + 1) (literal-tag m) (λ p. omega arith), eq-eqb (literal-tag m + 1) (literal-tag m + 1) refl) refl
-
-        w1 : Walk
-        w1 = advanced w (w .at + 1 + 1)
-
-        both : (lo : 1 ≤ getD s (w .at + 1) 256) (hi : getD s (w .at + 1) 256 ≤ 11) (l : w .at + 1 < length s) (r : read m (suc d) s w ≡ read m d s (read m d s (advanced w (w .at + 1 + 1))))
-            (f : Found K s m Ready d (advanced w (w .at + 1 + 1)) cs) → Found K s m Ready (suc d) w cs
-        both lo hi l r f =
-            let a = complete (f .0) d (advanced w (w .at + 1 + 1)) cs (f .1) z (table-advanced w cs (w .at + 1 + 1) t) (on w (w .at + 1 + 1) ready) (f .2) (f .3) in
-            let w2 = read m d s (advanced w (w .at + 1 + 1)) in
-            let g = ih w2 (put-all cs (term-paths K (f .0))) (a .code) (a .table)
-            (past (advanced w (w .at + 1 + 1)) w2 cs (f .0) (on w (w .at + 1 + 1) ready) (table-advanced w cs (w .at + 1 + 1) t) a) (sym (ap (λ (v : Walk). v .code) r) ∙ e) in
-            let grow = put-all-append cs (term-paths K (f .0)) (term-paths K (g .0)) in
-            let rest : f .1 ≡ text (g .0) ++ g .1 =
-            sym (ap (λ (i : ℕ). drop i s) (a .at) ∙ drop-on s (w .at + 1 + 1) (length (text (f .0))) (text (f .0)) (f .1) (f .2) refl) ∙ g .2 in
-            let x = f .3 in
-            let y = g .3 in (
-              apply (getD s (w .at + 1) 256) (f .0) (g .0),
-              g .1,
-              drop-at s (w .at) h
-                  ∙ ap₂ (λ (x : ℕ) (l : List ℕ). x ∷ l) (getD-any s (w .at) 256 0 h ∙ tag)
-                  (drop-at s (w .at + 1) l
-                  ∙ ap (λ (l : List ℕ). getD s (w .at + 1) 256 ∷ l) (f .2 ∙ ap (λ (l : List ℕ). text (f .0) ++ l) rest ∙ sym (append-assoc (text (f .0)) (text (g .0)) (g .1)))),
-              record {
-                fine = (lo, hi, x .fine, y .fine);
-                shallow = omega (arith, x .shallow, y .shallow);
-                terms = omega (arith, y .terms, a .terms);
-                paths = omega (arith, y .paths, ap length grow);
-                reductions = omega (arith, y .reductions, a .reductions);
-              },
-            )
-
-        go : (b : Bool) → eqb (code-of (getD s (w .at + 1) 256) 11) 0 ≡ b → Found K s m Ready (suc d) w cs
-        go false p = absurd (stops d w z (code-of (getD s (w .at + 1) 256) 11) (eqb-false (code-of (getD s (w .at + 1) 256) 11) 0 p) (step ∙ rw p refl) e)
-        go true p =
-            let c = code-range (getD s (w .at + 1) 256) 11 (eqb-true (code-of (getD s (w .at + 1) 256) 11) 0 p) in
-            let r = read-by s m d w z (record { walk = advanced w (w .at + 1 + 1); follow = 2 }) (step ∙ rw p refl) in
-            both (c .1) (c .2) (present s (w .at + 1) (c .0)) r
-            (ih (advanced w (w .at + 1 + 1)) cs z (table-advanced w cs (w .at + 1 + 1) t) (on w (w .at + 1 + 1) ready) (first-read (read m d s (advanced w (w .at + 1 + 1))) (sym (ap (λ (v : Walk). v .code) r) ∙ e)))
-          where
-            first-read : (v : Walk) → read m d s v .code ≡ 0 → v .code ≡ 0
-            first-read v q = pick (eqb (v .code) 0) refl
-              where
-                pick : (b : Bool) → eqb (v .code) 0 ≡ b → v .code ≡ 0
-                pick true x = eqb-true (v .code) 0 x
-                pick false x = sym (ap (λ (u : Walk). u .code) (handed-on m d s v (eqb-false (v .code) 0 x))) ∙ q
-
-  -- WHAT IS READ IS A LEGAL TERM
-  pub term-sound : ((a : A) → Complete K s m Ready (leaf a)) → LeafSound K s m Ready → (d : ℕ) → Sound K s m Ready d
-  term-sound f g zero w cs z t r e = absurd (read-flat s m w z e)
-  term-sound f g (suc d) w cs z t r e =
-      let b = read-starts s m d w z e in
-      go (term-sound f g d) (b .0) (b .1) (eqb (getD s (w .at) 0) (leaf-tag m)) (eqb (getD s (w .at) 0) (literal-tag m)) (eqb (getD s (w .at) 0) (literal-tag m + 1)) refl refl refl
-    where
-      go : Sound K s m Ready d → w .at < length s → w .terms < 64 → (x y v : Bool) → eqb (getD s (w .at) 0) (leaf-tag m) ≡ x → eqb (getD s (w .at) 0) (literal-tag m) ≡ y
-          → eqb (getD s (w .at) 0) (literal-tag m + 1) ≡ v → Found K s m Ready (suc d) w cs
-      go ih h k true y v p q o = let l = g d w cs z t r h k (eqb-true (getD s (w .at) 0) (leaf-tag m) p) e in (leaf (l .0), l .1, l .2, l .3)
-      go ih h k false true v p q o = literal-found d w cs z t h k e (eqb-true (getD s (w .at) 0) (literal-tag m) q)
-      go ih h k false false true p q o = apply-found d w cs z t h k e (term-complete f) ih r (eqb-true (getD s (w .at) 0) (literal-tag m + 1) o)
-      go ih h k false false false p q o = absurd (stops d w z 9 (λ x. omega arith) (step-is s m d w h k ∙ rw (p, q, o) refl) e)
+        go : Sound K s m Ready d → w .at < length s → w .terms < 64 → (x y v : Bool) → eqb (getD s (w .at) 0) (leaf-tag m) ≡ x → eqb (getD s (w .at) 0) (literal-tag m) ≡ y
+            → eqb (getD s (w .at) 0) (literal-tag m + 1) ≡ v → Found K s m Ready (suc d) w cs
+        go ih h k true y v p q o = let l = g d w cs z t r h k (eqb-true (getD s (w .at) 0) (leaf-tag m) p) e in (leaf (l .0), l .1, l .2, l .3)
+        go ih h k false true v p q o = literal-found d w cs z t h k e (eqb-true (getD s (w .at) 0) (literal-tag m) q)
+        go ih h k false false true p q o = apply-found d w cs z t h k e (term-complete f) ih r (eqb-true (getD s (w .at) 0) (literal-tag m + 1) o)
+        go ih h k false false false p q o = absurd (stops d w z 9 (λ x. omega arith) (step-is s m d w h k ∙ rw (p, q, o) refl) e)

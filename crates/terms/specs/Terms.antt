@@ -105,3 +105,11 @@ read mode (suc left) s w =
       ]
       | false ↦ w
     ]
+
+-- the state before the first term, at place `at`
+unfoldable pub started : ℕ → Walk
+started at = record { code = 0; at = at; terms = 0; paths = 0; reductions = 0; table = replicate 8 0 }
+
+-- "Left-over bytes come last": 6
+unfoldable pub ended : List ℕ → Walk → Walk
+ended s w = cond (eqb (w .code) 0) (cond (ltb (w .at) (length s)) (blank 6) w) w

@@ -3,8 +3,8 @@
 ghost use mathlib.Core.Path.{_≡_};
 ghost use Prim.Native.Nat.{ℕ, _+_, _*_, _≤_, _<_, max};
 ghost use lib.ListN.{length, getD};
-ghost use Rattle.terms.specs.Terms.{blank, stopped, slot-of, kept-path, advanced, path-step, reduce-step, index-step, leaf-step, literal-step, apply-step, leaf-tag, literal-tag, term-step, read};
-ghost use Rattle.terms.specs.Fields.{code-of, key-code, keys-code, source-code, path-code, path-word, used};
+ghost use Rattle.terms.specs.Terms.{blank, stopped, slot-of, kept-path, advanced, path-step, reduce-step, index-step, leaf-step, literal-step, apply-step, leaf-tag, literal-tag, term-step, read, started, ended};
+ghost use Rattle.terms.specs.Fields.{header-code, code-of, key-code, keys-code, source-code, path-code, path-word, used};
 
 // How far a reading has come. `code` is 0, or the number of the refusal; `paths` and `reductions` count what has been met, or, in a
 // worksheet, what there is; `table` holds the different path reductions, each as its six worksheet bytes in one number.
@@ -32,10 +32,35 @@ pub const ENTRY: u8 = 2;
 pub const FINAL: u8 = 3;
 
 // The byte at i, or 256 past the end.
-fn byte(s: &[u8], i: usize) -> u16
+pub fn byte(s: &[u8], i: usize) -> u16
     ensures { λ r. ⌜ (r ≡ getD (now (s .entry)) i 256) × (r ≤ 256) ⌝ }
 {
     if i < s.len() { s[i] as u16 } else { 256 }
+}
+
+// The refusal of the first five bytes of a question or worksheet, or 0.
+pub fn judge_header(s: &[u8], letter: u8) -> u8
+    ensures { λ r. ⌜ r ≡ header-code letter (now (s .entry)) ⌝ }
+{
+    if s.len() < 5 {
+        return 1;
+    }
+    if s[0] != 0x4c {
+        return 2;
+    }
+    if s[1] != 0x50 {
+        return 2;
+    }
+    if s[2] != letter {
+        return 2;
+    }
+    if s[3] != 1 {
+        return 3;
+    }
+    if s[4] != 0 {
+        return 3;
+    }
+    0
 }
 
 // A byte from 1 to `most`: 1 missing, 9 another.
@@ -171,7 +196,7 @@ fn slot(table: [u64; 8], paths: usize, word: u64) -> usize
     i
 }
 
-fn blank_of(code: u8) -> Walk
+pub fn blank_of(code: u8) -> Walk
     ensures { λ r. ⌜ r ≡ blank code ⌝ }
 {
     let table = [0u64; 8];
@@ -405,4 +430,32 @@ pub fn read_term(s: &[u8], w: Walk, mode: u8, left: usize) -> Walk
     }
     let first = read_term(s, walk, mode, left - 1);
     read_term(s, first, mode, left - 1)
+}
+
+// The state before the first term, at place `at`.
+pub fn start(at: usize) -> Walk
+    ensures { λ r. ⌜ r ≡ started at ⌝ }
+{
+    let table = [0u64; 8];
+    Walk {
+        code: 0,
+        at,
+        terms: 0,
+        paths: 0,
+        reductions: 0,
+        table,
+    }
+}
+
+// The state after the last term: 6 where bytes are left over.
+pub fn finish(s: &[u8], w: Walk) -> Walk
+    ensures { λ r. ⌜ r ≡ ended (now (s .entry)) w ⌝ }
+{
+    if w.code != 0 {
+        return w;
+    }
+    if w.at < s.len() {
+        return blank_of(6);
+    }
+    w
 }

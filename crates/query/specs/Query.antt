@@ -1,0 +1,31 @@
+-- The bytes of a query (document 01: question `LPQ`), and how they are read.
+use Prim.Native.Nat.{ℕ}
+use mathlib.Core.Bool.{cond}
+use mathlib.Core.List.{List, _∷_, _++_}
+use lib.Dec.{ltb, eqb}
+use lib.ListN.{getD}
+use Rattle.meaning.specs.Query.{Query, each, single}
+use Rattle.terms.specs.declared.Walk.{Walk}
+use Rattle.terms.specs.Fields.{header-code}
+use Rattle.terms.specs.Terms.{blank, ended, read, started}
+use Rattle.terms.specs.Text.{header-bytes, place-bytes, result-bytes}
+
+-- "a kind byte, 0 for a value at each place, 1 for one result, then one term written operator first"
+abbrev pub body-bytes : Query → List ℕ
+body-bytes (each t) = 0 ∷ place-bytes t
+body-bytes (single t) = 1 ∷ result-bytes t
+
+abbrev pub encode : Query → List ℕ
+encode q = header-bytes 0x51 ++ body-bytes q
+
+-- the reading: header, kind, the term to a depth of 16, left-over bytes
+unfoldable pub query-scan : List ℕ → Walk
+query-scan s =
+    let kind = getD s 5 256 in
+    cond (eqb (header-code 0x51 s) 0)
+    (cond (ltb 255 kind) (blank 1) (cond (ltb 1 kind) (blank 9) (ended s (read kind 16 s (started 6)))))
+    (blank (header-code 0x51 s))
+
+-- the number of the first refusal, 0 where the bytes are accepted
+abbrev pub query-code : List ℕ → ℕ
+query-code s = query-scan s .code

@@ -1,0 +1,31 @@
+// Queries (document 01, question `LPQ`): judged and read.
+use terms::Walk;
+ghost use mathlib.Core.Path.{_≡_};
+ghost use Rattle.query.specs.Query.{query-scan, query-code};
+
+// The reading of a whole question: its terms counted, with the table of its different path reductions; or a refusal.
+pub fn scan(s: &[u8]) -> Walk
+    ensures { λ r. ⌜ r ≡ query-scan (now (s .entry)) ⌝ }
+{
+    let h = terms::judge_header(s, 0x51);
+    if h != 0 {
+        return terms::blank_of(h);
+    }
+    let kind = terms::byte(s, 5);
+    if 255 < kind {
+        return terms::blank_of(1);
+    }
+    if 1 < kind {
+        return terms::blank_of(9);
+    }
+    let read = terms::read_term(s, terms::start(6), kind as u8, 16);
+    terms::finish(s, read)
+}
+
+// The number of the first refusal, 0 where the bytes are accepted.
+pub fn judge(s: &[u8]) -> u8
+    ensures { λ r. ⌜ r ≡ query-code (now (s .entry)) ⌝ }
+{
+    let w = scan(s);
+    w.code
+}

@@ -7,13 +7,13 @@ use native.Mathlib.Numerals.{add-one}
 use native.Mathlib.Omega.{arith}
 use native.Mathlib.Nat.{add-zero, add-suc, suc-add}
 use lib.Dec.{eqb}
-use lib.ListN.{length, getD, take, set, length-append, length-map, length-take, List·getD-map}
+use lib.ListN.{length, getD, take, set, length-append, length-map, List·getD-map}
 use lib.Seq.{take-suc, length-take-le, sets}
+use Rattle.meaning.specs.Meaning.{Outcome}
 use Rattle.value.specs.declared.Row.{Row}
 use Rattle.value.specs.declared.Value.{Value}
 use Rattle.value.specs.declared.Value.the-variants.{Absent, Number}
 use Rattle.value.specs.Value.{values}
-use Rattle.meaning.specs.Meaning.{Outcome}
 use Rattle.answer.specs.Answer.{answer-bytes, answer-rows, answer-size, encode, head-bytes, row-bytes, row-count, rows-bytes}
 
 -- ---- how many

@@ -1,16 +1,15 @@
 -- AN ANSWER CAN BE READ BACK FROM ITS BYTES. Assumes nothing.
 use Prim.Native.Nat.{ℕ, _+_, _*_, _/_, _%_, _^_, _≤_, _<_}
-use mathlib.Core.Path.{_≡_, refl, sym, ap, _∙_}
+use mathlib.Core.Path.{_≡_, refl, ap}
 use mathlib.Core.List.{List, [], _∷_, _++_}
 use native.Mathlib.Omega.{arith}
 use lib.ListN.{length}
+use Rattle.meaning.specs.Meaning.{Outcome}
 use Rattle.value.specs.declared.Value.{Value}
 use Rattle.value.specs.declared.Value.the-variants.{Absent, Number}
 use Rattle.value.proofs.Held.{AllHeld}
-use Rattle.meaning.specs.Meaning.{Outcome}
-use Rattle.wire.specs.Wire.{at16, at32, le16, le32, le64}
 use Rattle.answer.specs.Answer.{encode, row-bytes, row-count, rows-bytes}
-use Rattle.answer.specs.Decode.{Answer, at64, decode, row-in, rows-in}
+use Rattle.answer.specs.Decode.{at64, decode, rows-in}
 
 low16 : (x : ℕ) → x % 256 + 256 * (x / 256 % 256) ≡ x % 65536
 low16 x = omega arith
@@ -18,10 +17,13 @@ low16 x = omega arith
 low32 : (x : ℕ) → x % 65536 + 65536 * (x / 65536 % 65536) ≡ x % 4294967296
 low32 x = omega arith
 
+all16 : (x : ℕ) → x < 65536 → x % 256 + 256 * (x / 256 % 256) ≡ x
+all16 x h = omega arith
+
 all64 : (x : ℕ) → x < 2 ^ 64 → x % 4294967296 + 4294967296 * (x / 4294967296 % 4294967296) ≡ x
 all64 x h = omega arith
 
-number-back : (x : ℕ) (s : List ℕ) → x < 2 ^ 64 → at64 (le64 x ++ s) 0 ≡ x
+number-back : (x : ℕ) (s : List ℕ) → x < 2 ^ 64 → at64 (row-bytes (Number x) ++ s) 1 ≡ x
 number-back x s h =
     let y : ℕ = x / 4294967296 in
     rw (low16 x, low16 (x / 65536), low16 y, low16 (y / 65536), low32 x, low32 y) (all64 x h)
@@ -30,4 +32,11 @@ rows-back : (vs : List Value) → AllHeld vs → rows-in (length vs) (rows-bytes
 unfolding rows-bytes
 rows-back [] h = refl
 rows-back (Absent ∷ vs) h = ap (λ (l : List Value). Absent ∷ l) (rows-back vs (h .1))
-rows-back (Number x ∷ vs) h = ?  -- rw (number-back x (rows-bytes vs) (h .0)) (ap (λ (l : List Value). Number x ∷ l) (rows-back vs (h .1)))
+rows-back (Number x ∷ vs) h = rw (number-back x (rows-bytes vs) (h .0), rows-back vs (h .1))
+
+pub decode-back : (n kind : ℕ) (o : Outcome) → n ≤ 256 → o .count < 65536 → length (o .rows) ≡ row-count n kind → AllHeld (o .rows) →
+    decode (encode n kind o) ≡ record { vertices = n; kind = kind; outcome = o }
+unfolding decode
+decode-back n kind o hn hc all held =
+    let fits : n < 65536 = omega arith in
+    rw (all16 n fits, all16 (o .count) hc, ← all, rows-back (o .rows) held)

@@ -4,9 +4,9 @@ use mathlib.Core.Bool.{cond}
 use mathlib.Core.List.{List, [], _∷_, _++_}
 use lib.Dec.{ltb, eqb}
 use lib.ListN.{take}
+use Rattle.meaning.specs.Meaning.{Outcome}
 use Rattle.value.specs.declared.Value.{Value}
 use Rattle.value.specs.declared.Value.the-variants.{Absent, Number}
-use Rattle.meaning.specs.Meaning.{Outcome}
 use Rattle.wire.specs.Wire.{Reply, fitted, le16, le64, unless}
 
 -- "A row is a byte, 1 for a number and 0 for absent, and 64 bits, 0 when absent."
@@ -47,7 +47,8 @@ fields-code n kind = cond (eqb n 0) 4 (cond (ltb 256 n) 4 (cond (ltb 1 kind) 9 0
 unfoldable pub answer-reply : ℕ → ℕ → ℕ → List Value → ℕ → Reply
 answer-reply n rounds kind vs room = unless (fields-code n kind) (fitted (answer-bytes n rounds kind vs) room)
 
--- the number of that refusal, 0 for none, without the values: how many bytes there are depends on n and the kind alone (`answer-length`, proofs/Bytes)
+-- THE JUDGE'S NUMBER, 0 for none: 4, 9, then 15, before there are values, since how many bytes there are depends on n and the kind alone (`answer-length`,
+-- proofs/Bytes); `reply-judged` (proofs/Reply) says that it is the writer's
 abbrev pub answer-size : ℕ → ℕ → ℕ
 answer-size n kind = 10 + 9 * row-count n kind
 

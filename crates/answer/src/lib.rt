@@ -19,7 +19,7 @@ fn row_count(n: u16, kind: u8) -> usize
     1
 }
 
-// How many bytes an answer has.
+// How many bytes an answer has (of any n and kind, illegal ones too: one row for a kind above 0).
 fn size(n: u16, kind: u8) -> usize
     ensures { λ r. ⌜ r ≡ answer-size n kind ⌝ }
 {

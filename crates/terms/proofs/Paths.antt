@@ -26,7 +26,7 @@ pub nth : (s : List ℕ) (i j k d : ℕ) → k ≡ i + j → getD s k d ≡ getD
 nth s i j k d e = rw e (sym (getD-drop i s j d))
 
 -- codes that are 0
-then-zero : (a b : ℕ) → a ≡ 0 → b ≡ 0 → then a b ≡ 0
+pub then-zero : (a b : ℕ) → a ≡ 0 → b ≡ 0 → then a b ≡ 0
 then-zero a b p q = rw (eq-eqb a 0 p) q
 
 pub then-both : (a b : ℕ) → then a b ≡ 0 → (a ≡ 0) × (b ≡ 0)
@@ -61,7 +61,7 @@ T-true : (b : Bool) → T b → b ≡ true
 T-true true t = refl
 T-true false t = absurd t
 
-key-zero : (k : ℕ) (last : Bool) → T (known k) → T (last || early k) → key-code k last ≡ 0
+pub key-zero : (k : ℕ) (last : Bool) → T (known k) → T (last || early k) → key-code k last ≡ 0
 key-zero k last t u = rw (le-ltb 255 k (omega (arith, known-range k t)), T-true (known k) t) (go last (early k) u)
   where
     go : (a b : Bool) → T (a || b) → _≡_ {A = ℕ} (cond a 0 (cond b 0 10)) 0
@@ -69,7 +69,7 @@ key-zero k last t u = rw (le-ltb 255 k (omega (arith, known-range k t)), T-true 
     go false true u = refl
     go false false u = absurd u
 
-key-known : (k : ℕ) (last : Bool) → key-code k last ≡ 0 → T (known k) × T (last || early k)
+pub key-known : (k : ℕ) (last : Bool) → key-code k last ≡ 0 → T (known k) × T (last || early k)
 key-known k last e = go (ltb 255 k) (known k) refl last (early k) e
   where
     go : (x y : Bool) → known k ≡ y → (a b : Bool) → _≡_ {A = ℕ} (cond x 1 (cond y (cond a 0 (cond b 0 10)) 9)) 0 → T y × T (a || b)
@@ -80,14 +80,14 @@ key-known k last e = go (ltb 255 k) (known k) refl last (early k) e
     go false false p a b c = not-here 8 9 refl c
 
 -- a source
-source-zero : (v : ℕ) → (v < 256) ⊎ (v ≡ 65535) → source-code (v % 256) (v / 256 % 256) ≡ 0
+pub source-zero : (v : ℕ) → (v < 256) ⊎ (v ≡ 65535) → source-code (v % 256) (v / 256 % 256) ≡ 0
 source-zero v (inl h) =
     let l : v % 256 ≡ v = omega arith in
     let m : v / 256 % 256 ≡ 0 = omega arith in
     rw (l, m, lt-ltb (v + 256 * 0) 256 (omega arith)) refl
 source-zero v (inr e) = rw e refl
 
-source-range : (low high : ℕ) → source-code low high ≡ 0 → (high ≤ 255) × ((low + 256 * high < 256) ⊎ (low + 256 * high ≡ 65535))
+pub source-range : (low high : ℕ) → source-code low high ≡ 0 → (high ≤ 255) × ((low + 256 * high < 256) ⊎ (low + 256 * high ≡ 65535))
 source-range low high e = go (ltb 255 high) (ltb (low + 256 * high) 256) (eqb (low + 256 * high) 65535) refl refl refl e
   where
     go : (x y z : Bool) → ltb 255 high ≡ x → ltb (low + 256 * high) 256 ≡ y → eqb (low + 256 * high) 65535 ≡ z → _≡_ {A = ℕ} (cond x 1 (cond y 0 (cond z 0 13))) 0
@@ -98,7 +98,7 @@ source-range low high e = go (ltb 255 high) (ltb (low + 256 * high) 256) (eqb (l
     go false false false p q r c = not-here 12 13 refl c
 
 -- the fields of a legal path reduction: one, two or three keys
-legal-parts : (ks : List ℕ) → T (legal-keys ks) → T (leb 1 (length ks)) × T (leb (length ks) 3) × T (all-known ks) × T (in-order ks)
+pub legal-parts : (ks : List ℕ) → T (legal-keys ks) → T (leb 1 (length ks)) × T (leb (length ks) 3) × T (all-known ks) × T (in-order ks)
 legal-parts ks t =
     let a = and-left (leb 1 (length ks) && leb (length ks) 3 && all-known ks) (in-order ks) t in
     let b = and-left (leb 1 (length ks) && leb (length ks) 3) (all-known ks) a in (

@@ -64,7 +64,7 @@ pub fn judge_header(s: &[u8], letter: u8) -> u8
 }
 
 // A byte from 1 to `most`: 1 missing, 9 another.
-fn code_of(b: u16, most: u16) -> u8
+pub fn code_of(b: u16, most: u16) -> u8
     ensures { λ r. ⌜ r ≡ code-of b most ⌝ }
 {
     if 255 < b {
@@ -80,7 +80,7 @@ fn code_of(b: u16, most: u16) -> u8
 }
 
 // A key: 1 missing, 9 no such key, 10 where it may stand last only and does not.
-fn key_code(b: u16, last: bool) -> u8
+pub fn key_code(b: u16, last: bool) -> u8
     ensures { λ r. ⌜ r ≡ key-code b last ⌝ }
 {
     if 255 < b {
@@ -119,8 +119,7 @@ fn keys_code(s: &[u8], at: usize, n: usize) -> u8
 }
 
 // A start: 1 missing, 13 for 256 to 65,534.
-fn source_code(low: u16, high: u16) -> u8
-    requires { ⌜ (low ≤ 256) × (high ≤ 256) ⌝ }
+pub fn source_code(low: u16, high: u16) -> u8
     ensures { λ r. ⌜ r ≡ source-code low high ⌝ }
 {
     if 255 < high {

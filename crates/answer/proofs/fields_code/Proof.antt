@@ -1,23 +1,24 @@
+-- `answer::fields_code` meets its contract. Assumes nothing.
+use borrow.Author.Tests.{lt-ltb, le-ltb, eq-eqb, ne-eqb}
+use Rattle.answer.specs.Answer.{fields-code}
 use Rattle.answer.proofs.fields_code.Statement.{statement}
 use Rattle.answer.proofs.fields_code.Tie as tie
-use Rattle.answer.proofs.fields_code.Reads as reads
-use Rattle.answer.proofs.fields_code.Lts as lts
 
--- src/lib.rt:34:9
 returns : tie.Need-returns
-returns c = ?
+unfolding fields-code
+returns c = rw (eq-eqb _ _ (c .if1 .taken))
 
--- src/lib.rt:37:9
 returns-2 : tie.Need-returns-2
-returns-2 c = ?
+unfolding fields-code
+returns-2 c = rw (ne-eqb _ _ (c .before .if1 .left), lt-ltb _ _ (c .if2 .taken))
 
--- src/lib.rt:40:9
 returns-3 : tie.Need-returns-3
-returns-3 c = ?
+unfolding fields-code
+returns-3 c = rw (ne-eqb _ _ (c .before .before .if1 .left), le-ltb _ _ (c .before .if2 .left), lt-ltb _ _ (c .if3 .taken))
 
--- src/lib.rt:30:1
 returns-4 : tie.Need-returns-4
-returns-4 c = ?
+unfolding fields-code
+returns-4 c = rw (ne-eqb _ _ (c .before .before .if1 .left), le-ltb _ _ (c .before .if2 .left), le-ltb _ _ (c .if3 .left))
 
 pub fields-code-spec : {M : Type 1} → statement M
 fields-code-spec = tie.close (tie.spec returns returns-2 returns-3 returns-4)

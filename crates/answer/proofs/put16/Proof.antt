@@ -1,36 +1,29 @@
+-- `answer::put16` meets its contract. Assumes nothing.
+use native.Mathlib.Numerals.{add-one}
 use borrow.Author.Needs.{needs}
 use Rattle.answer.proofs.put16.Statement.{statement}
 use Rattle.answer.proofs.put16.Tie as tie
-use Rattle.answer.proofs.put16.Reads as reads
-use Rattle.answer.proofs.put16.Lts as lts
 
--- src/lib.rt:64:15
 cast-out : tie.Need-cast-out
 cast-out c = search needs
 
--- src/lib.rt:64:5
 slice-write-out : tie.Need-slice-write-out
 slice-write-out c = search needs
 
--- src/lib.rt:65:19
 cast-out-2 : tie.Need-cast-out-2
 cast-out-2 c = search needs
 
--- src/lib.rt:65:9
 add-out : tie.Need-add-out
 add-out c = search needs
 
--- src/lib.rt:65:5
 slice-write-out-2 : tie.Need-slice-write-out-2
 slice-write-out-2 c = search needs
 
--- src/lib.rt:60:1
 same-length : tie.Need-same-length
 same-length c = search needs
 
--- src/lib.rt:60:1
 returns : tie.Need-returns
-returns c = ?
+returns c = rw (add-one (c .args .at))
 
 pub put16-spec : {M : Type 1} → statement M
 put16-spec =

@@ -1,73 +1,72 @@
+-- `answer::put_rows` meets its contract: i rows stand behind the ten bytes. Assumes nothing.
+use Prim.Native.Nat.{_-_, _≤_}
+use mathlib.Core.Path.{_≡_, refl, _∙_}
+use native.Mathlib.Omega.{arith}
+use lib.ListN.{length, take}
+use lib.Seq.{sets}
+use Rattle.value.specs.declared.Row.{Row}
+use Rattle.value.specs.declared.Value.the-variants.{Absent}
+use Rattle.value.specs.Value.{values}
+use Rattle.answer.specs.Answer.{rows-bytes}
+use Rattle.answer.proofs.Bytes.{row-more}
 use Rattle.answer.proofs.put_rows.Statement.{statement}
 use Rattle.answer.proofs.put_rows.Tie as tie
-use Rattle.answer.proofs.put_rows.Reads as reads
-use Rattle.answer.proofs.put_rows.Lts as lts
-use Rattle.answer.proofs.put_row.Reads as put-row-reads
+
+abbrev blank : Row
+blank = record { value = Absent }
 
 abbrev Inv-loop : tie.InvT-loop
-Inv-loop out₀ count rows i₀ out i = ?
+Inv-loop out₀ count rows i₀ out i = (i ≤ count) × (length out ≡ length out₀) × (out ≡ sets out₀ 10 (rows-bytes (take i (values rows))))
 
 abbrev μ-loop : tie.MeasureT-loop
-μ-loop out₀ count rows i₀ out i = ?
+μ-loop out₀ count rows i₀ out i = count - i
 
--- src/lib.rt:122:5
 loop-holds : tie.Need-loop-holds Inv-loop μ-loop
-loop-holds c = ?
+unfolding rows-bytes
+loop-holds c = (omega arith, refl, refl)
 
--- src/lib.rt:123:19
 mul-row : tie.Need-mul-row Inv-loop μ-loop
-mul-row c = ?
+mul-row c = omega arith
 
--- src/lib.rt:123:19
 array-copy-out-row : tie.Need-array-copy-out-row Inv-loop μ-loop
-array-copy-out-row c = ?
+array-copy-out-row c = omega arith
 
--- src/lib.rt:124:27
 mul-put-row : tie.Need-mul-put-row Inv-loop μ-loop
-mul-put-row c = ?
+mul-put-row c = omega arith
 
--- src/lib.rt:124:22
 add-put-row : tie.Need-add-put-row Inv-loop μ-loop
-add-put-row c = ?
+add-put-row c = omega arith
 
--- src/lib.rt:124:9
 put-row-requires : tie.Need-put-row-requires Inv-loop μ-loop
-put-row-requires c κs = ?
+put-row-requires c κs = omega arith
 
--- src/lib.rt:125:9
 add-i : tie.Need-add-i Inv-loop μ-loop
-add-i c = ?
+add-i c = omega arith
 
--- src/lib.rt:122:5
 loop-less : tie.Need-loop-less Inv-loop μ-loop
-loop-less c = ?
+loop-less c = omega arith
 
--- src/lib.rt:122:5
 loop-again : tie.Need-loop-again Inv-loop μ-loop
-loop-again c = ?
+loop-again c =
+    let a = c .before .before .before .before .before .before .before .before .args in
+    let l = c .before .before .before .before .before .before .loop in
+    let p = c .before .before .put-row in (
+      omega arith,
+      p .kept .0 ∙ l .inv .1,
+      p .ensures ∙ rw (l .inv .2) (row-more (a .out .now) (a .t3) (l .i) blank (omega arith)),
+    )
 
--- src/lib.rt:117:1
 same-length : tie.Need-same-length Inv-loop μ-loop
-same-length c = ?
+same-length c = c .before .loop .inv .1
 
--- src/lib.rt:117:1
 returns : tie.Need-returns Inv-loop μ-loop
-returns c = ?
+returns c =
+    let a = c .before .before .before .args in
+    let l = c .before .loop in
+    let e : l .i ≡ a .count = omega arith in
+    l .inv .2 ∙ rw e
 
 pub put-rows-spec : {M : Type 1} → statement M
 put-rows-spec =
     tie.close
-    (tie.spec
-    Inv-loop
-    μ-loop
-    loop-holds
-    mul-row
-    array-copy-out-row
-    mul-put-row
-    add-put-row
-    put-row-requires
-    add-i
-    loop-less
-    loop-again
-    same-length
-    returns)
+    (tie.spec Inv-loop μ-loop loop-holds mul-row array-copy-out-row mul-put-row add-put-row put-row-requires add-i loop-less loop-again same-length returns)

@@ -1,23 +1,19 @@
+-- `answer::size` meets its contract. Assumes nothing.
+use native.Mathlib.Omega.{arith}
 use borrow.Author.Needs.{needs}
+use Rattle.answer.proofs.Bytes.{count-most}
 use Rattle.answer.proofs.size.Statement.{statement}
 use Rattle.answer.proofs.size.Tie as tie
-use Rattle.answer.proofs.size.Reads as reads
-use Rattle.answer.proofs.size.Lts as lts
-use Rattle.answer.proofs.row_count.Reads as row-count-reads
 
--- src/lib.rt:26:14
 row-count-requires : tie.Need-row-count-requires
 row-count-requires c κs = search needs
 
--- src/lib.rt:26:10
 mul-result : tie.Need-mul-result
-mul-result c = ?
+mul-result c = omega (arith, count-most (c .before .args .n) (c .before .args .kind) 65535 (omega arith) (omega arith))
 
--- src/lib.rt:26:5
 add-result : tie.Need-add-result
-add-result c = ?
+add-result c = omega (arith, count-most (c .before .args .n) (c .before .args .kind) 65535 (omega arith) (omega arith))
 
--- src/lib.rt:23:1
 returns : tie.Need-returns
 returns c = search needs
 

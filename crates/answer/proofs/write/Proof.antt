@@ -1,0 +1,74 @@
+-- `answer::write` meets its contract. Assumes nothing.
+use mathlib.Core.Path.{_≡_, sym, _∙_}
+use mathlib.Core.List.{List}
+use native.Mathlib.Omega.{arith}
+use borrow.Author.Needs.{needs}
+use lib.ListN.{length, length-map}
+use Rattle.value.specs.declared.Row.{Row}
+use Rattle.value.specs.Value.{values}
+use Rattle.answer.proofs.Bytes.{count-most}
+use Rattle.answer.proofs.Reply.{answer-laid, answer-sized, judged-right, reply-done, reply-refused}
+use Rattle.answer.proofs.write.Statement.{statement}
+use Rattle.answer.proofs.write.Tie as tie
+
+full : (rows : List Row) → length rows ≡ 256 → length (values rows) ≡ 256
+full rows e = length-map rows (λ (r : Row). r .value) ∙ e
+
+judge-requires : tie.Need-judge-requires
+judge-requires c κs = search needs
+
+cast-result : tie.Need-cast-result
+cast-result c = search needs
+
+add-result : tie.Need-add-result
+add-result c = search needs
+
+returns : tie.Need-returns
+returns c =
+    let a = c .before .before .before .args in
+    let e = reply-refused (a .n) (a .rounds) (a .kind) (values (a .rows)) (full (a .rows) (omega arith)) (length (a .out .now)) _ (c .before .judge .ensures) (c .if1 .taken) in
+    (rw e, rw e)
+
+put-head-requires : tie.Need-put-head-requires
+put-head-requires c κs =
+    let a = c .before .before .before .before .args in
+    omega (arith, judged-right (a .n) (a .kind) (length (a .out .now)) (sym (c .before .before .judge .ensures) ∙ c .before .if1 .left) .1)
+
+row-count-requires : tie.Need-row-count-requires
+row-count-requires c κs = search needs
+
+put-rows-requires : tie.Need-put-rows-requires
+put-rows-requires c κs =
+    let a = c .before .before .before .before .before .before .before .before .before .args in
+    let j = judged-right (a .n) (a .kind) (length (a .out .now)) (sym (c .before .before .before .before .before .before .before .judge .ensures) ∙ c .before .before .before .before .before .before .if1 .left) in
+    omega (arith, j .1, count-most (a .n) (a .kind) 256 (j .0 .few-vertices) (omega arith))
+
+size-requires : tie.Need-size-requires
+size-requires c κs = search needs
+
+cast-result-2 : tie.Need-cast-result-2
+cast-result-2 c =
+    let a = c .before .before .before .before .before .before .before .before .before .before .before .before .before .args in
+    omega (arith, count-most (a .n) (a .kind) 65535 (omega arith) (omega arith))
+
+same-length : tie.Need-same-length
+same-length c = search needs
+
+returns-2 : tie.Need-returns-2
+returns-2 c =
+    let a = c .before .before .before .before .before .before .before .before .before .before .before .before .before .args in
+    let vs = values (a .rows) in
+    let all = full (a .rows) (omega arith) in
+    let room = length (a .out .now) in
+    let z = sym (c .before .before .before .before .before .before .before .before .before .before .before .judge .ensures) ∙ c .before .before .before .before .before .before .before .before .before .before .if1 .left in
+    let j = judged-right (a .n) (a .kind) room z in
+    let sized = answer-sized (a .n) (a .rounds) (a .kind) vs all (j .0) in
+    rw (reply-done (a .n) (a .rounds) (a .kind) vs all room z) (
+      c .size .ensures ∙ sym sized,
+      c .before .before .before .put-rows .ensures ∙ rw (c .before .before .before .before .row-count .ensures, c .before .before .before .before .before .before .before .before .put-head .ensures) (answer-laid (a .n) (a .rounds) (a .kind) vs (a .out .now) (omega (arith, j .1))),
+    )
+
+pub write-spec : {M : Type 1} → statement M
+write-spec =
+    tie.close
+    (tie.spec judge-requires cast-result add-result returns put-head-requires row-count-requires put-rows-requires size-requires cast-result-2 same-length returns-2)

@@ -1,0 +1,3 @@
+pub mod Laws
+pub mod PathRows
+pub mod Expressions

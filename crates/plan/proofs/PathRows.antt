@@ -1,0 +1,259 @@
+-- A plan's path reductions: the bytes of legal ones are accepted and held in the table, and accepted bytes are those of legal ones. Assumes nothing.
+use Prim.Native.Nat.{ℕ, zero, suc, _+_, _*_, _/_, _%_, _≤_, _<_}
+use mathlib.Core.Path.{_≡_, refl, sym, ap, _∙_, subst}
+use mathlib.Core.Logic.{_⊎_, inl, inr}
+use mathlib.Core.Bool.{Bool, true, false, cond, _&&_}
+use mathlib.Core.List.{List, [], _∷_, _++_, map, append-assoc, append-nil}
+use native.Mathlib.Omega.{arith}
+use native.Mathlib.Nat.{not-suc-le-zero}
+use borrow.Author.Tests.{leb-false, eqb-true, eqb-false, lt-ltb, le-ltb, lt-leb, eq-eqb, ne-eqb}
+use lib.Dec.{T, leb, ltb, eqb, leb→le}
+use lib.ListN.{length, getD, drop, set, length-set, length-append, length-map}
+use lib.Seq.{set-at, append-snoc}
+use Rattle.meaning.specs.Limits.{PathFits}
+use Rattle.meaning.specs.Query.{PathReduction}
+use Rattle.meaning.proofs.Lists.{all-append, map-append}
+use Rattle.terms.specs.declared.Walk.{Walk}
+use Rattle.terms.specs.Fields.{code-of, key-code, source-code, then}
+use Rattle.terms.specs.Terms.{blank}
+use Rattle.terms.specs.Text.{path-number}
+use Rattle.terms.proofs.Laws.{getD-any}
+use Rattle.terms.proofs.Paths.{code-range, code-zero, drop-at, key-known, key-zero, legal-parts, nth, present, source-range, source-zero, then-both, then-zero, two-bytes}
+use Rattle.terms.proofs.Steps.{drop-on, there}
+use Rattle.terms.proofs.Table.{Table}
+use Rattle.walks.specs.Keys.{all-known, early, in-order, known, legal-keys}
+use Rattle.walks.specs.Lists.{All}
+use Rattle.walks.specs.Rounds.{same}
+use Rattle.walks.proofs.Tests.{and-both, and-left, and-right}
+use Rattle.wire.specs.Wire.{Bytes}
+use Rattle.plan.specs.Plan.{filler-code, row-code, row-step, row-word, rows-scan, slot-code}
+use Rattle.plan.specs.Text.{row-bytes, rows-bytes}
+
+-- key bytes: a key where it is used, 0 where it is not
+slot-key : (n j b : ℕ) → j < n → slot-code n j b ≡ key-code b (eqb (j + 1) n)
+slot-key n j b h = rw (lt-ltb j n h) refl
+
+slot-filler : (n j b : ℕ) → n ≤ j → slot-code n j b ≡ filler-code b
+slot-filler n j b h = rw (le-ltb j n h) refl
+
+filler-zero : (b : ℕ) → filler-code b ≡ 0 → b ≡ 0
+filler-zero b e = go (ltb 255 b) (eqb b 0) refl e
+  where
+    go : (x y : Bool) → eqb b 0 ≡ y → _≡_ {A = ℕ} (cond x 1 (cond y 0 9)) 0 → b ≡ 0
+    go true y p z = absurd (omega arith)
+    go false true p z = eqb-true b 0 p
+    go false false p z = absurd (omega arith)
+
+-- one, two or three keys
+abbrev Three : List ℕ → ℕ → ℕ → ℕ → Type 0
+Three ks a b c = (getD ks 0 0 ≡ a) × (getD ks 1 0 ≡ b) × (getD ks 2 0 ≡ c)
+
+module _ (s : List ℕ) where
+  -- the codes of the key bytes a, b, c, as a legal list of keys
+  keys-fine : (ks : List ℕ) → T (legal-keys ks) → (slot-code (length ks) 0 (getD ks 0 0) ≡ 0) × (slot-code (length ks) 1 (getD ks 1 0) ≡ 0) × (slot-code (length ks) 2 (getD ks 2 0) ≡ 0)
+  keys-fine ks t = go ks (legal-parts ks t)
+    where
+      go : (ks : List ℕ) → T (leb 1 (length ks)) × T (leb (length ks) 3) × T (all-known ks) × T (in-order ks)
+          → (slot-code (length ks) 0 (getD ks 0 0) ≡ 0) × (slot-code (length ks) 1 (getD ks 1 0) ≡ 0) × (slot-code (length ks) 2 (getD ks 2 0) ≡ 0)
+      go [] p = absurd (p .0)
+      go (x ∷ []) p = (key-zero x true (and-left (known x) true (p .2)) tt, refl, refl)
+      go (x ∷ (y ∷ [])) p = (
+        key-zero x false (and-left (known x) (known y && true) (p .2)) (and-left (early x) true (p .3)),
+        key-zero y true (and-left (known y) true (and-right (known x) (known y && true) (p .2))) tt,
+        refl,
+      )
+      go (x ∷ (y ∷ (z ∷ []))) p =
+          let k = and-right (known x) (known y && (known z && true)) (p .2) in
+          let o = and-right (early x) (early y && true) (p .3) in (
+            key-zero x false (and-left (known x) (known y && (known z && true)) (p .2)) (and-left (early x) (early y && true) (p .3)),
+            key-zero y false (and-left (known y) (known z && true) k) (and-left (early y) true o),
+            key-zero z true (and-left (known z) true (and-right (known y) (known z && true) k)) tt,
+          )
+      go (x ∷ (y ∷ (z ∷ (u ∷ ks)))) p = absurd (omega (arith, leb→le (suc (suc (suc (suc (length ks))))) 3 (p .1)))
+
+  -- and back
+  keys-back : (n a b c : ℕ) → 1 ≤ n → n ≤ 3 → slot-code n 0 a ≡ 0 → slot-code n 1 b ≡ 0 → slot-code n 2 c ≡ 0
+      → (ks : List ℕ) × (length ks ≡ n) × T (legal-keys ks) × Three ks a b c
+  keys-back zero a b c lo hi x y z = absurd (not-suc-le-zero lo)
+  keys-back (suc zero) a b c lo hi x y z =
+      let k = key-known a true x in
+      (a ∷ [], refl, and-both (known a && true) true (and-both (known a) true (k .0) tt) tt, (refl, sym (filler-zero b y), sym (filler-zero c z)))
+  keys-back (suc (suc zero)) a b c lo hi x y z =
+      let k = key-known a false x in
+      let j = key-known b true y in (
+        a ∷ b ∷ [],
+        refl,
+        and-both (known a && (known b && true)) (early a && true) (and-both (known a) (known b && true) (k .0) (and-both (known b) true (j .0) tt)) (and-both (early a) true (k .1) tt),
+        (refl, refl, sym (filler-zero c z)),
+      )
+  keys-back (suc (suc (suc zero))) a b c lo hi x y z =
+      let k = key-known a false x in
+      let j = key-known b false y in
+      let i = key-known c true z in (
+        a ∷ b ∷ c ∷ [],
+        refl,
+        and-both (known a && (known b && (known c && true))) (early a && (early b && true))
+            (and-both (known a) (known b && (known c && true)) (k .0) (and-both (known b) (known c && true) (j .0) (and-both (known c) true (i .0) tt)))
+            (and-both (early a) (early b && true) (k .1) (and-both (early b) true (j .1) tt)),
+        (refl, refl, refl),
+      )
+  keys-back (suc (suc (suc (suc n)))) a b c lo hi x y z = absurd (omega arith)
+
+  module _ (c : PathReduction) (fits : PathFits 256 c) (i : ℕ) (rest : List ℕ) (e : drop i s ≡ row-bytes c ++ rest) where
+    -- a byte of the row
+    at : (j k x : ℕ) → k ≡ i + j → getD (row-bytes c ++ rest) j 256 ≡ x → getD s k 256 ≡ x
+    at j k x p q = rw (nth s i j k 256 p, e) q
+
+    pub row-accepted : row-code s i ≡ 0
+    unfolding row-code
+    row-accepted =
+        let k = keys-fine (c .keys) (fits .0) in
+        let p = legal-parts (c .keys) (fits .0) in
+        let n = length (c .keys) in
+        rw (at 0 i n (omega arith) refl, at 1 (i + 1) (getD (c .keys) 0 0) refl refl, at 2 (i + 2) (getD (c .keys) 1 0) refl refl, at 3 (i + 3) (getD (c .keys) 2 0) refl refl, at 4 (i + 4) (c .source % 256) refl refl, at 5 (i + 5) (c .source / 256 % 256) refl refl)
+        (then-zero _ _ (code-zero n 3 (leb→le 1 n (p .0)) (leb→le n 3 (p .1)) (omega arith))
+        (then-zero _ _ (k .0) (then-zero _ _ (k .1) (then-zero _ _ (k .2) (source-zero (c .source) (fits .1))))))
+
+    pub row-numbered : row-word s i ≡ path-number c
+    unfolding row-word
+    row-numbered =
+        rw (at 0 i (length (c .keys)) (omega arith) refl, at 1 (i + 1) (getD (c .keys) 0 0) refl refl, at 2 (i + 2) (getD (c .keys) 1 0) refl refl, at 3 (i + 3) (getD (c .keys) 2 0) refl refl, at 4 (i + 4) (c .source % 256) refl refl, at 5 (i + 5) (c .source / 256 % 256) refl refl)
+        (omega (arith, small (fits .1)))
+      where
+        small : (c .source < 256) ⊎ (c .source ≡ 65535) → c .source < 65536
+        small (inl h) = omega arith
+        small (inr h) = omega arith
+
+  next-byte : (i j : ℕ) → i < length s → i + 1 ≡ j → drop i s ≡ getD s i 256 ∷ drop j s
+  next-byte i j l e = drop-at s i l ∙ ap (λ (m : ℕ). getD s i 256 ∷ drop m s) e
+
+  six : (i : ℕ) → i + 5 < length s
+      → drop i s ≡ getD s i 256 ∷ getD s (i + 1) 256 ∷ getD s (i + 2) 256 ∷ getD s (i + 3) 256 ∷ getD s (i + 4) 256 ∷ getD s (i + 5) 256 ∷ drop (i + 6) s
+  six i h =
+      next-byte i (i + 1) (omega arith) refl
+      ∙ ap (λ (l : List ℕ). getD s i 256 ∷ l) (next-byte (i + 1) (i + 2) (omega arith) (omega arith)
+      ∙ ap (λ (l : List ℕ). getD s (i + 1) 256 ∷ l) (next-byte (i + 2) (i + 3) (omega arith) (omega arith)
+      ∙ ap (λ (l : List ℕ). getD s (i + 2) 256 ∷ l) (next-byte (i + 3) (i + 4) (omega arith) (omega arith)
+      ∙ ap (λ (l : List ℕ). getD s (i + 3) 256 ∷ l) (next-byte (i + 4) (i + 5) (omega arith) (omega arith)
+      ∙ ap (λ (l : List ℕ). getD s (i + 4) 256 ∷ l) (next-byte (i + 5) (i + 6) h (omega arith))))))
+
+  pub row-found : Bytes s → (i : ℕ) → row-code s i ≡ 0 → (c : PathReduction) × PathFits 256 c × (drop i s ≡ row-bytes c ++ drop (i + 6) s)
+  unfolding row-code
+  row-found bytes i e =
+      let n = getD s i 256 in
+      let a = getD s (i + 1) 256 in
+      let b = getD s (i + 2) 256 in
+      let c = getD s (i + 3) 256 in
+      let low = getD s (i + 4) 256 in
+      let high = getD s (i + 5) 256 in
+      let p = then-both (code-of n 3) (then (slot-code n 0 a) (then (slot-code n 1 b) (then (slot-code n 2 c) (source-code low high)))) e in
+      let q = then-both (slot-code n 0 a) (then (slot-code n 1 b) (then (slot-code n 2 c) (source-code low high))) (p .1) in
+      let r = then-both (slot-code n 1 b) (then (slot-code n 2 c) (source-code low high)) (q .1) in
+      let t = then-both (slot-code n 2 c) (source-code low high) (r .1) in
+      let range = code-range n 3 (p .0) in
+      let ks = keys-back n a b c (range .1) (range .2) (q .0) (r .0) (t .0) in
+      let v = source-range low high (t .1) in
+      let h5 = present s (i + 5) (v .0) in
+      let small = bytes (i + 4) in
+      let same = getD-any s (i + 4) 0 256 (omega arith) in
+      let two = two-bytes low high (omega arith) (omega arith) in
+      let parts = ks .3 in (
+        record { keys = ks .0; source = low + 256 * high },
+        (ks .2, v .1),
+        six i h5 ∙ rw (ks .1, parts .0, parts .1, parts .2, two .0, two .1) refl,
+      )
+
+-- the path reductions ds after cs
+pub record RowsHeld (w w′ : Walk) (cs : List PathReduction) (n : ℕ) : Type 0 where
+  pub code : w′ .code ≡ 0
+  pub at : w′ .at ≡ w .at + n
+  pub terms : w′ .terms ≡ w .terms
+  pub reductions : w′ .reductions ≡ w .reductions
+  pub table : Table w′ cs
+
+module _ (s : List ℕ) where
+  -- one more is held
+  row-held : (w : Walk) (cs : List PathReduction) (c : PathReduction) → w .code ≡ 0 → Table w cs → PathFits 256 c → w .at < length s → row-code s (w .at) ≡ 0
+      → row-word s (w .at) ≡ path-number c → suc (length cs) ≤ 8 → RowsHeld w (row-step s w) (cs ++ (c ∷ [])) 6
+  unfolding row-step
+  row-held w cs c z t f h code word l =
+      let made : row-step s w ≡ record { code = w .code; at = w .at + 6; terms = w .terms; paths = w .paths + 1; reductions = w .reductions; table = set (w .table) (w .paths) (path-number c) } =
+      rw (lt-leb (length s) (w .at) h, code, lt-leb 8 (w .paths) (omega (arith, t .count)), word) refl in
+      subst (λ (v : Walk). RowsHeld w v (cs ++ (c ∷ [])) 6) (sym made)
+      (record { code = z; at = refl; terms = refl; reductions = refl; table = stored (t .rest) (t .holds) })
+    where
+      stored : (rest : List ℕ) → w .table ≡ map path-number cs ++ rest
+          → Table (record { code = w .code; at = w .at + 6; terms = w .terms; paths = w .paths + 1; reductions = w .reductions; table = set (w .table) (w .paths) (path-number c) }) (cs ++ (c ∷ []))
+      stored [] h = absurd (omega (arith, t .size, ap length h, length-append (map path-number cs) [], length-map cs path-number))
+      stored (x ∷ rest) h = record {
+        legal = all-append (PathFits 256) cs (c ∷ []) (t .legal) (f, tt);
+        count = omega (arith, t .count, length-append cs (c ∷ []));
+        few = omega (arith, length-append cs (c ∷ []));
+        rest = rest;
+        holds =
+            ap (λ (l : List ℕ). set l (w .paths) (path-number c)) h
+            ∙ set-at (map path-number cs) x rest (path-number c) (w .paths) (length-map cs path-number ∙ sym (t .count))
+            ∙ sym (append-snoc (map path-number cs) (path-number c) rest)
+            ∙ ap (λ (l : List ℕ). l ++ rest) (sym (map-append path-number cs (c ∷ [])));
+        size = length-set (w .table) (w .paths) (path-number c) ∙ t .size;
+        few-reductions = t .few-reductions;
+      }
+
+  pub rows-complete : (ds : List PathReduction) (w : Walk) (cs : List PathReduction) (rest : List ℕ) → w .code ≡ 0 → Table w cs → All (PathFits 256) ds
+      → drop (w .at) s ≡ rows-bytes ds ++ rest → length cs + length ds ≤ 8 → RowsHeld w (rows-scan (length ds) s w) (cs ++ ds) (length (rows-bytes ds))
+  unfolding rows-scan
+  rows-complete [] w cs rest z t f e l =
+      record { code = z; at = omega arith; terms = refl; reductions = refl; table = subst (Table w) (sym (append-nil cs)) t }
+  rows-complete (d ∷ ds) w cs rest z t f e l =
+      let e1 : drop (w .at) s ≡ row-bytes d ++ (rows-bytes ds ++ rest) = e ∙ append-assoc (row-bytes d) (rows-bytes ds) rest in
+      let h = there s (w .at) (length (d .keys)) _ e1 in
+      let a = row-held w cs d z t (f .0) h (row-accepted s d (f .0) (w .at) (rows-bytes ds ++ rest) e1) (row-numbered s d (f .0) (w .at) (rows-bytes ds ++ rest) e1) (omega arith) in
+      let e2 : drop (row-step s w .at) s ≡ rows-bytes ds ++ rest = ap (λ (i : ℕ). drop i s) (a .at) ∙ drop-on s (w .at) 6 (row-bytes d) (rows-bytes ds ++ rest) e1 refl in
+      let b = rows-complete ds (row-step s w) (cs ++ (d ∷ [])) rest (a .code) (a .table) (f .1) e2 (omega (arith, length-append cs (d ∷ []))) in
+      let more = append-snoc cs d ds in
+      rw (eq-eqb (w .code) 0 z)
+      (record {
+        code = b .code;
+        at = omega (arith, b .at, a .at);
+        terms = b .terms ∙ a .terms;
+        reductions = b .reductions ∙ a .reductions;
+        table = subst (Table (rows-scan (length ds) s (row-step s w))) more (b .table);
+      })
+
+  rows-refused : (k : ℕ) (w : Walk) → (w .code ≡ 0 → ⊥) → rows-scan k s w ≡ w
+  unfolding rows-scan
+  rows-refused zero w n = refl
+  rows-refused (suc k) w n = rw (ne-eqb (w .code) 0 n) refl
+
+  -- what is read is legal path reductions
+  pub rows-sound : Bytes s → (k : ℕ) (w : Walk) (cs : List PathReduction) → w .code ≡ 0 → Table w cs → length cs + k ≤ 8 → rows-scan k s w .code ≡ 0
+      → (ds : List PathReduction) × (rest : List ℕ) × (length ds ≡ k) × All (PathFits 256) ds × (drop (w .at) s ≡ rows-bytes ds ++ rest)
+  unfolding rows-scan row-step blank
+  rows-sound bytes zero w cs z t l e = ([], drop (w .at) s, refl, tt, refl)
+  rows-sound bytes (suc k) w cs z t l e = go (leb (length s) (w .at)) (eqb (row-code s (w .at)) 0) refl refl (rows-sound bytes k)
+    where
+      on : rows-scan k s (row-step s w) .code ≡ 0
+      on = rw (eq-eqb (w .code) 0 z) at e
+
+      stops : (n : ℕ) → (n ≡ 0 → ⊥) → row-step s w ≡ blank n → ⊥
+      stops n f p = f (sym (ap (λ (v : Walk). v .code) (ap (rows-scan k s) p ∙ rows-refused k (blank n) f)) ∙ on)
+
+      go : (a b : Bool) → leb (length s) (w .at) ≡ a → eqb (row-code s (w .at)) 0 ≡ b
+          → ((w : Walk) (cs : List PathReduction) → w .code ≡ 0 → Table w cs → length cs + k ≤ 8 → rows-scan k s w .code ≡ 0
+          → (ds : List PathReduction) × (rest : List ℕ) × (length ds ≡ k) × All (PathFits 256) ds × (drop (w .at) s ≡ rows-bytes ds ++ rest))
+          → (ds : List PathReduction) × (rest : List ℕ) × (length ds ≡ suc k) × All (PathFits 256) ds × (drop (w .at) s ≡ rows-bytes ds ++ rest)
+      go true b p q ih = absurd (stops 1 (λ x. omega arith) (rw p refl))
+      go false false p q ih = absurd (stops (row-code s (w .at)) (eqb-false (row-code s (w .at)) 0 q) (rw (p, q) refl))
+      go false true p q ih =
+          let h = leb-false (length s) (w .at) p in
+          let f = row-found s bytes (w .at) (eqb-true (row-code s (w .at)) 0 q) in
+          let a = row-held w cs (f .0) z t (f .1) h (eqb-true (row-code s (w .at)) 0 q) (row-numbered s (f .0) (f .1) (w .at) (drop (w .at + 6) s) (f .2)) (omega arith) in
+          let r = ih (row-step s w) (cs ++ (f .0 ∷ [])) (a .code) (a .table) (omega (arith, length-append cs (f .0 ∷ []))) on in (
+            f .0 ∷ r .0,
+            r .1,
+            ap suc (r .2),
+            (f .1, r .3),
+            f .2
+                ∙ ap (λ (l : List ℕ). row-bytes (f .0) ++ l) (ap (λ (i : ℕ). drop i s) (sym (a .at)) ∙ r .4)
+                ∙ sym (append-assoc (row-bytes (f .0)) (rows-bytes (r .0)) (r .1)),
+          )

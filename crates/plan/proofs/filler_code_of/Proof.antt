@@ -1,0 +1,17 @@
+-- `plan::filler_code_of` meets its contract. Assumes nothing.
+use Rattle.plan.proofs.filler_code_of.Statement.{statement}
+use native.Mathlib.Omega.{arith}
+use borrow.Author.Tests.{eq-eqb, le-ltb, lt-ltb, ne-eqb}
+use Rattle.plan.proofs.filler_code_of.Tie as tie
+
+returns : tie.Need-returns
+returns c = rw (lt-ltb _ _ (c .if1 .taken))
+
+returns-2 : tie.Need-returns-2
+returns-2 c = rw (le-ltb _ _ (c .before .if1 .left), eq-eqb _ _ (c .if2 .taken))
+
+returns-3 : tie.Need-returns-3
+returns-3 c = rw (le-ltb _ _ (c .before .if1 .left), ne-eqb _ _ (c .if2 .left))
+
+pub filler-code-of-spec : {M : Type 1} → statement M
+filler-code-of-spec = tie.close (tie.spec returns returns-2 returns-3)

@@ -1,0 +1,48 @@
+-- `plan::rows` meets its contract: what is left gives what all gives. Assumes nothing.
+use mathlib.Core.Path.{_≡_, refl, sym, _∙_}
+use native.Mathlib.Omega.{arith}
+use borrow.Author.Needs.{needs}
+use borrow.Author.Tests.{eq-eqb, ne-eqb}
+use Rattle.plan.specs.Plan.{rows-scan}
+use Rattle.plan.proofs.Laws.{rows-next, rows-none}
+use Rattle.plan.proofs.rows.Statement.{statement}
+use Rattle.plan.proofs.rows.Tie as tie
+
+abbrev Inv-loop : tie.InvT-loop
+Inv-loop s k state₀ left₀ state left = rows-scan k s state₀ ≡ rows-scan left s state
+
+abbrev μ-loop : tie.MeasureT-loop
+μ-loop s k state₀ left₀ state left = left
+
+loop-holds : tie.Need-loop-holds Inv-loop μ-loop
+loop-holds c = refl
+
+returns : tie.Need-returns Inv-loop μ-loop
+returns c =
+    let a = c .before .before .before .before .before .args in
+    let l = c .before .before .before .loop in
+    sym (l .inv ∙ rows-next (l .left) (a .s .now) (l .state) (c .before .before .loop-test .taken) ∙ rw (ne-eqb _ _ (c .if1 .taken)) refl)
+
+row-step-of-requires : tie.Need-row-step-of-requires Inv-loop μ-loop
+row-step-of-requires c κs = search needs
+
+sub-left : tie.Need-sub-left Inv-loop μ-loop
+sub-left c = search needs
+
+loop-less : tie.Need-loop-less Inv-loop μ-loop
+loop-less c = search needs
+
+loop-again : tie.Need-loop-again Inv-loop μ-loop
+loop-again c =
+    let a = c .before .before .before .before .before .before .args in
+    let l = c .before .before .before .before .loop in
+    l .inv ∙ rows-next (l .left) (a .s .now) (l .state) (c .before .before .before .loop-test .taken) ∙ rw (eq-eqb _ _ (c .before .if1 .left), ← c .row-step-of .ensures) refl
+
+returns-2 : tie.Need-returns-2 Inv-loop μ-loop
+returns-2 c =
+    let a = c .before .before .before .args in
+    let l = c .before .loop in
+    sym (l .inv ∙ rows-none (l .left) (a .s .now) (l .state) (omega arith))
+
+pub rows-spec : {M : Type 1} → statement M
+rows-spec = tie.close (tie.spec Inv-loop μ-loop loop-holds returns row-step-of-requires sub-left loop-less loop-again returns-2)

@@ -1,0 +1,103 @@
+-- How the bytes of a plan (document 01: worksheet `LPW`) are read, left to right.
+use Prim.Native.Nat.{ℕ, zero, suc, _+_, _*_}
+use mathlib.Core.Bool.{cond}
+use mathlib.Core.List.{List}
+use lib.Dec.{leb, ltb, eqb}
+use lib.ListN.{length, getD, set}
+use Rattle.terms.specs.declared.Walk.{Walk}
+use Rattle.terms.specs.Fields.{code-of, header-code, key-code, source-code, then}
+use Rattle.terms.specs.Terms.{blank, ended, read, started}
+
+-- "an illegal .. filler byte": an unused key byte, or the reduction byte of kind 0, is 0
+abbrev pub filler-code : ℕ → ℕ
+filler-code b = cond (ltb 255 b) 1 (cond (eqb b 0) 0 9)
+
+-- key byte j of n: a key, or "unused ones 0"
+abbrev pub slot-code : ℕ → ℕ → ℕ → ℕ
+slot-code n j b = cond (ltb j n) (key-code b (eqb (j + 1) n)) (filler-code b)
+
+-- "c chains of 6 bytes (key count, three key bytes with unused ones 0, 16-bit start)": the chain at place i
+unfoldable pub row-code : List ℕ → ℕ → ℕ
+row-code s i =
+    let n = getD s i 256 in
+    then (code-of n 3)
+    (then (slot-code n 0 (getD s (i + 1) 256))
+    (then (slot-code n 1 (getD s (i + 2) 256))
+    (then (slot-code n 2 (getD s (i + 3) 256)) (source-code (getD s (i + 4) 256) (getD s (i + 5) 256)))))
+
+-- its six bytes as one number
+unfoldable pub row-word : List ℕ → ℕ → ℕ
+row-word s i =
+    getD s i 256 + 256 * getD s (i + 1) 256 + 65536 * getD s (i + 2) 256 + 16777216 * getD s (i + 3) 256
+    + 4294967296 * (getD s (i + 4) 256 + 256 * getD s (i + 5) 256)
+
+-- one chain more (equal chains stay apart: they are legal here)
+unfoldable pub row-step : List ℕ → Walk → Walk
+row-step s w =
+    cond (leb (length s) (w .at)) (blank 1)
+    (cond (eqb (row-code s (w .at)) 0)
+    (cond (leb 8 (w .paths)) (blank 14)
+    (record {
+      code = w .code;
+      at = w .at + 6;
+      terms = w .terms;
+      paths = w .paths + 1;
+      reductions = w .reductions;
+      table = set (w .table) (w .paths) (row-word s (w .at));
+    }))
+    (blank (row-code s (w .at))))
+
+unfoldable pub rows-scan : ℕ → List ℕ → Walk → Walk
+rows-scan zero s w = w
+rows-scan (suc k) s w = cond (eqb (w .code) 0) (rows-scan k s (row-step s w)) w
+
+-- "Kind 0 has .. reduction byte 0; kind 1 has .. reduction bytes 1 to 5"
+abbrev pub reduction-code : ℕ → ℕ → ℕ
+reduction-code kind b = cond (eqb kind 0) (filler-code b) (code-of b 5)
+
+-- the same state further on
+unfoldable pub moved : Walk → ℕ → ℕ → Walk
+moved w at reductions = record { code = w .code; at = at; terms = w .terms; paths = w .paths; reductions = reductions; table = w .table }
+
+-- "e entries, each a reduction byte and an expression"
+unfoldable pub entry-scan : ℕ → List ℕ → Walk → Walk
+entry-scan kind s w =
+    let c = reduction-code kind (getD s (w .at) 256) in
+    cond (leb (length s) (w .at)) (blank 1) (cond (eqb c 0) (read 2 16 s (moved w (w .at + 1) (w .reductions))) (blank c))
+
+unfoldable pub entries-scan : ℕ → ℕ → List ℕ → Walk → Walk
+entries-scan zero kind s w = w
+entries-scan (suc k) kind s w = cond (eqb (w .code) 0) (entries-scan k kind s (entry-scan kind s w)) w
+
+-- "Worksheet counts above 8 are 14 at that byte, but for kind 0 every e other than 1 is 9."
+abbrev pub count-code : ℕ → ℕ → ℕ
+count-code kind b = cond (ltb 255 b) 1 (cond (eqb kind 0) (cond (eqb b 1) 0 9) (cond (ltb 8 b) 14 0))
+
+-- "for kind 1 a final expression"
+unfoldable pub final-scan : ℕ → List ℕ → Walk → Walk
+final-scan kind s w = cond (eqb kind 0) w (read 3 16 s w)
+
+-- from the entry count on
+unfoldable pub body-scan : ℕ → List ℕ → Walk → Walk
+body-scan kind s w =
+    let e = getD s (w .at) 256 in
+    cond (eqb (w .code) 0)
+    (cond (eqb (count-code kind e) 0)
+    (cond (leb (length s) (w .at)) (blank 1) (final-scan kind s (entries-scan e kind s (moved w (w .at + 1) e))))
+    (blank (count-code kind e)))
+    w
+
+-- the whole reading: header, kind, chain count, chains, entries, final expression, left-over bytes
+unfoldable pub plan-scan : List ℕ → Walk
+plan-scan s =
+    let kind = getD s 5 256 in
+    let count = getD s 6 256 in
+    cond (eqb (header-code 0x57 s) 0)
+    (cond (ltb 255 kind) (blank 1)
+    (cond (ltb 1 kind) (blank 9)
+    (cond (ltb 255 count) (blank 1) (cond (ltb 8 count) (blank 14) (ended s (body-scan kind s (rows-scan count s (started 7))))))))
+    (blank (header-code 0x57 s))
+
+-- the number of the first refusal, 0 where the bytes are accepted
+abbrev pub plan-code : List ℕ → ℕ
+plan-code s = plan-scan s .code

@@ -1,0 +1,238 @@
+// Plans (document 01, worksheet `LPW`): judged and read.
+use terms::Walk;
+ghost use mathlib.Core.Path.{_≡_};
+ghost use Prim.Native.Nat.{ℕ, _+_, _≤_, _<_};
+ghost use lib.ListN.{length};
+ghost use Rattle.plan.specs.Plan.{filler-code, slot-code, row-code, row-word, row-step, rows-scan, reduction-code, moved, entry-scan, entries-scan, count-code, final-scan, body-scan, plan-scan, plan-code};
+
+// An unused key byte: 1 missing, 9 other than 0.
+fn filler_code_of(b: u16) -> u8
+    ensures { λ r. ⌜ r ≡ filler-code b ⌝ }
+{
+    if 255 < b {
+        return 1;
+    }
+    if b == 0 {
+        return 0;
+    }
+    9
+}
+
+// Key byte j of a path reduction of n keys.
+fn slot_code_of(n: u16, j: u16, b: u16) -> u8
+    requires { ⌜ j < 3 ⌝ }
+    ensures { λ r. ⌜ r ≡ slot-code n j b ⌝ }
+{
+    if j < n {
+        return terms::key_code(b, j + 1 == n);
+    }
+    filler_code_of(b)
+}
+
+// The first refusal of the six bytes of a path reduction at `at`, or 0.
+fn row_code_of(s: &[u8], at: usize) -> u8
+    requires { ⌜ at ≤ length (now s) ⌝ }
+    ensures { λ r. ⌜ r ≡ row-code (now (s .entry)) at ⌝ }
+{
+    let n = terms::byte(s, at);
+    let c = terms::code_of(n, 3);
+    if c != 0 {
+        return c;
+    }
+    let k1 = slot_code_of(n, 0, terms::byte(s, at + 1));
+    if k1 != 0 {
+        return k1;
+    }
+    let k2 = slot_code_of(n, 1, terms::byte(s, at + 2));
+    if k2 != 0 {
+        return k2;
+    }
+    let k3 = slot_code_of(n, 2, terms::byte(s, at + 3));
+    if k3 != 0 {
+        return k3;
+    }
+    terms::source_code(terms::byte(s, at + 4), terms::byte(s, at + 5))
+}
+
+fn wide(b: u16) -> u64
+    ensures { λ r. ⌜ (r ≡ b) × (r ≤ 65535) ⌝ }
+{
+    b as u64
+}
+
+// The six bytes as one number.
+fn row_word_of(s: &[u8], at: usize) -> u64
+    requires { ⌜ at ≤ length (now s) ⌝ }
+    ensures { λ r. ⌜ r ≡ row-word (now (s .entry)) at ⌝ }
+{
+    let keys = wide(terms::byte(s, at)) + 256 * wide(terms::byte(s, at + 1)) + 65536 * wide(terms::byte(s, at + 2));
+    let last = 16777216 * wide(terms::byte(s, at + 3));
+    let source = wide(terms::byte(s, at + 4)) + 256 * wide(terms::byte(s, at + 5));
+    keys + last + 4294967296 * source
+}
+
+// One path reduction more.
+fn row_step_of(s: &[u8], w: Walk) -> Walk
+    ensures { λ r. ⌜ r ≡ row-step (now (s .entry)) w ⌝ }
+{
+    let at = w.at;
+    let i = w.paths;
+    if s.len() <= at {
+        return terms::blank_of(1);
+    }
+    let c = row_code_of(s, at);
+    if c != 0 {
+        return terms::blank_of(c);
+    }
+    if 8 <= i {
+        return terms::blank_of(14);
+    }
+    let mut r = w;
+    r.at = at + 6;
+    r.paths = i + 1;
+    r.table[i] = row_word_of(s, at);
+    r
+}
+
+// The path reductions, k of them. A refusal is handed on.
+fn rows(s: &[u8], w: Walk, k: usize) -> Walk
+    ensures { λ r. ⌜ r ≡ rows-scan k (now (s .entry)) w ⌝ }
+{
+    let mut state = w;
+    let mut left = k;
+    while 0 < left {
+        if state.code != 0 {
+            return state;
+        }
+        state = row_step_of(s, state);
+        left -= 1;
+    }
+    state
+}
+
+// An entry's reduction byte: 0 for kind 0, one of the five for kind 1.
+fn reduction_code_of(kind: u16, b: u16) -> u8
+    ensures { λ r. ⌜ r ≡ reduction-code kind b ⌝ }
+{
+    if kind == 0 {
+        return filler_code_of(b);
+    }
+    terms::code_of(b, 5)
+}
+
+// An entry: its reduction byte and its expression.
+fn entry(s: &[u8], w: Walk, kind: u16) -> Walk
+    ensures { λ r. ⌜ r ≡ entry-scan kind (now (s .entry)) w ⌝ }
+{
+    let at = w.at;
+    if s.len() <= at {
+        return terms::blank_of(1);
+    }
+    let c = reduction_code_of(kind, terms::byte(s, at));
+    if c != 0 {
+        return terms::blank_of(c);
+    }
+    let mut next = w;
+    next.at = at + 1;
+    terms::read_term(s, next, terms::ENTRY, 16)
+}
+
+fn entries(s: &[u8], w: Walk, kind: u16, k: usize) -> Walk
+    ensures { λ r. ⌜ r ≡ entries-scan k kind (now (s .entry)) w ⌝ }
+{
+    let mut state = w;
+    let mut left = k;
+    while 0 < left {
+        if state.code != 0 {
+            return state;
+        }
+        state = entry(s, state, kind);
+        left -= 1;
+    }
+    state
+}
+
+// The entry count: "for kind 0 every e other than 1 is 9", above 8 is 14.
+fn count_code_of(kind: u16, b: u16) -> u8
+    ensures { λ r. ⌜ r ≡ count-code kind b ⌝ }
+{
+    if 255 < b {
+        return 1;
+    }
+    if kind == 0 {
+        if b == 1 {
+            return 0;
+        }
+        return 9;
+    }
+    if 8 < b {
+        return 14;
+    }
+    0
+}
+
+// The final expression of kind 1.
+fn final_of(s: &[u8], w: Walk, kind: u16) -> Walk
+    ensures { λ r. ⌜ r ≡ final-scan kind (now (s .entry)) w ⌝ }
+{
+    if kind == 0 {
+        return w;
+    }
+    terms::read_term(s, w, terms::FINAL, 16)
+}
+
+// The entries and the final expression, from the entry count on.
+fn body(s: &[u8], w: Walk, kind: u16) -> Walk
+    ensures { λ r. ⌜ r ≡ body-scan kind (now (s .entry)) w ⌝ }
+{
+    if w.code != 0 {
+        return w;
+    }
+    let at = w.at;
+    let e = terms::byte(s, at);
+    let c = count_code_of(kind, e);
+    if c != 0 {
+        return terms::blank_of(c);
+    }
+    if s.len() <= at {
+        return terms::blank_of(1);
+    }
+    let mut next = w;
+    next.at = at + 1;
+    next.reductions = e as usize;
+    final_of(s, entries(s, next, kind, e as usize), kind)
+}
+
+// The reading of a whole worksheet: its path reductions in the table, its terms and entries counted; or a refusal.
+pub fn scan(s: &[u8]) -> Walk
+    ensures { λ r. ⌜ r ≡ plan-scan (now (s .entry)) ⌝ }
+{
+    let h = terms::judge_header(s, 0x57);
+    if h != 0 {
+        return terms::blank_of(h);
+    }
+    let kind = terms::byte(s, 5);
+    if 255 < kind {
+        return terms::blank_of(1);
+    }
+    if 1 < kind {
+        return terms::blank_of(9);
+    }
+    let count = terms::byte(s, 6);
+    if 255 < count {
+        return terms::blank_of(1);
+    }
+    if 8 < count {
+        return terms::blank_of(14);
+    }
+    let paths = rows(s, terms::start(7), count as usize);
+    terms::finish(s, body(s, paths, kind))
+}
+
+// The number of the first refusal, 0 where the bytes are accepted.
+pub fn judge(s: &[u8]) -> u8
+    ensures { λ r. ⌜ r ≡ plan-code (now (s .entry)) ⌝ }
+{
+    let w = scan(s);
+    w.code
+}

@@ -70,7 +70,7 @@ module _ (s : List ℕ) (m : ℕ) (held : Walk → ℕ) (kept : (w w′ : Walk) 
       (f .0, f .1, f .2, (room .fine, room .shallow), room .terms)
 
 -- the state further on is as good
-moved-table : (w : Walk) (cs : List PathReduction) (at n : ℕ) → Table w cs → n ≤ 8 → Table (moved w at n) cs
+pub moved-table : (w : Walk) (cs : List PathReduction) (at n : ℕ) → Table w cs → n ≤ 8 → Table (moved w at n) cs
 unfolding moved
 moved-table w cs at n t h = record { legal = t .legal; count = t .count; few = t .few; rest = t .rest; holds = t .holds; size = t .size; few-reductions = h }
 
@@ -84,7 +84,7 @@ module _ (s : List ℕ) where
   unfolding entry-scan
   entry-walk kind w h c = rw (lt-leb (length s) (w .at) h, c) refl
 
-  entry-complete : (kind r : ℕ) (t : Term ℕ) (w : Walk) (cs : List PathReduction) (rest : List ℕ) → w .code ≡ 0 → Table w cs → reduction-code kind r ≡ 0
+  pub entry-complete : (kind r : ℕ) (t : Term ℕ) (w : Walk) (cs : List PathReduction) (rest : List ℕ) → w .code ≡ 0 → Table w cs → reduction-code kind r ≡ 0
       → drop (w .at) s ≡ r ∷ (expression-bytes 2 t ++ rest) → Expression (length cs) t → w .terms + terms unit t ≤ 64
       → Passed w (entry-scan kind s w) cs (suc (length (expression-bytes 2 t))) (terms unit t)
   unfolding moved leaf-step literal-tag leaf-tag
@@ -98,7 +98,7 @@ module _ (s : List ℕ) where
       subst (λ (v : Walk). Passed w v cs (suc (length (expression-bytes 2 t))) (terms unit t)) (sym (entry-walk kind w h (rw b c)))
       (record { code = a .code; at = omega (arith, a .at); terms = a .terms; reductions = a .reductions; table = a .table })
 
-  entry-sound : Bytes s → (kind : ℕ) (w : Walk) (cs : List PathReduction) → w .code ≡ 0 → Table w cs → entry-scan kind s w .code ≡ 0
+  pub entry-sound : Bytes s → (kind : ℕ) (w : Walk) (cs : List PathReduction) → w .code ≡ 0 → Table w cs → entry-scan kind s w .code ≡ 0
       → (r : ℕ) × (t : Term ℕ) × (rest : List ℕ) × (reduction-code kind r ≡ 0) × (drop (w .at) s ≡ r ∷ (expression-bytes 2 t ++ rest)) × Expression (length cs) t × (w .terms + terms unit t ≤ 64)
   unfolding moved leaf-step literal-tag leaf-tag blank entry-scan
   entry-sound bytes kind w cs z tb e = go (leb (length s) (w .at)) (eqb (reduction-code kind (getD s (w .at) 256)) 0) refl refl

@@ -1,3 +1,4 @@
 pub mod Laws
 pub mod PathRows
 pub mod Expressions
+pub mod Exact

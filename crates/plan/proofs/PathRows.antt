@@ -36,7 +36,7 @@ slot-key n j b h = rw (lt-ltb j n h) refl
 slot-filler : (n j b : ℕ) → n ≤ j → slot-code n j b ≡ filler-code b
 slot-filler n j b h = rw (le-ltb j n h) refl
 
-filler-zero : (b : ℕ) → filler-code b ≡ 0 → b ≡ 0
+pub filler-zero : (b : ℕ) → filler-code b ≡ 0 → b ≡ 0
 filler-zero b e = go (ltb 255 b) (eqb b 0) refl e
   where
     go : (x y : Bool) → eqb b 0 ≡ y → _≡_ {A = ℕ} (cond x 1 (cond y 0 9)) 0 → b ≡ 0

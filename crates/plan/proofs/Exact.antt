@@ -1,0 +1,260 @@
+-- THE READER OF PLANS ACCEPTS WHAT DOCUMENT 01 LAYS DOWN, AND THAT ONLY. Assumes nothing.
+use Prim.Native.Nat.{ℕ, zero, suc, _+_, _≤_, _<_}
+use mathlib.Core.Path.{_≡_, refl, sym, ap, ap₂, _∙_, subst}
+use mathlib.Core.Bool.{Bool, true, false, cond}
+use mathlib.Core.List.{List, [], _∷_, _++_, append-assoc, append-nil}
+use mathlib.Core.Option.{none}
+use native.Mathlib.Omega.{arith}
+use borrow.Author.Tests.{ltb-false, leb-false, eqb-true, eqb-false, le-ltb, lt-leb, eq-eqb, ne-eqb}
+use lib.Dec.{leb, ltb, eqb}
+use lib.ListN.{length, getD, drop, length-append, length-drop}
+use Rattle.meaning.specs.Limits.{BodyLegal, Expression, PlanLegal, entry-terms, plan-terms, terms, unit}
+use Rattle.meaning.specs.Plan.{Body, Plan, each-vertex, one-result}
+use Rattle.meaning.specs.Query.{PathReduction}
+use Rattle.terms.specs.declared.Walk.{Walk}
+use Rattle.terms.specs.Fields.{header-code}
+use Rattle.terms.specs.Terms.{blank, ended, leaf-step, leaf-tag, literal-tag, read, started}
+use Rattle.terms.specs.Text.{expression-bytes, header-bytes}
+use Rattle.terms.proofs.Header.{ended-code, ended-whole, header-accepted, header-found, started-table}
+use Rattle.terms.proofs.Laws.{handed-on}
+use Rattle.terms.proofs.Paths.{drop-at, nth, present}
+use Rattle.terms.proofs.Steps.{drop-on, there}
+use Rattle.terms.proofs.Table.{Table}
+use Rattle.wire.specs.Wire.{Bytes}
+use Rattle.plan.specs.Plan.{body-scan, count-code, entries-scan, entry-scan, final-scan, moved, plan-code, plan-scan, rows-scan}
+use Rattle.plan.specs.Text.{body-bytes, encode, entries-bytes, kind-of, rows-bytes}
+use Rattle.plan.proofs.Expressions.{Passed, entries-complete, entries-sound, entry-complete, entry-sound, expr-complete, expr-sound, moved-table}
+use Rattle.plan.proofs.PathRows.{RowsHeld, filler-zero, rows-complete, rows-sound}
+
+-- what the reader knows of an accepted plan: its path reductions in the table, and its terms
+pub record Scanned (w : Walk) (p : Plan) : Type 0 where
+  pub accepted : w .code ≡ 0
+  pub terms : w .terms ≡ plan-terms (p .body)
+  pub table : Table w (p .paths)
+
+-- so far on, with the same path reductions
+record Read (w w′ : Walk) (cs : List PathReduction) (n z : ℕ) : Type 0 where
+  pub code : w′ .code ≡ 0
+  pub at : w′ .at ≡ w .at + n
+  pub terms : w′ .terms ≡ z
+  pub table : Table w′ cs
+
+abbrev reductions-of : Walk → ℕ
+reductions-of w = w .reductions
+
+module _ (s : List ℕ) where
+  body-walk : (kind e : ℕ) (w : Walk) → w .code ≡ 0 → w .at < length s → getD s (w .at) 256 ≡ e → count-code kind e ≡ 0
+      → body-scan kind s w ≡ final-scan kind s (entries-scan e kind s (moved w (w .at + 1) e))
+  unfolding body-scan
+  body-walk kind e w z h b c = rw (eq-eqb (w .code) 0 z, b, c, lt-leb (length s) (w .at) h) refl
+
+  count-one : (e : ℕ) → e ≤ 8 → count-code 1 e ≡ 0
+  count-one e h = rw (le-ltb 255 e (omega arith), le-ltb 8 e h) refl
+
+  -- from the entry count on
+  body-complete : (b : Body) (w : Walk) (cs : List PathReduction) (rest : List ℕ) → w .code ≡ 0 → Table w cs → w .terms ≡ 0 → drop (w .at) s ≡ body-bytes b ++ rest
+      → BodyLegal (length cs) b → plan-terms b ≤ 64 → Read w (body-scan (kind-of b) s w) cs (length (body-bytes b)) (plan-terms b)
+  unfolding moved final-scan entries-scan leaf-step literal-tag leaf-tag
+  body-complete (each-vertex t) w cs rest z tb n e l k =
+      let h = there s (w .at) 1 (0 ∷ (expression-bytes 2 t ++ rest)) e in
+      let b : getD s (w .at) 256 ≡ 1 = rw (nth s (w .at) 0 (w .at) 256 (omega arith), e) refl in
+      let w1 : Walk = moved w (w .at + 1) 1 in
+      let next = drop-on s (w .at) 1 (1 ∷ []) (0 ∷ (expression-bytes 2 t ++ rest)) e refl in
+      let a = entry-complete s 0 0 t w1 cs rest z (moved-table w cs (w .at + 1) 1 tb (omega arith)) refl next l (omega arith) in
+      let walk : body-scan 0 s w ≡ entry-scan 0 s w1 = body-walk 0 1 w z h b refl ∙ rw (eq-eqb (w .code) 0 z) refl in
+      subst (λ (v : Walk). Read w v cs (length (body-bytes (each-vertex t))) (terms unit t)) (sym walk)
+      (record { code = a .code; at = omega (arith, a .at); terms = omega (arith, a .terms); table = a .table })
+  body-complete (one-result es t) w cs rest z tb n e l k =
+      let c = length es in
+      let e0 : drop (w .at) s ≡ length es ∷ (entries-bytes es ++ (expression-bytes 3 t ++ rest)) =
+      e ∙ ap (λ (x : List ℕ). length es ∷ x) (append-assoc (entries-bytes es) (expression-bytes 3 t) rest) in
+      let h = there s (w .at) c (entries-bytes es ++ (expression-bytes 3 t ++ rest)) e0 in
+      let b : getD s (w .at) 256 ≡ c = rw (nth s (w .at) 0 (w .at) 256 (omega arith), e0) refl in
+      let w1 : Walk = moved w (w .at + 1) c in
+      let next = drop-on s (w .at) 1 (c ∷ []) (entries-bytes es ++ (expression-bytes 3 t ++ rest)) e0 refl in
+      let a = entries-complete s es w1 cs (expression-bytes 3 t ++ rest) z (moved-table w cs (w .at + 1) c tb (l .0)) (l .1) next (omega arith) in
+      let w2 : Walk = entries-scan c 1 s w1 in
+      let e2 : drop (w2 .at) s ≡ expression-bytes 3 t ++ rest =
+      ap (λ (i : ℕ). drop i s) (a .at) ∙ drop-on s (w .at + 1) (length (entries-bytes es)) (entries-bytes es) (expression-bytes 3 t ++ rest) next refl in
+      let d = expr-complete s 3 reductions-of (λ w w′ p q. q) (λ w. refl) refl refl t w2 cs rest (a .code) (a .table) (omega (arith, a .reductions, l .0)) e2
+      (subst (λ (m : ℕ). Expression m t) (sym (a .reductions)) (l .2)) (omega (arith, a .terms)) in
+      let walk : body-scan 1 s w ≡ read 3 16 s w2 = body-walk 1 c w z h b (count-one c (l .0)) in
+      subst (λ (v : Walk). Read w v cs (length (body-bytes (one-result es t))) (plan-terms (one-result es t))) (sym walk)
+      (record {
+        code = d .code;
+        at = omega (arith, d .at, a .at, length-append (entries-bytes es) (expression-bytes 3 t));
+        terms = omega (arith, d .terms, a .terms);
+        table = d .table;
+      })
+
+-- the whole
+plan-walk : (s : List ℕ) (kind count : ℕ) → header-code 0x57 s ≡ 0 → getD s 5 256 ≡ kind → kind ≤ 1 → getD s 6 256 ≡ count → count ≤ 8
+    → plan-scan s ≡ ended s (body-scan kind s (rows-scan count s (started 7)))
+unfolding plan-scan
+plan-walk s kind count h k l c m = rw (h, k, le-ltb 255 kind (omega arith), le-ltb 1 kind l, c, le-ltb 255 count (omega arith), le-ltb 8 count m) refl
+
+kind-small : (b : Body) → kind-of b ≤ 1
+kind-small (each-vertex t) = omega arith
+kind-small (one-result es t) = omega arith
+
+-- THE ENCODING OF EVERY LEGAL PLAN IS ACCEPTED AND READ AS IT
+pub read-complete : (p : Plan) → PlanLegal 256 p → Scanned (plan-scan (encode p)) p
+unfolding started
+read-complete p l =
+    let s : List ℕ = encode p in
+    let n = length (p .paths) in
+    let a = rows-complete s (p .paths) (started 7) [] (body-bytes (p .body)) refl (started-table 7) (l .paths-legal) refl (omega (arith, l .few-paths)) in
+    let w1 : Walk = rows-scan n s (started 7) in
+    let e1 : drop (w1 .at) s ≡ body-bytes (p .body) ++ [] =
+    ap (λ (i : ℕ). drop i s) (a .at) ∙ drop-on s 7 (length (rows-bytes (p .paths))) (rows-bytes (p .paths)) (body-bytes (p .body)) refl refl ∙ sym (append-nil (body-bytes (p .body))) in
+    let b = body-complete s (p .body) w1 (p .paths) [] (a .code) (a .table) (a .terms) e1 (l .body-legal) (l .few-terms) in
+    let len = length-append (rows-bytes (p .paths)) (body-bytes (p .body)) in
+    let whole =
+    plan-walk s (kind-of (p .body)) n (header-accepted 0x57 (kind-of (p .body) ∷ n ∷ (rows-bytes (p .paths) ++ body-bytes (p .body)))) refl (kind-small (p .body)) refl (l .few-paths)
+    ∙ ended-whole s (body-scan (kind-of (p .body)) s w1) (omega (arith, b .at, a .at)) in
+    subst (λ (w : Walk). Scanned w p) (sym whole) (record { accepted = b .code; terms = b .terms; table = b .table })
+
+-- what an accepted text is: header, kind, count, and the rest read to its end
+accepted-parts : (s : List ℕ) → plan-code s ≡ 0
+    → (header-code 0x57 s ≡ 0) × (getD s 5 256 ≤ 1) × (getD s 6 256 ≤ 8) × (ended s (body-scan (getD s 5 256) s (rows-scan (getD s 6 256) s (started 7))) .code ≡ 0)
+unfolding plan-scan blank
+accepted-parts s e =
+    go (eqb (header-code 0x57 s) 0) (ltb 255 (getD s 5 256)) (ltb 1 (getD s 5 256)) (ltb 255 (getD s 6 256)) (ltb 8 (getD s 6 256)) refl refl refl refl refl e
+  where
+    go : (a b c d f : Bool) → eqb (header-code 0x57 s) 0 ≡ a → ltb 255 (getD s 5 256) ≡ b → ltb 1 (getD s 5 256) ≡ c → ltb 255 (getD s 6 256) ≡ d → ltb 8 (getD s 6 256) ≡ f
+        → cond a (cond b (blank 1) (cond c (blank 9) (cond d (blank 1) (cond f (blank 14) (ended s (body-scan (getD s 5 256) s (rows-scan (getD s 6 256) s (started 7)))))))) (blank (header-code 0x57 s)) .code ≡ 0
+        → (header-code 0x57 s ≡ 0) × (getD s 5 256 ≤ 1) × (getD s 6 256 ≤ 8) × (ended s (body-scan (getD s 5 256) s (rows-scan (getD s 6 256) s (started 7))) .code ≡ 0)
+    go false b c d f p q r t u z = absurd (eqb-false (header-code 0x57 s) 0 p z)
+    go true true c d f p q r t u z = absurd (omega arith)
+    go true false true d f p q r t u z = absurd (omega arith)
+    go true false false true f p q r t u z = absurd (omega arith)
+    go true false false false true p q r t u z = absurd (omega arith)
+    go true false false false false p q r t u z = (eqb-true (header-code 0x57 s) 0 p, ltb-false 1 (getD s 5 256) r, ltb-false 8 (getD s 6 256) u, z)
+
+-- a refused state is handed on
+body-handed : (kind : ℕ) (s : List ℕ) (w : Walk) → (w .code ≡ 0 → ⊥) → body-scan kind s w ≡ w
+unfolding body-scan
+body-handed kind s w n = rw (ne-eqb (w .code) 0 n) refl
+
+rows-accepted : (kind : ℕ) (s : List ℕ) (w : Walk) → body-scan kind s w .code ≡ 0 → w .code ≡ 0
+rows-accepted kind s w e = go (eqb (w .code) 0) refl
+  where
+    go : (b : Bool) → eqb (w .code) 0 ≡ b → w .code ≡ 0
+    go true p = eqb-true (w .code) 0 p
+    go false p = let n = eqb-false (w .code) 0 p in sym (ap (λ (v : Walk). v .code) (body-handed kind s w n)) ∙ e
+
+-- the entry count and what follows it, of an accepted text
+module _ (s : List ℕ) (bytes : Bytes s) where
+  abbrev Body-found : ℕ → Walk → List PathReduction → Type 0
+  Body-found kind w cs = (b : Body) × (rest : List ℕ) × (kind-of b ≡ kind) × (drop (w .at) s ≡ body-bytes b ++ rest) × BodyLegal (length cs) b × (plan-terms b ≤ 64)
+
+  body-starts : (kind : ℕ) (w : Walk) → w .code ≡ 0 → body-scan kind s w .code ≡ 0
+      → (w .at < length s) × (count-code kind (getD s (w .at) 256) ≡ 0) × (final-scan kind s (entries-scan (getD s (w .at) 256) kind s (moved w (w .at + 1) (getD s (w .at) 256))) .code ≡ 0)
+  unfolding body-scan blank
+  body-starts kind w z e = go (eqb (count-code kind (getD s (w .at) 256)) 0) (leb (length s) (w .at)) refl refl (rw (eq-eqb (w .code) 0 z) at e)
+    where
+      go : (a b : Bool) → eqb (count-code kind (getD s (w .at) 256)) 0 ≡ a → leb (length s) (w .at) ≡ b
+          → cond a (cond b (blank 1) (final-scan kind s (entries-scan (getD s (w .at) 256) kind s (moved w (w .at + 1) (getD s (w .at) 256))))) (blank (count-code kind (getD s (w .at) 256))) .code ≡ 0
+          → (w .at < length s) × (count-code kind (getD s (w .at) 256) ≡ 0) × (final-scan kind s (entries-scan (getD s (w .at) 256) kind s (moved w (w .at + 1) (getD s (w .at) 256))) .code ≡ 0)
+      go false b p q x = absurd (eqb-false (count-code kind (getD s (w .at) 256)) 0 p x)
+      go true true p q x = absurd (omega arith)
+      go true false p q x = (leb-false (length s) (w .at) q, eqb-true (count-code kind (getD s (w .at) 256)) 0 p, x)
+
+  count-zero : (b : ℕ) → count-code 0 b ≡ 0 → b ≡ 1
+  count-zero b e = go (ltb 255 b) (eqb b 1) refl e
+    where
+      go : (x y : Bool) → eqb b 1 ≡ y → _≡_ {A = ℕ} (cond x 1 (cond y 0 9)) 0 → b ≡ 1
+      go true y p z = absurd (omega arith)
+      go false true p z = eqb-true b 1 p
+      go false false p z = absurd (omega arith)
+
+  count-few : (b : ℕ) → count-code 1 b ≡ 0 → b ≤ 8
+  count-few b e = go (ltb 255 b) (ltb 8 b) refl e
+    where
+      go : (x y : Bool) → ltb 8 b ≡ y → _≡_ {A = ℕ} (cond x 1 (cond y 14 0)) 0 → b ≤ 8
+      go true y p z = absurd (omega arith)
+      go false true p z = absurd (omega arith)
+      go false false p z = ltb-false 8 b p
+
+  body-sound : (kind : ℕ) (w : Walk) (cs : List PathReduction) → kind ≤ 1 → w .code ≡ 0 → Table w cs → w .terms ≡ 0 → body-scan kind s w .code ≡ 0 → Body-found kind w cs
+  unfolding moved final-scan entries-scan leaf-step literal-tag leaf-tag
+  body-sound zero w cs k z tb n e =
+      let p = body-starts 0 w z e in
+      let one = count-zero (getD s (w .at) 256) (p .1) in
+      let w1 : Walk = moved w (w .at + 1) 1 in
+      let r : entry-scan 0 s w1 .code ≡ 0 = rw (eq-eqb (w .code) 0 z) at (rw one at (p .2)) in
+      let f = entry-sound s bytes 0 w1 cs z (moved-table w cs (w .at + 1) 1 tb (omega arith)) r in (
+        each-vertex (f .1),
+        f .2,
+        refl,
+        drop-at s (w .at) (p .0) ∙ ap₂ (λ (x : ℕ) (l : List ℕ). x ∷ l) one (f .4 ∙ ap (λ (x : ℕ). x ∷ (expression-bytes 2 (f .1) ++ f .2)) (filler-zero (f .0) (f .3))),
+        f .5,
+        omega (arith, f .6),
+      )
+  body-sound (suc zero) w cs k z tb n e =
+      let p = body-starts 1 w z e in
+      let c = getD s (w .at) 256 in
+      let few = count-few c (p .1) in
+      let w1 : Walk = moved w (w .at + 1) c in
+      let w2 : Walk = entries-scan c 1 s w1 in
+      let two = first-read w2 (p .2) in
+      let t1 = moved-table w cs (w .at + 1) c tb few in
+      let f = entries-sound s bytes c w1 cs z t1 (omega arith) two in
+      let es = f .0 in
+      let walk : entries-scan (length (f .0)) 1 s w1 ≡ w2 = ap (λ (m : ℕ). entries-scan m 1 s w1) (f .2) in
+      let a = subst (λ (v : Walk). Passed w1 v cs (length (entries-bytes (f .0))) (entry-terms (f .0))) walk (entries-complete s (f .0) w1 cs (f .1) z t1 (f .3) (f .4) (f .5)) in
+      let g = expr-sound s 3 reductions-of (λ w w′ p q. q) (λ w. refl) refl refl bytes w2 cs two (a .table) (omega (arith, a .reductions)) (p .2) in
+      let rest : f .1 ≡ expression-bytes 3 (g .0) ++ g .1 =
+      sym (ap (λ (i : ℕ). drop i s) (a .at) ∙ drop-on s (w .at + 1) (length (entries-bytes (f .0))) (entries-bytes (f .0)) (f .1) (f .4) refl) ∙ g .2 in (
+        one-result (f .0) (g .0),
+        g .1,
+        refl,
+        drop-at s (w .at) (p .0)
+            ∙ ap₂ (λ (x : ℕ) (l : List ℕ). x ∷ l) (sym (f .2)) (f .4 ∙ ap (λ (l : List ℕ). entries-bytes (f .0) ++ l) rest ∙ sym (append-assoc (entries-bytes (f .0)) (expression-bytes 3 (g .0)) (g .1))),
+        (omega (arith, f .2), f .3, subst (λ (m : ℕ). Expression m (g .0)) (a .reductions ∙ sym (f .2)) (g .3)),
+        omega (arith, g .4, a .terms),
+      )
+    where
+      first-read : (v : Walk) → read 3 16 s v .code ≡ 0 → v .code ≡ 0
+      first-read v q = pick (eqb (v .code) 0) refl
+        where
+          pick : (b : Bool) → eqb (v .code) 0 ≡ b → v .code ≡ 0
+          pick true x = eqb-true (v .code) 0 x
+          pick false x = sym (ap (λ (u : Walk). u .code) (handed-on 3 16 s v (eqb-false (v .code) 0 x))) ∙ q
+  body-sound (suc (suc kind)) w cs k z tb n e = absurd (omega arith)
+
+-- ACCEPTED BYTES ARE THE ENCODING OF A LEGAL PLAN
+pub read-sound : (s : List ℕ) → Bytes s → plan-code s ≡ 0 → (p : Plan) × PlanLegal 256 p × (encode p ≡ s)
+unfolding started
+read-sound s bytes e =
+    let p = accepted-parts s e in
+    let kind = getD s 5 256 in
+    let count = getD s 6 256 in
+    let w1 : Walk = rows-scan (getD s 6 256) s (started 7) in
+    let z = ended-code s (body-scan kind s w1) (p .3) in
+    let ok = rows-accepted kind s w1 (z .0) in
+    let f = rows-sound s bytes count (started 7) [] refl (started-table 7) (omega (arith, p .2)) ok in
+    let cs = f .0 in
+    let walk : rows-scan (length (f .0)) s (started 7) ≡ w1 = ap (λ (m : ℕ). rows-scan m s (started 7)) (f .2) in
+    let a = subst (λ (v : Walk). RowsHeld (started 7) v (f .0) (length (rows-bytes (f .0)))) walk
+    (rows-complete s (f .0) (started 7) [] (f .1) refl (started-table 7) (f .3) (f .4) (omega (arith, p .2, f .2))) in
+    let b = body-sound s bytes kind w1 (f .0) (p .1) ok (a .table) (a .terms) (z .0) in
+    let c = subst (λ (k : ℕ). Read w1 (body-scan k s w1) (f .0) (length (body-bytes (b .0))) (plan-terms (b .0))) (b .2)
+    (body-complete s (b .0) w1 (f .0) (b .1) ok (a .table) (a .terms) (b .3) (b .4) (b .5)) in
+    let rest : f .1 ≡ body-bytes (b .0) ++ b .1 =
+    sym (ap (λ (i : ℕ). drop i s) (a .at) ∙ drop-on s 7 (length (rows-bytes (f .0))) (rows-bytes (f .0)) (f .1) (f .4) refl) ∙ b .3 in
+    let len = length-append (rows-bytes (f .0)) (f .1) in
+    let len2 = length-append (body-bytes (b .0)) (b .1) in
+    let none : b .1 ≡ [] = no-rest (b .1) (omega (arith, length-drop 7 s, ap length (f .4), ap length rest, z .1, c .at, a .at)) in (
+      record { paths = f .0; body = b .0 },
+      record { few-paths = omega (arith, f .2, p .2); paths-legal = f .3; body-legal = b .4; few-terms = b .5 },
+      sym (header-found 0x57 s (p .0)
+      ∙ ap (λ (t : List ℕ). header-bytes 0x57 ++ t) (drop-at s 5 (present s 5 (omega (arith, p .1)))
+      ∙ ap₂ (λ (x : ℕ) (t : List ℕ). x ∷ t) (sym (b .2)) (drop-at s 6 (present s 6 (omega (arith, p .2)))
+      ∙ ap₂ (λ (x : ℕ) (t : List ℕ). x ∷ t) (sym (f .2)) (f .4
+      ∙ ap (λ (t : List ℕ). rows-bytes (f .0) ++ t) (rest ∙ ap (λ (t : List ℕ). body-bytes (b .0) ++ t) none ∙ append-nil (body-bytes (b .0))))))),
+    )
+  where
+    no-rest : (r : List ℕ) → length r ≡ 0 → r ≡ []
+    no-rest [] z = refl
+    no-rest (x ∷ r) z = absurd (omega arith)

@@ -249,10 +249,10 @@ read-sound s bytes e =
       record { paths = f .0; body = b .0 },
       record { few-paths = omega (arith, f .2, p .2); paths-legal = f .3; body-legal = b .4; few-terms = b .5 },
       sym (header-found 0x57 s (p .0)
-      ∙ ap (λ (t : List ℕ). header-bytes 0x57 ++ t) (drop-at s 5 (present s 5 (omega (arith, p .1)))
-      ∙ ap₂ (λ (x : ℕ) (t : List ℕ). x ∷ t) (sym (b .2)) (drop-at s 6 (present s 6 (omega (arith, p .2)))
-      ∙ ap₂ (λ (x : ℕ) (t : List ℕ). x ∷ t) (sym (f .2)) (f .4
-      ∙ ap (λ (t : List ℕ). rows-bytes (f .0) ++ t) (rest ∙ ap (λ (t : List ℕ). body-bytes (b .0) ++ t) none ∙ append-nil (body-bytes (b .0))))))),
+          ∙ ap (λ (t : List ℕ). header-bytes 0x57 ++ t) (drop-at s 5 (present s 5 (omega (arith, p .1)))
+          ∙ ap₂ (λ (x : ℕ) (t : List ℕ). x ∷ t) (sym (b .2)) (drop-at s 6 (present s 6 (omega (arith, p .2)))
+          ∙ ap₂ (λ (x : ℕ) (t : List ℕ). x ∷ t) (sym (f .2)) (f .4
+          ∙ ap (λ (t : List ℕ). rows-bytes (f .0) ++ t) (rest ∙ ap (λ (t : List ℕ). body-bytes (b .0) ++ t) none ∙ append-nil (body-bytes (b .0))))))),
     )
   where
     no-rest : (r : List ℕ) → length r ≡ 0 → r ≡ []

@@ -19,7 +19,6 @@ use Rattle.terms.proofs.Paths.{code-range, code-zero, drop-at, nth}
 use Rattle.terms.proofs.Shape.{term-paths}
 use Rattle.terms.proofs.Steps.{drop-on, there}
 use Rattle.terms.proofs.Table.{Table}
-use Rattle.walks.specs.Keys.{kept}
 use Rattle.walks.specs.Lists.{All}
 use Rattle.wire.specs.Wire.{Bytes}
 use Rattle.plan.specs.Plan.{entries-scan, entry-scan, moved, reduction-code}

@@ -23,7 +23,6 @@ use Rattle.terms.proofs.Steps.{drop-on, there}
 use Rattle.terms.proofs.Table.{Table}
 use Rattle.walks.specs.Keys.{all-known, early, in-order, known, legal-keys}
 use Rattle.walks.specs.Lists.{All}
-use Rattle.walks.specs.Rounds.{same}
 use Rattle.walks.proofs.Tests.{and-both, and-left, and-right}
 use Rattle.wire.specs.Wire.{Bytes}
 use Rattle.plan.specs.Plan.{filler-code, row-code, row-step, row-word, rows-scan, slot-code}

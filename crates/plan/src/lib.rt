@@ -65,7 +65,9 @@ fn row_word_of(s: &[u8], at: usize) -> u64
     requires { ⌜ at ≤ length (now s) ⌝ }
     ensures { λ r. ⌜ r ≡ row-word (now (s .entry)) at ⌝ }
 {
-    let keys = wide(terms::byte(s, at)) + 256 * wide(terms::byte(s, at + 1)) + 65536 * wide(terms::byte(s, at + 2));
+    let keys = wide(terms::byte(s, at))
+        + 256 * wide(terms::byte(s, at + 1))
+        + 65536 * wide(terms::byte(s, at + 2));
     let last = 16777216 * wide(terms::byte(s, at + 3));
     let source = wide(terms::byte(s, at + 4)) + 256 * wide(terms::byte(s, at + 5));
     keys + last + 4294967296 * source

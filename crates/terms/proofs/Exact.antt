@@ -10,9 +10,6 @@ use lib.ListN.{length, getD, drop, length-append}
 use Rattle.meaning.specs.Limits.{EveryBody, PathFits, depth, terms, unit}
 use Rattle.meaning.specs.Plan.{put-all}
 use Rattle.meaning.specs.Query.{PathReduction, ResultTerm, Term, VertexReduction, VertexTerm, apply, bodies, leaf, leaves, literal}
-use Rattle.value.specs.Steps.{step}
-use Rattle.value.specs.Value.{number}
-use Rattle.walks.specs.Keys.{kept}
 use Rattle.wire.specs.Wire.{Bytes, le16}
 use Rattle.terms.specs.declared.Walk.{Walk}
 use Rattle.terms.specs.Fields.{code-of, path-code}

@@ -8,7 +8,6 @@ use native.Mathlib.Nat.{not-suc-le-zero, le-of-suc-le-suc}
 use borrow.Author.Tests.{ne-eqb}
 use lib.Dec.{leb, eqb, eqb·suc-suc}
 use lib.ListN.{length, getD, List·getD-eq-default}
-use Rattle.walks.specs.Keys.{table}
 use Rattle.terms.specs.declared.Step.{Step}
 use Rattle.terms.specs.declared.Walk.{Walk}
 use Rattle.terms.specs.Fields.{key-code, keys-code, then}

@@ -14,7 +14,6 @@ use lib.Seq.{ext-getD, getD-drop, drop-cons, drop-drop, drop-append-seam}
 use Rattle.meaning.specs.Limits.{PathFits}
 use Rattle.meaning.specs.Query.{PathReduction}
 use Rattle.walks.specs.Keys.{all-known, early, in-order, known, legal-keys}
-use Rattle.walks.specs.Meaning.{last}
 use Rattle.walks.proofs.Tests.{and-both, and-left, and-right}
 use Rattle.wire.specs.Wire.{Bytes, le16}
 use Rattle.terms.specs.Fields.{code-of, key-code, keys-code, path-code, path-word, source-code, then, used}

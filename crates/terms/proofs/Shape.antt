@@ -12,8 +12,6 @@ use Rattle.meaning.specs.Limits.{Every, depth, terms}
 use Rattle.meaning.specs.Plan.{among, put, put-all}
 use Rattle.meaning.specs.Query.{PathReduction, Term, apply, leaf, literal}
 use Rattle.meaning.proofs.Paths.{put-all-append}
-use Rattle.value.specs.Steps.{step}
-use Rattle.walks.specs.Meaning.{last}
 use Rattle.wire.specs.Wire.{Bytes, le32}
 use Rattle.terms.specs.declared.Walk.{Walk}
 use Rattle.terms.specs.Fields.{code-of}

@@ -5,7 +5,6 @@ use mathlib.Core.List.{List}
 use lib.Dec.{ltb, eqb}
 use lib.ListN.{length, getD}
 use Rattle.walks.specs.Keys.{early, known}
-use Rattle.walks.specs.Meaning.{last}
 
 -- the first refusal of two judgements, one after the other
 abbrev pub then : ℕ → ℕ → ℕ

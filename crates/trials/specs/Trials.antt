@@ -1,5 +1,4 @@
--- The trials of document 01 that are marked P, as one table. (The one about reading keys 5,2 and 2,5 joins with the reader of queries, and the one about bytes
--- with fusing.)
+-- The trials of document 01 that are marked P, as one table. (The one about the bytes of a worksheet joins with fusing.)
 use Prim.Native.Nat.{ℕ}
 use mathlib.Core.List.{List, [], _∷_}
 use mathlib.Core.Option.{Option, none, some}
@@ -62,4 +61,15 @@ trials =
     ∷ trial (graph 1 []) (6 ∷ []) 0 (some 1) (Number 65535 ∷ [])
     -- "0→1 size 9, 1→0 size 2, key 6 from 0: 2, 2; rounds 4, which is 2 × n"
     ∷ trial (graph 2 (edge 0 1 0 9 ∷ edge 1 0 0 2 ∷ [])) (6 ∷ []) 0 (some 4) (Number 2 ∷ Number 2 ∷ [])
+    ∷ []
+
+-- "keys 5,2: refused 10. Keys 2,5: read": a question of one chain from 0, with the number that reading it gives
+pub record Reading : Type 0 where
+  pub bytes : List ℕ
+  pub number : ℕ
+
+abbrev pub readings : List Reading
+readings =
+    record { bytes = 0x4c ∷ 0x50 ∷ 0x51 ∷ 0x01 ∷ 0x00 ∷ 0x00 ∷ 0x10 ∷ 0x02 ∷ 0x05 ∷ 0x02 ∷ 0x00 ∷ 0x00 ∷ []; number = 10 }
+    ∷ record { bytes = 0x4c ∷ 0x50 ∷ 0x51 ∷ 0x01 ∷ 0x00 ∷ 0x00 ∷ 0x10 ∷ 0x02 ∷ 0x02 ∷ 0x05 ∷ 0x00 ∷ 0x00 ∷ []; number = 0 }
     ∷ []

@@ -16,7 +16,7 @@ use Rattle.walks.specs.declared.Extreme.the-variants.{Greatest, Least}
 use Rattle.walks.specs.declared.KeyRow.{KeyRow}
 use Rattle.walks.specs.declared.Measure.{Measure}
 use Rattle.walks.specs.declared.Measure.the-variants.{Bottleneck, Edges, Source, Weight}
-use Rattle.walks.specs.Keys.{Better, Good, early, good?, kept, measure, no-key, row, table}
+use Rattle.walks.specs.Keys.{Good, early, good?, kept, measure, no-key, row, table}
 use Rattle.walks.specs.Walks.{Edge, extend}
 use Rattle.walks.proofs.Tests.{and-left, and-right}
 
@@ -51,7 +51,11 @@ unfolding row
 each-row f d t zero = d
 each-row f d t (suc k) = every-at f table d t k
 
--- the order of values
+-- the order of values: x is better than y
+abbrev pub Better : Extreme → ℕ → ℕ → Type 0
+Better Least x y = x < y
+Better Greatest x y = y < x
+
 pub good-refl : (d : Extreme) (x : ℕ) → Good d x x
 good-refl Least x = omega arith
 good-refl Greatest x = omega arith

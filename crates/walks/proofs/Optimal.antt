@@ -7,11 +7,11 @@ use mathlib.Core.Bool.{Bool, true, false, cond}
 use mathlib.Core.List.{List, [], _∷_}
 use mathlib.Core.Option.{Option, none, some}
 use lib.Dec.{T}
-use Rattle.walks.specs.Keys.{Better, Good, in-order, kept}
+use Rattle.walks.specs.Keys.{Good, in-order, kept}
 use Rattle.walks.specs.Meaning.{Figures, Keep, Kept, Listed}
 use Rattle.walks.specs.Rounds.{best, extend-all, precedes, through}
 use Rattle.walks.specs.Walks.{Network, WalkSet, edge, figure, figures}
-use Rattle.walks.proofs.Keys.{better-not-good, better-or-equal, good-anti, good-of-better, good-of-eq}
+use Rattle.walks.proofs.Keys.{Better, better-not-good, better-or-equal, good-anti, good-of-better, good-of-eq}
 use Rattle.walks.proofs.Order.{Lex, extend-figures, lex-anti, lex-ext, lex-refl, lex-test, lex-trans}
 
 abbrev pub Optimal : Network → List ℕ → WalkSet → Option (List ℕ) → Type 0

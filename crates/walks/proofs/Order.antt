@@ -6,10 +6,10 @@ use mathlib.Core.Bool.{Bool, true, false, cond}
 use mathlib.Core.List.{List, [], _∷_}
 use borrow.Author.Tests.{eqb-true, eqb-false}
 use lib.Dec.{T, eqb}
-use Rattle.walks.specs.Keys.{Better, Good, early, good?, in-order, kept, measure}
+use Rattle.walks.specs.Keys.{Good, early, good?, in-order, kept, measure}
 use Rattle.walks.specs.Rounds.{bases, extend-all, precedes}
 use Rattle.walks.specs.Walks.{Edge, Network, base, edge, extend, figure, figures}
-use Rattle.walks.proofs.Keys.{better-not-good, better-or-equal, better-trans, extend-better, extend-good, good-of-better, good-of-eq, good?-false, good?-true}
+use Rattle.walks.proofs.Keys.{Better, better-not-good, better-or-equal, better-trans, extend-better, extend-good, good-of-better, good-of-eq, good?-false, good?-true}
 use Rattle.walks.proofs.Tests.{and-left, and-right}
 
 -- xs is at least as good as ys

@@ -1,6 +1,6 @@
 -- The table of keys (document 01, "Layouts"): a key is a number, and its row says which value of a walk it looks at, whether the least or the greatest is kept,
 -- and whether it may stand before the last key.
-use Prim.Native.Nat.{ℕ, zero, suc, _≤_, _<_}
+use Prim.Native.Nat.{ℕ, zero, suc, _≤_}
 use mathlib.Core.Bool.{Bool, true, false, _&&_}
 use mathlib.Core.List.{List, [], _∷_}
 use lib.Dec.{leb}
@@ -44,14 +44,10 @@ kept k = row k .kept
 abbrev pub early : ℕ → Bool
 early k = row k .early
 
--- x is at least as good as y; x is better than y; the first as a test
+-- x is at least as good as y; the same as a test
 abbrev pub Good : Extreme → ℕ → ℕ → Type 0
 Good Least x y = x ≤ y
 Good Greatest x y = y ≤ x
-
-abbrev pub Better : Extreme → ℕ → ℕ → Type 0
-Better Least x y = x < y
-Better Greatest x y = y < x
 
 abbrev pub good? : Extreme → ℕ → ℕ → Bool
 good? Least x y = leb x y

@@ -2,3 +2,4 @@ pub mod Laws
 pub mod PathRows
 pub mod Expressions
 pub mod Exact
+pub mod Unique

@@ -1,0 +1,22 @@
+-- DIFFERENT LEGAL QUERIES HAVE DIFFERENT BYTES: accepted bytes are read as one query. Assumes nothing.
+use mathlib.Core.Path.{_≡_, refl, sym, ap, _∙_}
+use mathlib.Core.List.{[], append-nil}
+use native.Mathlib.Omega.{arith}
+use Rattle.meaning.specs.Limits.{QueryLegal}
+use Rattle.meaning.specs.Query.{Query, each, single}
+use Rattle.terms.specs.Text.{header-bytes, place-bytes, result-bytes}
+use Rattle.terms.proofs.Unique.{place-split, result-split, same-head, same-split}
+use Rattle.query.specs.Query.{body-bytes, encode}
+
+body-same : (q r : Query) → QueryLegal 256 q → QueryLegal 256 r → body-bytes q ≡ body-bytes r → q ≡ r
+body-same (each t) (each u) l m e =
+    let p = same-head 0 0 _ _ e .1 in
+    ap each (place-split t u [] [] (l .legal) (m .legal) (append-nil (place-bytes t) ∙ p ∙ sym (append-nil (place-bytes u))) .0)
+body-same (each t) (single u) l m e = absurd (omega (arith, same-head 0 1 _ _ e .0))
+body-same (single t) (each u) l m e = absurd (omega (arith, same-head 1 0 _ _ e .0))
+body-same (single t) (single u) l m e =
+    let p = same-head 1 1 _ _ e .1 in
+    ap single (result-split t u [] [] (l .legal) (m .legal) (append-nil (result-bytes t) ∙ p ∙ sym (append-nil (result-bytes u))) .0)
+
+pub encode-unique : (q r : Query) → QueryLegal 256 q → QueryLegal 256 r → encode q ≡ encode r → q ≡ r
+encode-unique q r l m e = body-same q r l m (same-split (header-bytes 0x51) (header-bytes 0x51) (body-bytes q) (body-bytes r) refl e .1)

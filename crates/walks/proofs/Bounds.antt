@@ -1,5 +1,5 @@
 -- How large the figures are, so that a program can hold them in its numbers. Assumes nothing.
-use Prim.Native.Nat.{ℕ, suc, _+_, _*_, _≤_, _<_}
+use Prim.Native.Nat.{ℕ, suc, _+_, _*_, _≤_, _<_, max}
 use mathlib.Core.Path.{_≡_, refl, ap, subst}
 use mathlib.Core.List.{List, [], _∷_}
 use mathlib.Core.Option.{Option, none, some}
@@ -48,22 +48,22 @@ module _ (N : Network) where
   pub state-length : (ks : List ℕ) → T (in-order ks) → (r v : ℕ) (xs : List ℕ) → state N ks r v ≡ some xs → length xs ≡ length ks
   state-length ks ok r v xs e = let x = state-walk ks ok r v xs e in rw (← (x .3)) (figures-length ks (x .0) (x .1))
 
--- after r rounds no figure is above 65,535 × (r + 1), on at most 65,536 vertices and with weights of at most 65,535
+-- after r rounds no figure is above 65,535 × r, or 65,535 for r = 0, on at most 65,536 vertices and with weights of at most 65,535
 module _ (N : Network) (fits : Fits N) (few : N .vertices ≤ 65536) (light : (i : ℕ) → i < N .edges → N .edge i .weight ≤ 65535) where
-  figure-bound : (m : Measure) (r s : ℕ) (w : List ℕ) (v : ℕ) → Within N r v s w → along N m (base m s) w ≤ 65535 * suc r
+  figure-bound : (m : Measure) (r s : ℕ) (w : List ℕ) (v : ℕ) → Within N r v s w → along N m (base m s) w ≤ 65535 * max 1 r
   figure-bound Edges r s w v p = omega (arith, edges-is N 0 w, p .2)
   figure-bound Weight r s w v p = omega (arith, weight-le N 65535 light w 0 s v (p .1), p .2)
   figure-bound Source r s w v p = omega (arith, source-is N s w, fits .source-fits s (p .0))
   figure-bound Bottleneck r s w v p = omega (arith, bottleneck-le N 65535 w)
 
-  figures-bound : (ks : List ℕ) (r s : ℕ) (w : List ℕ) (v : ℕ) → Within N r v s w → All (λ x. x ≤ 65535 * suc r) (figures N ks s w)
+  figures-bound : (ks : List ℕ) (r s : ℕ) (w : List ℕ) (v : ℕ) → Within N r v s w → All (λ x. x ≤ 65535 * max 1 r) (figures N ks s w)
   figures-bound [] r s w v p = tt
   figures-bound (k ∷ ks) r s w v p = (figure-bound (measure k) r s w v p, figures-bound ks r s w v p)
 
-  pub state-bound : (ks : List ℕ) → T (in-order ks) → (r v : ℕ) (xs : List ℕ) → state N ks r v ≡ some xs → All (λ x. x ≤ 65535 * suc r) xs
+  pub state-bound : (ks : List ℕ) → T (in-order ks) → (r v : ℕ) (xs : List ℕ) → state N ks r v ≡ some xs → All (λ x. x ≤ 65535 * max 1 r) xs
   state-bound ks ok r v xs e =
       let x = state-walk N ks ok r v xs e in
-      subst (All (λ y. y ≤ 65535 * suc r)) (x .3) (figures-bound ks r (x .0) (x .1) v (x .2))
+      subst (All (λ y. y ≤ 65535 * max 1 r)) (x .3) (figures-bound ks r (x .0) (x .1) v (x .2))
 
   last-bound : (b : ℕ) (xs : List ℕ) → All (λ x. x ≤ b) xs → last xs ≤ b
   last-bound b [] h = omega arith
@@ -76,4 +76,4 @@ module _ (N : Network) (fits : Fits N) (few : N .vertices ≤ 65536) (light : (i
     where
       go : (o : Option (List ℕ)) → state N ks r v ≡ o → Held (value o)
       go none e = tt
-      go (some xs) e = omega (arith, last-bound (65535 * suc r) xs (state-bound ks ok r v xs e))
+      go (some xs) e = omega (arith, last-bound (65535 * max 1 r) xs (state-bound ks ok r v xs e))

@@ -1,0 +1,245 @@
+// Tries the readers and the writer of maps on the cases of cases.bin, which tests/make_cases.py writes: a case is a kind byte, the
+// number expected, a 16-bit length and as many bytes. Prints the first cases that differ, then how many there are of each kind,
+// and how many differ.
+use graph::EdgeTable;
+ghost use Rattle.io.specs.Counts.{Counts};
+ghost use mathlib.Core.Path.{_≡_};
+ghost use Prim.Native.Nat.{_≤_, _<_};
+ghost use lib.ListN.{length};
+
+const OUT: i32 = 1;
+
+// Found where what was written is wrong, and of a case that is cut or of no kind. No case expects it.
+const WRONG: u8 = 255;
+
+// An answer that no writer gives: 65,536 and WRONG.
+const NOT_WRITTEN: u32 = 65791;
+
+// What the lent buffer is filled with.
+const FILL: u8 = 0xa5;
+
+// Where a case has its bytes, and where the next one starts.
+struct Case {
+    kind: u8,
+    expected: u8,
+    body: usize,
+    next: usize,
+}
+
+struct Score {
+    cases: u64,
+    differences: u64,
+    kinds: [u64; 5],
+}
+
+fn load(path: &[u8], buf: &mut [u8]) -> usize
+    ensures { λ r. ⌜ Counts r (now (buf .exit)) ⌝ }
+{
+    let fd = os::open_read(path);
+    if fd < 0 {
+        return io::count(0, buf);
+    }
+    let n = io::read_full(fd, buf);
+    libc::close(fd);
+    n
+}
+
+fn wide(b: u8) -> u16
+    ensures { λ r. ⌜ r ≤ 255 ⌝ }
+{
+    b as u16
+}
+
+// The 16-bit number at a place, 0 where there is none.
+fn number(s: &[u8], at: usize) -> u16 {
+    if at < s.len() {
+        if 2 <= s.len() - at {
+            return wide(s[at]) + 256 * wide(s[at + 1]);
+        }
+    }
+    0
+}
+
+// The case at a place. One that is cut is of no kind and the last.
+fn case_at(s: &[u8], at: usize) -> Case
+    requires { ⌜ at < length (now s) ⌝ }
+    ensures { λ r. ⌜ (at < r .next) × (r .next ≤ length (now (s .entry))) × (r .body ≤ r .next) ⌝ }
+{
+    let end = s.len();
+    if 4 <= end - at {
+        let body = at + 4;
+        let len = number(s, at + 2) as usize;
+        if len <= end - body {
+            return Case {
+                kind: s[at],
+                expected: s[at + 1],
+                body,
+                next: body + len,
+            };
+        }
+    }
+    Case {
+        kind: WRONG,
+        expected: 0,
+        body: end,
+        next: end,
+    }
+}
+
+// Place i of a buffer into which the first `done` bytes of a map were written.
+fn wanted(map: &[u8], done: usize, i: usize) -> u8 {
+    if i < done {
+        if i < map.len() {
+            return map[i];
+        }
+    }
+    FILL
+}
+
+// Whether the buffer holds the first `done` bytes of the map, and behind them what it was filled with.
+fn holds(out: &[u8], map: &[u8], done: usize) -> bool {
+    let mut i: usize = 0;
+    while i < out.len() {
+        if out[i] != wanted(map, done, i) {
+            return false;
+        }
+        i += 1;
+    }
+    true
+}
+
+// The number that the writer of maps returned, if the buffer is as it should be: the map's bytes, or untouched.
+fn written(code: u32, map: &[u8], out: &[u8]) -> u8 {
+    if code < 65536 {
+        if code as usize == map.len() {
+            if holds(out, map, map.len()) {
+                return 0;
+            }
+        }
+        return WRONG;
+    }
+    let refusal = code - 65536;
+    if refusal < 255 {
+        if holds(out, map, 0) {
+            return refusal as u8;
+        }
+    }
+    WRONG
+}
+
+// A typed form is written into the first `lent` bytes of a buffer, if it has as many.
+fn write_table(table: EdgeTable, lent: usize, out: &mut [u8]) -> u32 {
+    if lent <= out.len() {
+        return graph::write(table, &mut out[..lent]);
+    }
+    NOT_WRITTEN
+}
+
+// A map is read, and its typed form is written with the counts of the case.
+fn write_map(s: &[u8]) -> u8 {
+    if s.len() < 6 {
+        return WRONG;
+    }
+    let map = &s[6..];
+    let reading = graph::read(map);
+    let mut table = reading.graph;
+    table.vertices = number(s, 2);
+    table.count = number(s, 4);
+    let mut out = [FILL; 9000];
+    let code = write_table(table, number(s, 0) as usize, &mut out);
+    written(code, map, &out)
+}
+
+// The fields of an answer and the room.
+fn judge_answer(s: &[u8]) -> u8 {
+    if s.len() < 5 {
+        return WRONG;
+    }
+    answer::judge(number(s, 0), s[2], number(s, 3) as usize)
+}
+
+// The number found for the bytes of a case.
+fn found(kind: u8, s: &[u8]) -> u8 {
+    match kind {
+        0 => graph::judge(s),
+        1 => query::judge(s),
+        2 => plan::judge(s),
+        3 => judge_answer(s),
+        4 => write_map(s),
+        _ => WRONG,
+    }
+}
+
+fn field(name: &[u8], value: u64) {
+    io::write_all(OUT, name);
+    io::print_decimal(OUT, value);
+}
+
+fn line(name: &[u8], value: u64) {
+    field(name, value);
+    io::write_all(OUT, b"\n");
+}
+
+fn report(index: u64, expected: u8, number: u8) {
+    field(b"case ", index);
+    field(b" expected ", expected as u64);
+    line(b" found ", number as u64);
+}
+
+fn more(x: u64) -> u64 {
+    std::num::wrapping_add_u64(x, 1)
+}
+
+// One case more of a kind.
+fn counted(score: Score, kind: u8) -> Score {
+    let mut r = score;
+    let k = wide(kind) as usize;
+    if k < 5 {
+        r.kinds[k] = more(score.kinds[k]);
+    }
+    r.cases = more(score.cases);
+    r
+}
+
+// The first ten that differ are named.
+fn scored(score: Score, c: Case, number: u8) -> Score {
+    let mut r = counted(score, c.kind);
+    if c.expected == number {
+        return r;
+    }
+    if score.differences < 10 {
+        report(score.cases, c.expected, number);
+    }
+    r.differences = more(score.differences);
+    r
+}
+
+fn run_all(s: &[u8]) -> Score {
+    let kinds = [0u64; 5];
+    let mut score = Score {
+        cases: 0,
+        differences: 0,
+        kinds,
+    };
+    let mut at: usize = 0;
+    while at < s.len() {
+        let c = case_at(s, at);
+        let body = c.body;
+        let next = c.next;
+        score = scored(score, c, found(c.kind, &s[body..next]));
+        at = next;
+    }
+    score
+}
+
+fn main() {
+    let mut buf = io::large_buffer();
+    let n = load(b"cases.bin", &mut buf);
+    let score = run_all(&buf[..n]);
+    line(b"maps ", score.kinds[0]);
+    line(b"questions ", score.kinds[1]);
+    line(b"worksheets ", score.kinds[2]);
+    line(b"answers ", score.kinds[3]);
+    line(b"writes ", score.kinds[4]);
+    line(b"differences ", score.differences);
+}

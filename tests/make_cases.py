@@ -1,0 +1,518 @@
+#!/usr/bin/env python3
+"""Writes the cases on which the program `cases` tries the readers and the writer of maps.
+
+    python3 tests/make_cases.py          writes crates/cases/data/cases.bin and crates/cases/stdout
+    python3 tests/make_cases.py list     prints each case: index, kind, number, name, length, first bytes
+
+Each number here is written by hand from document 01 ("Numbers at the desk" and the order below that table); none is what
+a reader said. In the file a case is a kind byte (its place in KINDS), the number, a 16-bit length and as many bytes; all
+integers low byte first. The bytes are those of the file to be judged, but for two kinds:
+    answers   n (16 bits), kind, room (16 bits): the fields that the writer of answers judges
+    writes    lent length, n, m (16 bits each), then a map: it is read, and its typed form is written with the counts n and m
+"""
+import os
+import sys
+
+FOLDER = os.path.join(os.path.dirname(os.path.abspath(__file__)), "..", "crates", "cases")
+MOST = 65535  # the program's buffer has one byte more
+
+# ------------------------------------------------------------------------------------------------ layouts
+
+
+def u16(x):
+    return x.to_bytes(2, "little")
+
+
+def hexed(text):
+    return bytes.fromhex(text)
+
+
+def row(start=0, end=0, seconds=7, crate=1):
+    """A passage."""
+    return u16(start) + u16(end) + u16(seconds) + u16(crate)
+
+
+def map_file(n, rows=(), m=None, mark=b"LPM", version=1):
+    return mark + u16(version) + u16(n) + u16(len(rows) if m is None else m) + b"".join(rows)
+
+
+def chain(*keys, start=0):
+    """A chain as a question has it."""
+    return bytes([0x10, len(keys), *keys]) + u16(start)
+
+
+def slots(*keys, start=0):
+    """A chain as a worksheet has it: six bytes."""
+    return bytes([len(keys), *keys]).ljust(4, b"\0") + u16(start)
+
+
+def tree(terms, plus, leaf):
+    """An odd number of terms in a tree of little depth."""
+    if terms == 1:
+        return leaf
+    left = (terms - 1) // 2 | 1
+    return plus + tree(left, plus, leaf) + tree(terms - 1 - left, plus, leaf)
+
+
+ONE = u16(1)  # the version
+Q0, Q1 = b"LPQ" + ONE + b"\0", b"LPQ" + ONE + b"\1"  # a question of either kind; a term is due
+W0, W1 = b"LPW" + ONE + b"\0", b"LPW" + ONE + b"\1"  # a worksheet of either kind; the chain count is due
+E0 = W0 + hexed("00 01 00")  # no chain, one entry of reduction byte 0; its expression is due
+E1 = W1 + hexed("00 00")  # no chain, no entry; the final expression is due
+LIT, PLUS, SUM = hexed("11 07000000"), hexed("12 03"), hexed("20 03")  # two place terms are due behind PLUS, one behind SUM
+RLIT, RPLUS = hexed("21 07000000"), hexed("22 03")  # two result terms are due behind RPLUS
+MAP_A = map_file(4, [row(0, 1, 5, 10), row(0, 2, 2, 4), row(2, 1, 3, 20), row(1, 3, 0, 7)])
+
+
+def place_tree(terms):
+    return tree(terms, PLUS, LIT)
+
+
+def due(number, name, before, wrong, behind=b""):
+    """Behind `before` something is due: 1 where it lacks its last byte, and `number` where it is wrong, whatever is behind."""
+    yield 1, name + ", but its last byte missing", before + wrong[:-1]
+    yield number, name, before + wrong + behind
+
+
+# ------------------------------------------------------------------------------------------------ maps
+# Under 9 bytes 1, then 2, 3, 4, 5, 6, and the rows in turn: from, to, crate.
+
+
+def map_headers():
+    yield 1, "empty", b""
+    yield 1, "8 bytes, wrong letters and version", b"XYZ" + u16(2) + bytes(3)
+    yield 1, "8 bytes, n 0", b"LPM" + ONE + bytes(3)
+    for mark in (b"lPM", b"LQM", b"LPQ", b"LPW"):
+        yield 2, f"letters {mark}", map_file(4, [row()], mark=mark)
+    yield 2, "letters LPA, and version 2, n 0, m 1,025, length", map_file(0, [], 1025, b"LPA", 2)
+    for version in (0, 2, 256, 257):
+        yield 3, f"version {version}", map_file(4, [row()], version=version)
+    yield 3, "version 2, and n 0, m 1,025, length", map_file(0, [], 1025, version=2)
+
+
+def map_counts():
+    for n, number in ((0, 4), (1, 0), (255, 0), (256, 0), (257, 4), (512, 4), (65535, 4)):
+        yield number, f"n {n}", map_file(n)
+    yield 4, "n 0, and m 1,025", map_file(0, [], 1025)
+    yield 4, "n 257, and a row too many, of places that there are not", map_file(257, [row(300, 300, 0, 0)], 0)
+    yield 0, "m 1,024", map_file(1, [row()] * 1024)
+    yield 5, "m 1,025", map_file(1, [row()] * 1025)
+    for m in (1025, 1280, 65535):
+        yield 5, f"m {m}, and no row", map_file(1, [], m)
+    yield 6, "m 1,024, and no row", map_file(1, [], 1024)
+
+
+def map_lengths():
+    whole = map_file(2, [row(0, 1), row(1, 0)])
+    for k in range(len(whole)):
+        yield 1 if k < 9 else 6, f"two rows, cut to {k} bytes", whole[:k]
+    yield 0, "two rows", whole
+    yield 6, "two rows, a byte left over", whole + b"\0"
+    yield 6, "two rows, a row left over", whole + row()
+    yield 6, "no row, a byte left over", map_file(1) + b"\0"
+    yield 6, "m 0, and a row", map_file(1, [row()], 0)
+    yield 6, "wrong places and crate, and a byte left over", map_file(1, [row(1, 1, 0, 0)]) + b"\0"
+    yield 6, "wrong places and crate, and a byte missing", map_file(1, [row(1, 1, 0, 0)])[:-1]
+
+
+def map_rows():
+    yield 0, "map A", MAP_A
+    for n in (1, 256):
+        yield 0, f"n {n}, from and to the last place", map_file(n, [row(n - 1, n - 1)])
+        for place in (n, n + 256, 65535):
+            yield 7, f"n {n}, from {place}", map_file(n, [row(place, 0)])
+            yield 7, f"n {n}, to {place}", map_file(n, [row(0, place)])
+    for crate, number in ((0, 8), (1, 0), (255, 0), (256, 0), (65534, 0), (65535, 8)):
+        yield number, f"crate {crate}", map_file(1, [row(0, 0, 0, crate)])
+    yield 0, "seconds 65,535", map_file(1, [row(0, 0, 65535)])
+    yield 0, "repeated rows", map_file(2, [row(0, 1)] * 3)
+    yield 7, "from, and crate of the same row", map_file(1, [row(1, 0, 0, 0)])
+    yield 7, "to, and crate of the same row", map_file(1, [row(0, 1, 0, 65535)])
+    yield 8, "crate, and from of the next row", map_file(1, [row(0, 0, 0, 0), row(1, 0)])
+    yield 7, "to, and crate of the next row", map_file(1, [row(0, 1), row(0, 0, 0, 0)])
+    yield 7, "from of the last of three rows", map_file(3, [row(), row(2, 2), row(3, 0)])
+    yield 8, "crate of the last of three rows", map_file(3, [row(), row(2, 2), row(0, 0, 0, 65535)])
+
+
+# ------------------------------------------------------------------------------------------------ questions and worksheets alike
+# Under 5 bytes 1, then 2, 3, then left to right: for a term 1, 12, 11, 9, then each field, missing (1) before wrong.
+
+
+def headers(mark, behind):
+    """`behind` makes an accepted file of a header."""
+    yield 1, "empty", b""
+    yield 1, "4 bytes, wrong letters", b"XYZ\2"
+    for wrong in (b"l" + mark[1:], mark[:1] + b"Q" + mark[2:], mark[:2] + b"X", b"LPM"):
+        yield 2, f"letters {wrong}", wrong + ONE + behind
+    yield 2, "letters LPM, and version 2, nothing behind", b"LPM" + u16(2)
+    for version in (0, 2, 256, 257):
+        yield 3, f"version {version}", mark + u16(version) + behind
+    yield 3, "version 2, nothing behind", mark + u16(2)
+    yield 3, "version 2, and kind 2", mark + u16(2) + b"\2" + behind[1:]
+    for kind in (b"\2", b"\xff"):
+        yield 9, f"kind {kind[0]}", mark + ONE + kind + behind[1:]
+    yield 9, "kind 2, nothing behind", mark + ONE + b"\2"
+
+
+def cuts(whole):
+    """Each byte of an accepted file is right, so where it is cut a header, field or term lacks bytes: 1."""
+    yield 0, "whole", whole
+    for k in range(len(whole)):
+        yield 1, f"cut to {k} bytes", whole[:k]
+
+
+def term_bytes(before, legal):
+    """Each byte that starts some term, and some that start none, where a term is due."""
+    for tag in (0x00, 0x10, 0x11, 0x12, 0x13, 0x20, 0x21, 0x22, 0x23, 0x30, 0x31, 0x32, 0xFF):
+        if tag not in legal:
+            yield 9, f"term byte {tag:#04x}", before + bytes([tag]) + LIT[1:]
+
+
+def terms(before, plus, leaf):
+    """Literals, operators and left-over bytes where a term is due; it is the only one."""
+    tag = leaf[:1]
+    for value in (hexed("00000000"), hexed("ffffffff")):
+        yield 0, f"literal {value.hex()}", before + tag + value
+    yield 6, "a byte left over", before + leaf + b"\0"
+    yield 6, "a term left over", before + leaf * 2
+    for number in (1, 11):
+        yield 0, f"operator {number}", before + plus[:1] + bytes([number]) + leaf * 2
+    yield 9, "operator 0", before + plus[:1] + b"\x00" + leaf * 2
+    yield 9, "operator 12", before + plus[:1] + b"\x0c" + leaf * 2
+    yield 9, "operator 12, nothing behind", before + plus[:1] + b"\x0c"
+    yield 9, "a wrong byte for the first of two terms, the second missing", before + plus + b"\xff"
+    yield 9, "a wrong byte for the second of two terms", before + plus + leaf + b"\xff"
+
+
+def limits(before, plus, leaf):
+    """Depth and number of the terms of an expression that starts behind `before`, where no term was before."""
+    tag = leaf[:1]
+    yield 0, "depth 16 to the right", before + (plus + leaf) * 15 + leaf
+    yield 0, "depth 16 to the left", before + plus * 15 + leaf * 16
+    yield from due(11, "depth 17 to the right", before + (plus + leaf) * 15 + plus, tag)
+    yield from due(11, "depth 17 to the left", before + plus * 16, tag, leaf[1:] + leaf * 16)
+    yield 11, "depth 17, a wrong byte", before + plus * 16 + b"\xff"
+    yield 9, "depth 16, a wrong byte", before + plus * 15 + b"\xff"
+    yield 0, "63 terms", before + tree(63, plus, leaf)
+    yield from due(12, "term 65", before + plus + tree(63, plus, leaf), tag, leaf[1:])
+    yield 12, "term 65, a wrong byte", before + plus + tree(63, plus, leaf) + b"\xff"
+    # Down to depth 17 by 16 operators; each `six` and `four` is one of them with its first term: so many terms.
+    six, four, last = plus + tree(5, plus, leaf), plus + tree(3, plus, leaf), plus + leaf + plus
+    yield 11, "term 64 at depth 17", before + six * 2 + four * 12 + last + tag
+    yield from due(12, "term 65 at depth 17", before + plus + six * 4 + four * 9 + last, tag)
+
+
+# ------------------------------------------------------------------------------------------------ questions
+
+
+def question_keys():
+    for key in (1, 2, 3, 4, 5, 6):
+        yield 0, f"key {key}", Q0 + chain(key)
+    for first, number in ((1, 0), (2, 0), (3, 0), (4, 0), (5, 10), (6, 10)):
+        for last in (2, 5):
+            yield number, f"keys {first},{last}", Q0 + chain(first, last)
+    for keys in ((1, 6), (4, 6), (2, 3, 5), (1, 2, 6), (4, 3, 2), (3, 3, 3)):
+        yield 0, f"keys {keys}", Q0 + chain(*keys)
+    for keys in ((6, 1), (6, 6), (2, 5, 3), (2, 6, 6), (5, 2, 3), (6, 6, 6), (5, 7), (6, 0), (5, 7, 0), (1, 5, 7)):
+        yield 10, f"keys {keys}", Q0 + chain(*keys)
+    for keys in ((0,), (7,), (255,), (7, 5), (0, 1), (1, 7), (2, 0), (7, 5, 2), (1, 7, 5), (1, 2, 7), (1, 2, 0)):
+        yield 9, f"keys {keys}", Q0 + chain(*keys)
+    yield 10, "keys 5,2, and start 256", Q0 + chain(5, 2, start=256)
+    yield 9, "key 7, and start 256", Q0 + chain(7, start=256)
+    yield 10, "key 5 of 2, nothing behind", Q0 + hexed("10 02 05")
+    yield 9, "key 7 of 2, nothing behind", Q0 + hexed("10 02 07")
+    for count in (0, 4, 255):
+        yield 9, f"key count {count}, and keys 5,7", Q0 + bytes([0x10, count, 5, 7, 1, 1, 0, 0])
+        yield 9, f"key count {count}, nothing behind", Q0 + bytes([0x10, count])
+
+
+def question_starts():
+    for start in (0, 1, 255, 65535):
+        yield 0, f"start {start}", Q0 + chain(1, start=start)
+    for start in (256, 257, 65280, 65534):
+        yield from due(13, f"start {start}", Q0 + hexed("10 01 01"), u16(start))
+    yield 13, "start 256 of three keys", Q0 + chain(1, 2, 5, start=256)
+    yield 13, "start 256, and a byte left over", Q0 + chain(1, start=256) + b"\0"
+    yield 13, "start 256, and a second term of a wrong byte", Q0 + PLUS + chain(1, start=256) + b"\xff"
+    yield 6, "a chain, and a byte left over", Q0 + chain(1) + b"\0"
+
+
+def question_chains():
+    eight = [chain(1, start=i) for i in range(8)]
+    ninth = Q0 + PLUS * 8 + b"".join(eight)  # a ninth is due
+    yield 0, "8 chains", Q0 + PLUS * 7 + b"".join(eight)
+    yield 0, "8 chains, one twice at the start", Q0 + PLUS * 8 + chain(1) + b"".join(eight)
+    for i in (0, 3, 7):
+        yield 0, f"a ninth, but equal to number {i}", ninth + eight[i]
+    for keys, start in (((1,), 8), ((1,), 65535), ((2,), 0), ((1, 1), 0), ((1, 1, 1), 7)):
+        yield 14, f"a ninth, keys {keys}, start {start}", ninth + chain(*keys, start=start)
+    high = Q0 + PLUS * 8 + chain(1, start=255) + b"".join(eight[1:])  # start 255 in the place of 0; a ninth is due
+    yield 14, "a ninth, start 65,535, with 255 among the eight", high + chain(1, start=65535)
+    yield from due(14, "a ninth, and a byte left over", ninth + hexed("10 01 01"), u16(8), b"\0")
+    yield 13, "a ninth, start 256", ninth + chain(1, start=256)
+    yield 10, "a ninth, keys 5,2", ninth + chain(5, 2)
+    yield 9, "a ninth, key 7", ninth + chain(7)
+    similar = ((1,), (2,), (1, 2), (2, 1), (1, 1), (1, 1, 1), (1, 2, 1), (1, 1, 2))
+    yield 0, "8 chains of similar keys", Q0 + PLUS * 7 + b"".join(chain(*keys) for keys in similar)
+    yield 14, "9 chains of similar keys", Q0 + PLUS * 8 + b"".join(chain(*keys) for keys in similar + ((2, 2),))
+    three = SUM + PLUS * 2  # a reduction; three place terms are due
+    below = [three + b"".join(eight[:3]), three + b"".join(eight[3:6]), three + b"".join(eight[6:])]
+    yield 0, "9 chains below 3 reductions, the last as the first", Q1 + RPLUS * 2 + b"".join(below) + eight[0]
+    yield 14, "9 chains below 3 reductions", Q1 + RPLUS * 2 + b"".join(below) + chain(6)
+
+
+def question_reductions():
+    for number in (1, 2, 3, 4, 5):
+        yield 0, f"reduction {number}", Q1 + bytes([0x20, number]) + LIT
+    for number in (0, 6, 255):
+        yield 9, f"reduction {number}", Q1 + bytes([0x20, number]) + LIT
+    yield 9, "reduction 6, nothing behind", Q1 + hexed("20 06")
+    ninth = Q1 + RPLUS * 8 + (SUM + LIT) * 8  # a ninth is due
+    yield 0, "8 reductions", Q1 + RPLUS * 7 + (SUM + LIT) * 8
+    yield 0, "8 reductions and a literal", ninth + RLIT
+    yield from due(14, "a ninth reduction", ninth, SUM, LIT)
+    yield 14, "a ninth reduction, nothing behind", ninth + SUM
+    yield 14, "a ninth reduction of a wrong byte", ninth + SUM + b"\xff"
+    yield 9, "a ninth reduction, its byte 6", ninth + hexed("20 06") + LIT
+    yield 6, "8 reductions, and a ninth left over", Q1 + RPLUS * 7 + (SUM + LIT) * 9
+
+
+def question_limits():
+    """A reduction is a term: a first one leaves 15 levels and 63 terms below it."""
+    yield 0, "a reduction, depth 16", Q1 + SUM + PLUS * 14 + LIT * 15
+    yield from due(11, "a reduction, depth 17", Q1 + SUM + PLUS * 15, b"\x10", chain(1)[1:])
+    yield 11, "a reduction at depth 17", Q1 + RPLUS * 16 + SUM + LIT
+    yield 11, "below a reduction at depth 16", Q1 + RPLUS * 15 + SUM + LIT + RLIT * 15
+    yield 0, "a reduction, 64 terms", Q1 + SUM + place_tree(63)
+    yield 0, "a reduction and a literal, 64 terms", Q1 + RPLUS + SUM + place_tree(61) + RLIT
+    term65 = Q1 + RPLUS * 2 + SUM + place_tree(31) + SUM + place_tree(29)
+    yield from due(12, "term 65 behind two reductions", term65, b"\x21", RLIT[1:])
+    yield 12, "term 65 is a reduction of byte 6", term65 + hexed("20 06")
+    yield 12, "term 65 below a reduction", Q1 + SUM + PLUS * 2 + place_tree(61) + LIT * 2
+    yield 12, "term 65 is a ninth reduction", Q1 + RPLUS * 8 + (SUM + place_tree(5)) * 7 + SUM + place_tree(13) + SUM
+
+
+def questions():
+    yield 0, "marked: max over the places of key 1 from 0", hexed("4C5051010001 2002 1001010000")
+    yield 0, "first trial: key 2 from 0", hexed("4C5051010000 1001020000")
+    yield from headers(b"LPQ", b"\0" + LIT)
+    yield from cuts(Q1 + RPLUS + SUM + PLUS + chain(2, 5, start=65535) + LIT + RLIT)
+    for part in (question_keys, question_starts, question_chains, question_reductions, question_limits):
+        yield from part()
+    for before, plus, leaf, legal in ((Q0, PLUS, LIT, (0x10, 0x11, 0x12)), (Q1, RPLUS, RLIT, (0x20, 0x21, 0x22))):
+        yield from term_bytes(before, legal)
+        yield from terms(before, plus, leaf)
+        yield from limits(before, plus, leaf)
+    for name, wrong in (("reduction", SUM + LIT), ("result literal", RLIT), ("worksheet's chain", hexed("30 00"))):
+        yield 9, f"a {name} below a reduction", Q1 + SUM + wrong
+        yield 9, f"a {name} right of a place term", Q0 + PLUS + LIT + wrong
+    yield 9, "a place term right of a result term", Q1 + RPLUS + RLIT + LIT
+
+
+# ------------------------------------------------------------------------------------------------ worksheets
+
+
+def sheet_chains():
+    behind = hexed("01 00 30 00")  # one entry: chain 0
+    second = W0 + b"\2" + slots(2, 5)  # a second chain is due
+    for count in (0, 1, 8):
+        yield 0, f"{count} chains", W0 + bytes([count]) + slots(1) * count + hexed("01 00") + LIT
+    yield 0, "kind 1, 8 chains", W1 + b"\x08" + slots(1) * 8 + b"\0" + RLIT
+    for count in (9, 255):
+        yield 14, f"{count} chains", W0 + bytes([count]) + slots(1) * count + behind
+        yield 14, f"{count} chains, nothing behind", W0 + bytes([count])
+    for keys in ((1,), (6,), (2, 5), (3, 4), (1, 2, 3), (4, 4, 6)):
+        yield 0, f"keys {keys}", second + slots(*keys) + behind
+    for start in (255, 65535):
+        yield 0, f"start {start}", second + slots(1, start=start) + behind
+    for start in (256, 257, 65534):
+        yield from due(13, f"start {start}", second + hexed("01 01 00 00"), u16(start), behind)
+    yield 13, "start 256 of the last of 8", W0 + b"\x08" + slots(1) * 7 + slots(1, start=256) + behind
+    for number, text, name in (
+        (9, "00 00 00 00 0000", "key count 0"),
+        (9, "04 01 01 01 0000", "key count 4"),
+        (9, "ff 05 07 07 0001", "key count 255, and all that is judged later"),
+        (9, "01 00 00 00 0000", "key 0"),
+        (9, "01 07 01 01 0001", "key 7, and all that is judged later"),
+        (9, "02 07 05 00 0000", "keys 7,5"),
+        (9, "02 01 00 00 0000", "keys 1,0"),
+        (9, "03 01 02 07 0001", "keys 1,2,7, and start 256"),
+        (10, "02 05 02 00 0000", "keys 5,2"),
+        (10, "02 05 00 00 0000", "keys 5,0"),
+        (10, "02 05 07 01 0001", "keys 5,7, and all that is judged later"),
+        (10, "03 01 06 02 0000", "keys 1,6,2"),
+        (10, "03 06 01 01 0001", "keys 6,1,1, and start 256"),
+        (10, "03 05 05 05 0000", "keys 5,5,5"),
+        (9, "01 01 02 00 0000", "1 key, second key byte 2"),
+        (9, "01 05 02 00 0000", "1 key, which is 5, second key byte 2"),
+        (9, "01 01 00 01 0000", "1 key, third key byte 1"),
+        (9, "01 06 00 ff 0001", "1 key, third key byte 255, and start 256"),
+        (9, "02 01 05 02 0001", "2 keys, third key byte 2, and start 256"),
+        (9, "00", "key count 0, nothing behind"),
+        (10, "02 05", "key 5 of 2, nothing behind"),
+        (9, "01 01 02", "1 key, second key byte 2, nothing behind"),
+        (9, "01 01 00 02", "1 key, third key byte 2, nothing behind"),
+    ):
+        yield number, name, second + hexed(text) + (behind if len(hexed(text)) == 6 else b"")
+
+
+def sheet_entries():
+    for count in (0, 2, 8, 9, 255):
+        yield 9, f"kind 0, {count} entries", W0 + b"\0" + bytes([count]) + (b"\0" + LIT) * count
+    yield 9, "kind 0, 9 entries, nothing behind", W0 + hexed("00 09")
+    for count in (0, 1, 7, 8):
+        yield 0, f"kind 1, {count} entries", W1 + b"\0" + bytes([count]) + (b"\3" + LIT) * count + RLIT
+    for count in (9, 255):
+        yield 14, f"kind 1, {count} entries", W1 + b"\0" + bytes([count]) + (b"\3" + LIT) * 9 + RLIT
+        yield 14, f"kind 1, {count} entries, nothing behind", W1 + b"\0" + bytes([count])
+    for number in (1, 5, 6):
+        yield 9, f"kind 0, reduction {number}", W0 + hexed("00 01") + bytes([number]) + LIT
+    for number in (1, 2, 3, 4, 5):
+        yield 0, f"kind 1, reduction {number}", W1 + hexed("00 01") + bytes([number]) + LIT + RLIT
+    for number in (0, 6, 255):
+        yield 9, f"kind 1, reduction {number}", W1 + hexed("00 01") + bytes([number]) + LIT + RLIT
+        yield 9, f"kind 1, reduction {number} of entry 1, nothing behind", W1 + hexed("00 02 01") + LIT + bytes([number])
+    yield 6, "kind 0, and a final expression", E0 + LIT + RLIT
+    yield 9, "kind 1, and an entry more than its count", W1 + hexed("00 01 01") + LIT + b"\1" + LIT + RLIT
+    yield 9, "kind 1, and an entry less than its count", W1 + hexed("00 02 01") + LIT + RLIT
+    yield 1, "kind 1, no final expression", W1 + hexed("00 01 01") + LIT
+
+
+def sheet_indexes():
+    for count in (0, 1, 2, 8):
+        chain_due = W0 + bytes([count]) + slots(1) * count + hexed("01 00 30")
+        entry_due = W1 + b"\0" + bytes([count]) + (b"\3" + LIT) * count + b"\x31"
+        for index in range(max(count - 1, 0), count + 1):
+            number = 0 if index < count else 16
+            yield number, f"chain {index} of {count}", chain_due + bytes([index])
+            yield number, f"entry {index} of {count}", entry_due + bytes([index])
+    yield 16, "chain 255 of 8", chain_due + b"\xff"
+    yield 16, "entry 255 of 8", entry_due + b"\xff"
+    two = W1 + b"\2" + slots(1) * 2  # two chains; the entry count is due
+    yield 0, "chain 1 of 2, entry 0 of 1", two + hexed("01 03 30 01 31 00")
+    yield 16, "entry 1 of 1, with 2 chains", two + hexed("01 03 30 01 31 01")
+    yield 16, "chain 2 of 2, with 3 entries", two + hexed("03 03 30 02") + (b"\3" + LIT) * 2 + RLIT
+    yield 16, "chain 2 of 2 as a second term", two + hexed("01 03 12 03 30 01 30 02")
+    yield 16, "chain 2 of 2, and the next entry's reduction", two + hexed("02 03 30 02 00") + LIT + RLIT
+    yield 1, "no index of a chain", two + hexed("01 03 30")
+    yield 1, "no index of an entry", two + hexed("01 03 30 01 31")
+
+
+def sheet_limits():
+    """Terms are counted over all expressions together, depth in each by itself."""
+    one, two, three = (W1 + b"\0" + bytes([count]) for count in (1, 2, 3))  # as many entries are due
+    deep, deep_final = b"\3" + PLUS * 15 + LIT * 16, RPLUS * 15 + RLIT * 16  # depth 16, 31 terms
+    yield 0, "two entries of depth 16", two + deep * 2 + RLIT
+    yield 0, "an entry and the final expression of depth 16", one + deep + deep_final
+    yield 11, "depth 17 in the second entry", two + deep + b"\3" + PLUS * 16 + LIT * 17 + RLIT
+    yield 11, "depth 17 in the final expression", one + deep + RPLUS * 16 + hexed("31 00") + RLIT * 16
+    yield 0, "64 terms, the last is the final expression", one + b"\3" + place_tree(63) + hexed("31 00")
+    yield 0, "64 terms in 8 expressions", W1 + hexed("00 07") + (b"\3" + place_tree(7)) * 7 + tree(15, RPLUS, RLIT)
+    yield from due(12, "term 65 is the final expression", two + b"\3" + place_tree(63) + b"\3" + LIT, b"\x31", b"\0")
+    yield 12, "term 65 is the final expression, a wrong byte", two + b"\3" + place_tree(31) + b"\3" + place_tree(33) + b"\xff"
+    yield 12, "term 65 within the final expression", one + b"\3" + place_tree(63) + RPLUS + RLIT * 2
+    yield 12, "term 65 in the second entry, an index", two + b"\3" + place_tree(63) + b"\3" + PLUS + hexed("30 ff")
+    yield 12, "term 65 in the last of 8 entries", W1 + hexed("00 08") + (b"\3" + place_tree(9)) * 7 + b"\3" + PLUS + LIT
+    entries48 = b"\3" + place_tree(31) + b"\3" + place_tree(17)
+    entries47 = b"\3" + place_tree(31) + b"\3" + place_tree(15) + b"\3" + LIT
+    yield from due(12, "term 65 at depth 17 of the final expression", two + entries48 + RPLUS * 16, b"\x21")
+    yield 11, "term 64 at depth 17 of the final expression", three + entries47 + RPLUS * 16 + RLIT
+
+
+def sheets():
+    yield 0, "marked: what the marked question fuses to", hexed("4C5057010001 01 010100000000 01 02 3000 3100")
+    yield from headers(b"LPW", hexed("00 00 01 00") + LIT)
+    yield 9, "kind 2, and 9 chains", b"LPW" + ONE + hexed("02 09")
+    yield from cuts(W1 + b"\1" + slots(2, 5, start=65535) + hexed("02 03 30 00 05") + PLUS + hexed("30 00") + LIT
+                    + RPLUS + hexed("31 01") + RLIT)
+    for part in (sheet_chains, sheet_entries, sheet_indexes, sheet_limits):
+        yield from part()
+    for before, plus, leaf, legal in ((E0, PLUS, LIT, (0x11, 0x12, 0x30)), (E1, RPLUS, RLIT, (0x21, 0x22, 0x31))):
+        yield from term_bytes(before, legal)
+        yield from terms(before, plus, leaf)
+        yield from limits(before, plus, leaf)
+    entry = W1 + b"\1" + slots(1) + hexed("01 03")  # one chain, one entry; its expression is due
+    yield 9, "an entry's reference in the final expression", entry + hexed("30 00 30 00")
+    yield 9, "a final expression's reference in an entry", entry + hexed("31 00 31 00")
+    yield 9, "a question's chain in an entry", entry + chain(1) + RLIT
+    yield 9, "a question's reduction in the final expression", entry + hexed("30 00") + SUM + LIT
+
+
+# ------------------------------------------------------------------------------------------------ answers
+# n (4), kind (9), then 15: 10 + 9 * n bytes for kind 0, 19 for kind 1.
+
+
+def answers():
+    for number, n, kind, room in (
+        (4, 0, 0, 65535), (4, 0, 1, 19), (4, 0, 2, 0), (4, 257, 0, 65535), (4, 257, 1, 19), (4, 257, 2, 0), (4, 65535, 0, 0),
+        (9, 1, 2, 65535), (9, 1, 2, 0), (9, 256, 2, 2314), (9, 256, 255, 0),
+        (0, 1, 0, 19), (15, 1, 0, 18), (15, 1, 0, 0), (0, 1, 0, 65535),
+        (0, 2, 0, 28), (15, 2, 0, 27), (15, 2, 0, 19),
+        (0, 255, 0, 2305), (15, 255, 0, 2304),
+        (0, 256, 0, 2314), (15, 256, 0, 2313), (0, 256, 0, 2315), (15, 256, 0, 19),
+        (0, 1, 1, 19), (15, 1, 1, 18), (0, 2, 1, 19), (15, 2, 1, 18),
+        (0, 256, 1, 19), (15, 256, 1, 18), (15, 256, 1, 10), (15, 256, 1, 0),
+    ):
+        yield number, f"n {n}, kind {kind}, room {room}", u16(n) + bytes([kind]) + u16(room)
+
+
+# ------------------------------------------------------------------------------------------------ maps written
+# As the reader of the bytes would judge, then 15.
+
+
+def written(number, name, lent, n, m, whole):
+    return number, f"{name}, lent {lent}", u16(lent) + u16(n) + u16(m) + whole
+
+
+def writes():
+    row_map = map_file(2, [row(0, 1, 65535, 65534)])
+    for name, n, m, size, whole in (("no row", 1, 0, 9, map_file(1)), ("a row", 2, 1, 17, row_map), ("map A", 4, 4, 41, MAP_A)):
+        for number, lent in ((0, size), (0, size + 1), (15, size - 1), (15, 0)):
+            yield written(number, name, lent, n, m, whole)
+    yield written(0, "1,024 rows", 8201, 256, 1024, map_file(256, [row(255, 255, 513, 65534)] * 1024))
+    # Map A's typed form with other counts. Row 3 goes to place 3; the rows behind the four of map A have crate 0.
+    for number, n, m in ((4, 0, 4), (4, 257, 4), (4, 0, 1025), (5, 4, 1025), (5, 1, 1025), (7, 3, 4), (7, 3, 5), (8, 4, 5)):
+        for lent in (0, 9000):
+            yield written(number, f"map A with n {n}, m {m}", lent, n, m, MAP_A)
+    yield written(15, "map A with m 3", 32, 4, 3, MAP_A)
+    yield written(15, "map A with m 0", 8, 4, 0, MAP_A)
+
+
+# ------------------------------------------------------------------------------------------------ the file
+
+
+def maps():
+    for part in (map_headers, map_counts, map_lengths, map_rows):
+        yield from part()
+
+
+KINDS = (("maps", maps), ("questions", questions), ("worksheets", sheets), ("answers", answers), ("writes", writes))
+
+
+def table():
+    """All cases, each once: (kind, number, name, bytes). The same bytes under two names must have the same number."""
+    seen = {}
+    for kind, (word, part) in enumerate(KINDS):
+        for number, name, body in part():
+            known = seen.setdefault((kind, body), (number, name))
+            assert known[0] == number, f"{word}: {known} and {(number, name)}"
+    return [(kind, number, name, body) for (kind, body), (number, name) in seen.items()]
+
+
+def main():
+    cases = table()
+    if sys.argv[1:] == ["list"]:
+        for index, (kind, number, name, body) in enumerate(cases):
+            print(f"{index:3} {KINDS[kind][0]:10} {number:2}  {name}  [{len(body)}] {body[:48].hex()}")
+        return
+    data = b"".join(bytes([kind, number]) + u16(len(body)) + body for kind, number, _, body in cases)
+    assert len(data) <= MOST, len(data)
+    with open(os.path.join(FOLDER, "data", "cases.bin"), "wb") as f:
+        f.write(data)
+    with open(os.path.join(FOLDER, "stdout"), "w") as f:
+        for kind, (word, _) in enumerate(KINDS):
+            f.write(f"{word} {sum(case[0] == kind for case in cases)}\n")
+        f.write("differences 0\n")
+
+
+main()

@@ -1,0 +1,114 @@
+-- The four kinds of terms: place terms, result terms, entries and final expressions of a plan. Their bytes are collected as their terms, and the text of these is
+-- their bytes. Assumes nothing.
+use Prim.Native.Nat.{ℕ, suc, _+_, _<_}
+use mathlib.Core.Path.{_≡_, refl, ap, _∙_}
+use mathlib.Core.List.{List, [], _∷_, _++_, append-nil}
+use native.Mathlib.Omega.{arith}
+use lib.ListN.{length, drop, getD, length-append}
+use Rattle.meaning.specs.Limits.{EveryBody, Every, PathFits, terms, unit}
+use Rattle.meaning.specs.Query.{PathReduction, ResultTerm, Term, VertexReduction, VertexTerm, leaf}
+use Rattle.terms.specs.Terms.{leaf-tag}
+use Rattle.terms.specs.Text.{expression-bytes, path-bytes, path-number, place-bytes, result-bytes}
+use Rattle.terms.proofs.Exact.{index-leaves, place-leaves, result-leaves}
+use Rattle.terms.proofs.Steps.{drop-on}
+use Rattle.wire.specs.Wire.{le16}
+use Rattle.nodes.specs.declared.Node.{Node}
+use Rattle.nodes.specs.declared.Term as single
+use Rattle.nodes.specs.declared.Term.the-variants.{EntryIndex, Path, PathIndex, Reduce}
+use Rattle.nodes.specs.Draft.{nodes-text, path-text, term-text}
+use Rattle.nodes.specs.Nodes.{collected, node, passed, tagged}
+use Rattle.nodes.specs.Tree.{entry-nodes, final-nodes, place-nodes, result-nodes, term-nodes}
+use Rattle.nodes.proofs.Fields.{byte-there, collected-on, path-read, path-written}
+use Rattle.nodes.proofs.Shape.{Collects, collected-term, count-term, text-term}
+
+-- place terms: the leaves are path reductions
+abbrev path-nodes : PathReduction → List Node
+path-nodes c = node (Path (path-number c)) ∷ []
+
+pub place-collected : (s : List ℕ) (t : VertexTerm) → Every (PathFits 256) t → Collects place-leaves path-nodes 0 s t
+place-collected s = collected-term place-leaves path-nodes 0 s one
+  where
+    one : (c : PathReduction) → PathFits 256 c → Collects place-leaves path-nodes 0 s (leaf c)
+    one c f i k rest e =
+        ap (λ (j : ℕ). collected j s i) (let p : 1 + k ≡ suc k = omega arith in p)
+        ∙ path-read s i c rest f e k
+        ∙ ap (λ (j : ℕ). node (Path (path-number c)) ∷ collected k s (i + j)) (let q : 4 + length (c .keys) ≡ length (0x10 ∷ path-bytes c) = omega (arith, length-append (c .keys) (le16 (c .source))) in q)
+
+pub place-text : (t : VertexTerm) → Every (PathFits 256) t → nodes-text (place-nodes t) ≡ place-bytes t
+unfolding nodes-text term-text
+place-text = text-term place-leaves path-nodes 0 (λ c f. append-nil (0x10 ∷ path-text (path-number c)) ∙ ap (λ (l : List ℕ). 0x10 ∷ l) (path-written c f))
+
+pub place-size : (t : VertexTerm) → length (place-nodes t) ≡ terms unit t
+place-size = count-term place-leaves path-nodes 0 (λ c. refl)
+
+-- result terms: the leaves are reductions of place terms
+abbrev reduction-nodes : VertexReduction PathReduction → List Node
+reduction-nodes e = node (Reduce (e .reduction)) ∷ place-nodes (e .body)
+
+pub result-collected : (s : List ℕ) (t : ResultTerm) → Every (EveryBody (PathFits 256)) t → Collects result-leaves reduction-nodes 1 s t
+result-collected s = collected-term result-leaves reduction-nodes 1 s one
+  where
+    one : (e : VertexReduction PathReduction) → EveryBody (PathFits 256) e → Collects result-leaves reduction-nodes 1 s (leaf e)
+    one e f i k rest d =
+        let body : List ℕ = place-bytes (e .body) in
+        let next = drop-on s i 2 (0x20 ∷ e .reduction ∷ []) (body ++ rest) d refl in
+        ap (λ (j : ℕ). collected j s i) (let p : suc (terms unit (e .body)) + k ≡ suc (terms unit (e .body) + k) = omega arith in p)
+        ∙ collected-on s i 0x20 (e .reduction ∷ (body ++ rest)) d (terms unit (e .body) + k) (node (Reduce (e .reduction))) (i + 2)
+        (ap (λ (r : ℕ). node (Reduce r)) (byte-there s i 0x20 (e .reduction) (body ++ rest) d)) refl
+        ∙ ap (λ (l : List Node). node (Reduce (e .reduction)) ∷ l)
+        (place-collected s (e .body) (f .2) (i + 2) k rest next
+        ∙ ap (λ (j : ℕ). place-nodes (e .body) ++ collected k s j) (let q : i + 2 + length body ≡ i + length (0x20 ∷ e .reduction ∷ body) = omega arith in q))
+
+pub result-text : (t : ResultTerm) → Every (EveryBody (PathFits 256)) t → nodes-text (result-nodes t) ≡ result-bytes t
+unfolding nodes-text term-text
+result-text = text-term result-leaves reduction-nodes 1 (λ e f. ap (λ (l : List ℕ). 0x20 ∷ e .reduction ∷ l) (place-text (e .body) (f .2)))
+
+pub result-size : (t : ResultTerm) → length (result-nodes t) ≡ terms (λ e. suc (terms unit (e .body))) t
+result-size = count-term result-leaves reduction-nodes 1 (λ e. ap suc (place-size (e .body)))
+
+-- expressions of a plan: the leaves are indices, of two bytes
+module _ (m count : ℕ) (made : ℕ → single.Term) (is : (s : List ℕ) (i : ℕ) → tagged (leaf-tag m) s i ≡ made (getD s (i + 1) 0)) (on : (s : List ℕ) (i : ℕ) → passed (leaf-tag m) s i ≡ i + 2)
+    (text : (j : ℕ) → term-text (made j) ≡ leaf-tag m ∷ j ∷ []) where
+  abbrev index-nodes : ℕ → List Node
+  index-nodes j = node (made j) ∷ []
+
+  index-collected : (s : List ℕ) (t : Term ℕ) → Every (λ j. j < count) t → Collects (index-leaves m count) index-nodes m s t
+  index-collected s = collected-term (index-leaves m count) index-nodes m s one
+    where
+      one : (j : ℕ) → j < count → Collects (index-leaves m count) index-nodes m s (leaf j)
+      one j f i k rest e =
+          ap (λ (n : ℕ). collected n s i) (let p : 1 + k ≡ suc k = omega arith in p)
+          ∙ collected-on s i (leaf-tag m) (j ∷ rest) e k (node (made j)) (i + 2) (ap node (is s i ∙ ap made (byte-there s i (leaf-tag m) j rest e))) (on s i)
+
+  index-text : (t : Term ℕ) → Every (λ j. j < count) t → nodes-text (term-nodes m index-nodes t) ≡ expression-bytes m t
+  unfolding nodes-text
+  index-text = text-term (index-leaves m count) index-nodes m (λ j f. append-nil (term-text (made j)) ∙ text j)
+
+  index-size : (t : Term ℕ) → length (term-nodes m index-nodes t) ≡ terms unit t
+  index-size = count-term (index-leaves m count) index-nodes m (λ j. refl)
+
+-- entries, over the indices of path reductions
+pub entry-collected : (count : ℕ) (s : List ℕ) (t : Term ℕ) → Every (λ j. j < count) t → Collects (index-leaves 2 count) (λ j. node (PathIndex j) ∷ []) 2 s t
+unfolding leaf-tag term-text
+entry-collected count = index-collected 2 count PathIndex (λ s i. refl) (λ s i. refl) (λ j. refl)
+
+pub entry-text : (count : ℕ) (t : Term ℕ) → Every (λ j. j < count) t → nodes-text (entry-nodes t) ≡ expression-bytes 2 t
+unfolding leaf-tag term-text
+entry-text count = index-text 2 count PathIndex (λ s i. refl) (λ s i. refl) (λ j. refl)
+
+pub entry-size : (t : Term ℕ) → length (entry-nodes t) ≡ terms unit t
+unfolding leaf-tag term-text
+entry-size = index-size 2 0 PathIndex (λ s i. refl) (λ s i. refl) (λ j. refl)
+
+-- final expressions, over the indices of entries
+pub final-collected : (count : ℕ) (s : List ℕ) (t : Term ℕ) → Every (λ j. j < count) t → Collects (index-leaves 3 count) (λ j. node (EntryIndex j) ∷ []) 3 s t
+unfolding leaf-tag term-text
+final-collected count = index-collected 3 count EntryIndex (λ s i. refl) (λ s i. refl) (λ j. refl)
+
+pub final-text : (count : ℕ) (t : Term ℕ) → Every (λ j. j < count) t → nodes-text (final-nodes t) ≡ expression-bytes 3 t
+unfolding leaf-tag term-text
+final-text count = index-text 3 count EntryIndex (λ s i. refl) (λ s i. refl) (λ j. refl)
+
+pub final-size : (t : Term ℕ) → length (final-nodes t) ≡ terms unit t
+unfolding leaf-tag term-text
+final-size = index-size 3 0 EntryIndex (λ s i. refl) (λ s i. refl) (λ j. refl)

@@ -1,0 +1,71 @@
+-- `nodes::put_nodes` meets its contract. Assumes nothing.
+use Prim.Native.Nat.{_-_, _≤_}
+use mathlib.Core.Path.{_≡_, sym, ap, _∙_}
+use mathlib.Core.List.{List}
+use native.Mathlib.Omega.{arith}
+use native.Mathlib.Nat.{sub-zero}
+use borrow.Author.Needs.{needs}
+use lib.ListN.{take}
+use Rattle.nodes.specs.Draft.{put-list, nodes-text}
+use Rattle.nodes.specs.declared.Node.{Node}
+use Rattle.nodes.proofs.Drafts.{left, put-more, put-done, take-least, nodes-short}
+use Rattle.nodes.proofs.put_nodes.Statement.{statement}
+use Rattle.nodes.proofs.put_nodes.Tie as tie
+
+abbrev Inv-loop : tie.InvT-loop
+Inv-loop count nodes n r₀ i₀ r i = (i ≤ n) × (put-list r (left nodes n i) ≡ put-list r₀ (nodes-text (take n nodes)))
+
+abbrev μ-loop : tie.MeasureT-loop
+μ-loop count nodes n r₀ i₀ r i = n - i
+
+lesser-requires : tie.Need-lesser-requires Inv-loop μ-loop
+lesser-requires c κs = search needs
+
+loop-holds : tie.Need-loop-holds Inv-loop μ-loop
+loop-holds c = (omega arith, rw sub-zero)
+
+mul-node : tie.Need-mul-node Inv-loop μ-loop
+mul-node c = omega arith
+
+array-copy-out-node : tie.Need-array-copy-out-node Inv-loop μ-loop
+array-copy-out-node c = omega arith
+
+put-term-requires : tie.Need-put-term-requires Inv-loop μ-loop
+put-term-requires c κs = search needs
+
+add-i : tie.Need-add-i Inv-loop μ-loop
+add-i c = omega arith
+
+loop-less : tie.Need-loop-less Inv-loop μ-loop
+loop-less c = omega arith
+
+loop-again : tie.Need-loop-again Inv-loop μ-loop
+loop-again c =
+    let l = c .before .before .before .loop in
+    (omega arith, rw (c .put-term .ensures) (sym (put-more (l .r) _ _ (l .i) (c .before .before .loop-test .taken) (omega arith)) ∙ l .inv .1))
+
+returns : tie.Need-returns Inv-loop μ-loop
+returns c =
+    let l = c .before .loop in
+    let a = c .before .before .before .args in (
+      sym (put-done (l .r) (a .t2) _ (l .i) (c .loop-test .left))
+          ∙ l .inv .1
+          ∙ ap (λ (t : List Node). put-list (a .d) (nodes-text t)) (take-least (a .count) _ (a .t2) (omega arith) (c .before .before .lesser .ensures .0)),
+      nodes-short (a .count) (a .t2) (omega arith),
+    )
+
+pub put-nodes-spec : {M : Type 1} → statement M
+put-nodes-spec =
+    tie.close
+    (tie.spec
+    Inv-loop
+    μ-loop
+    lesser-requires
+    loop-holds
+    mul-node
+    array-copy-out-node
+    put-term-requires
+    add-i
+    loop-less
+    loop-again
+    returns)

@@ -1,0 +1,37 @@
+-- The terms of a tree in written order: "one term written operator first" (document 01, "Layouts").
+use Prim.Native.Nat.{ℕ}
+use mathlib.Core.Bool.{cond}
+use mathlib.Core.List.{List, [], _∷_, _++_}
+use lib.Dec.{eqb}
+use Rattle.meaning.specs.Query.{PathReduction, ResultTerm, Term, VertexReduction, VertexTerm, apply, leaf, literal}
+use Rattle.terms.specs.Terms.{literal-tag}
+use Rattle.terms.specs.Text.{path-number}
+use Rattle.nodes.specs.declared.Node.{Node}
+use Rattle.nodes.specs.declared.Term.the-variants.{Path, Literal, Apply, Reduce, ResultLiteral, ResultApply, PathIndex, EntryIndex}
+use Rattle.nodes.specs.Nodes.{node}
+
+-- a literal and an operator of place terms and entries (0x11, 0x12), or of result terms and final expressions (0x21, 0x22)
+unfoldable pub literal-node : ℕ → ℕ → Node
+literal-node tag k = node (cond (eqb tag 0x11) (Literal k) (ResultLiteral k))
+
+unfoldable pub apply-node : ℕ → ℕ → Node
+apply-node tag o = node (cond (eqb tag 0x11) (Apply o) (ResultApply o))
+
+-- over the terms of its leaves; `mode` is the kind of term, as for `term-bytes`
+abbrev pub term-nodes : {A : Type 0} → ℕ → (A → List Node) → Term A → List Node
+term-nodes mode N (leaf a) = N a
+term-nodes mode N (literal k) = literal-node (literal-tag mode) k ∷ []
+term-nodes mode N (apply o s t) = apply-node (literal-tag mode) o ∷ (term-nodes mode N s ++ term-nodes mode N t)
+
+abbrev pub place-nodes : VertexTerm → List Node
+place-nodes = term-nodes 0 (λ c. node (Path (path-number c)) ∷ [])
+
+abbrev pub result-nodes : ResultTerm → List Node
+result-nodes = term-nodes 1 (λ e. node (Reduce (e .reduction)) ∷ place-nodes (e .body))
+
+-- an entry of a worksheet, and its final expression
+abbrev pub entry-nodes : Term ℕ → List Node
+entry-nodes = term-nodes 2 (λ i. node (PathIndex i) ∷ [])
+
+abbrev pub final-nodes : Term ℕ → List Node
+final-nodes = term-nodes 3 (λ i. node (EntryIndex i) ∷ [])

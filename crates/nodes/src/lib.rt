@@ -1,0 +1,277 @@
+// The typed form of terms (document 01, "Layouts"): one after the other in written order, read from bytes and put into a draft.
+ghost use mathlib.Core.Path.{_≡_};
+ghost use Prim.Native.Nat.{ℕ, _+_, _≤_, _<_, min};
+ghost use lib.ListN.{length, getD, take};
+ghost use mathlib.Core.List.{_∷_, []};
+ghost use Rattle.wire.specs.Wire.{at16, at32, le16, le32};
+ghost use Rattle.terms.specs.Fields.{path-word, used};
+ghost use Rattle.terms.specs.Text.{header-bytes};
+ghost use Rattle.nodes.specs.Nodes.{term-at, next-at, nodes-read};
+ghost use Rattle.nodes.specs.Draft.{empty-draft, put-byte, put-list, key-text, path-text, term-text, nodes-text};
+
+// A term without those that it contains; a path reduction is its six bytes in a worksheet as one number.
+pub enum Term {
+    Empty,
+    Path(u64),
+    Literal(u32),
+    Apply(u8),
+    Reduce(u8),
+    ResultLiteral(u32),
+    ResultApply(u8),
+    PathIndex(u8),
+    EntryIndex(u8),
+}
+
+pub struct Node {
+    pub term: Term,
+}
+
+// Bytes to be written: the first `len` of `bytes`.
+pub struct Draft {
+    pub bytes: [u8; 512],
+    pub len: usize,
+}
+
+// The byte at i, or 0 past the end.
+pub fn byte(s: &[u8], i: usize) -> u8
+    ensures { λ r. ⌜ r ≡ getD (now (s .entry)) i 0 ⌝ }
+{
+    if i < s.len() { s[i] } else { 0 }
+}
+
+fn wide(b: u8) -> u32
+    ensures { λ r. ⌜ (r ≡ b) × (r ≤ 255) ⌝ }
+{
+    b as u32
+}
+
+// 16 bits at i.
+fn half(s: &[u8], i: usize) -> u32
+    requires { ⌜ i ≤ length (now s) + 4 ⌝ }
+    ensures { λ r. ⌜ (r ≡ at16 (now (s .entry)) i) × (r ≤ 65535) ⌝ }
+{
+    wide(byte(s, i)) + 256 * wide(byte(s, i + 1))
+}
+
+// 32 bits at i.
+fn word(s: &[u8], i: usize) -> u32
+    requires { ⌜ i ≤ length (now s) ⌝ }
+    ensures { λ r. ⌜ r ≡ at32 (now (s .entry)) i ⌝ }
+{
+    half(s, i) + 65536 * half(s, i + 2)
+}
+
+fn long(b: u16) -> u64
+    ensures { λ r. ⌜ (r ≡ b) × (r ≤ 65535) ⌝ }
+{
+    b as u64
+}
+
+// Key byte j of a path reduction of n keys, or 0 where there is no such key.
+fn key_at(n: u16, j: u16, b: u16) -> u64
+    ensures { λ r. ⌜ (r ≡ used n j b) × (r ≤ 65535) ⌝ }
+{
+    if j < n { long(b) } else { 0 }
+}
+
+// The path reduction whose key count stands at i, as one number: its six bytes in a worksheet.
+fn path_at(s: &[u8], i: usize) -> u64
+    requires { ⌜ i ≤ length (now s) ⌝ }
+    ensures { λ r. ⌜ r ≡ path-word (now (s .entry)) i ⌝ }
+{
+    let n = terms::byte(s, i);
+    let j = i + 1 + (n as usize);
+    let first = long(n) + 256 * long(terms::byte(s, i + 1));
+    let later = 65536 * key_at(n, 1, terms::byte(s, i + 2))
+        + 16777216 * key_at(n, 2, terms::byte(s, i + 3));
+    let source = long(terms::byte(s, j)) + 256 * long(terms::byte(s, j + 1));
+    first + later + 4294967296 * source
+}
+
+// The term that starts at i, by its tag.
+fn term_of(s: &[u8], i: usize) -> Term
+    ensures { λ r. ⌜ r ≡ term-at (now (s .entry)) i ⌝ }
+{
+    if s.len() <= i {
+        return Term::Empty;
+    }
+    let tag = s[i];
+    if tag == 0x10 {
+        return Term::Path(path_at(s, i + 1));
+    }
+    if tag == 0x11 {
+        return Term::Literal(word(s, i + 1));
+    }
+    if tag == 0x12 {
+        return Term::Apply(byte(s, i + 1));
+    }
+    if tag == 0x20 {
+        return Term::Reduce(byte(s, i + 1));
+    }
+    if tag == 0x21 {
+        return Term::ResultLiteral(word(s, i + 1));
+    }
+    if tag == 0x22 {
+        return Term::ResultApply(byte(s, i + 1));
+    }
+    if tag == 0x30 {
+        return Term::PathIndex(byte(s, i + 1));
+    }
+    if tag == 0x31 {
+        return Term::EntryIndex(byte(s, i + 1));
+    }
+    Term::Empty
+}
+
+// Where the term after the one at i starts.
+fn next_of(s: &[u8], i: usize) -> usize
+    ensures { λ r. ⌜ r ≡ next-at (now (s .entry)) i ⌝ }
+{
+    if s.len() <= i {
+        return i;
+    }
+    let tag = s[i];
+    if tag == 0x10 {
+        return i + 4 + (byte(s, i + 1) as usize);
+    }
+    if tag == 0x11 {
+        return i + 5;
+    }
+    if tag == 0x21 {
+        return i + 5;
+    }
+    i + 2
+}
+
+fn lesser(a: usize, b: usize) -> usize
+    ensures { λ r. ⌜ (r ≡ min a b) × (r ≤ b) ⌝ }
+{
+    if a <= b { a } else { b }
+}
+
+// The first `count` terms from `at` on, one after the other as written; at most 64, and empty ones after them.
+pub fn read_nodes(s: &[u8], at: usize, count: usize) -> [Node; 64]
+    ensures { λ r. ⌜ r ≡ nodes-read count (now (s .entry)) at ⌝ }
+{
+    let empty = Node { term: Term::Empty };
+    let mut nodes = [empty; 64];
+    let n = lesser(count, 64);
+    let mut place = at;
+    let mut i: usize = 0;
+    while i < n {
+        let term = term_of(s, place);
+        nodes[i] = Node { term };
+        place = next_of(s, place);
+        i += 1;
+    }
+    nodes
+}
+
+pub fn empty() -> Draft
+    ensures { λ r. ⌜ r ≡ empty-draft ⌝ }
+{
+    let bytes = [0u8; 512];
+    Draft { bytes, len: 0 }
+}
+
+// One byte more; no change where the draft is full.
+pub fn put(d: Draft, b: u8) -> Draft
+    ensures { λ r. ⌜ r ≡ put-byte d b ⌝ }
+{
+    let n = d.len;
+    if 512 <= n {
+        return d;
+    }
+    let mut r = d;
+    r.bytes[n] = b;
+    r.len = n + 1;
+    r
+}
+
+pub fn put_two(d: Draft, a: u8, b: u8) -> Draft
+    ensures { λ r. ⌜ r ≡ put-list d (a ∷ b ∷ []) ⌝ }
+{
+    put(put(d, a), b)
+}
+
+// The low 16 bits of x, low byte first.
+pub fn put16(d: Draft, x: u64) -> Draft
+    ensures { λ r. ⌜ r ≡ put-list d (le16 x) ⌝ }
+{
+    put_two(d, (x % 256) as u8, (x / 256 % 256) as u8)
+}
+
+// 32 bits, low byte first.
+pub fn put32(d: Draft, x: u32) -> Draft
+    ensures { λ r. ⌜ r ≡ put-list d (le32 x) ⌝ }
+{
+    let wide = x as u64;
+    put16(put16(d, wide), wide / 65536)
+}
+
+// The first five bytes of a question or worksheet.
+pub fn header(letter: u8) -> Draft
+    ensures { λ r. ⌜ r ≡ put-list empty-draft (header-bytes letter) ⌝ }
+{
+    let d = put_two(empty(), 0x4c, 0x50);
+    put(put_two(d, letter, 1), 0)
+}
+
+// Key byte j of a path reduction of n keys.
+fn put_key(d: Draft, n: u64, j: u64, b: u8) -> Draft
+    ensures { λ r. ⌜ r ≡ put-list d (key-text n j b) ⌝ }
+{
+    if j < n { put(d, b) } else { d }
+}
+
+// A path reduction as a question writes it: its key count, as many keys as that says, and its source.
+pub fn put_path(d: Draft, w: u64) -> Draft
+    ensures { λ r. ⌜ r ≡ put-list d (path-text w) ⌝ }
+{
+    let n = w % 256;
+    let d0 = put(d, n as u8);
+    let d1 = put_key(d0, n, 0, (w / 256 % 256) as u8);
+    let d2 = put_key(d1, n, 1, (w / 65536 % 256) as u8);
+    let d3 = put_key(d2, n, 2, (w / 16777216 % 256) as u8);
+    put16(d3, w / 4294967296)
+}
+
+// A tag and 32 bits.
+fn put_literal(d: Draft, tag: u8, x: u32) -> Draft
+    ensures { λ r. ⌜ r ≡ put-list d (tag ∷ le32 x) ⌝ }
+{
+    put32(put(d, tag), x)
+}
+
+// A term without those that it contains. An empty one is a byte that no term starts with.
+pub fn put_term(d: Draft, t: Term) -> Draft
+    ensures { λ r. ⌜ r ≡ put-list d (term-text t) ⌝ }
+{
+    match t {
+        Term::Empty => put(d, 0),
+        Term::Path(w) => put_path(put(d, 0x10), w),
+        Term::Literal(x) => put_literal(d, 0x11, x),
+        Term::Apply(o) => put_two(d, 0x12, o),
+        Term::Reduce(o) => put_two(d, 0x20, o),
+        Term::ResultLiteral(x) => put_literal(d, 0x21, x),
+        Term::ResultApply(o) => put_two(d, 0x22, o),
+        Term::PathIndex(i) => put_two(d, 0x30, i),
+        Term::EntryIndex(i) => put_two(d, 0x31, i),
+    }
+}
+
+// The first `count` terms, in written order: at most 7 bytes each.
+pub fn put_nodes(d: Draft, nodes: [Node; 64], count: usize) -> Draft
+    ensures { λ r. ⌜ (r ≡ put-list d (nodes-text (take count nodes))) × (length (nodes-text (take count nodes)) ≤ 448) ⌝ }
+{
+    let n = lesser(count, 64);
+    let mut r = d;
+    let mut i: usize = 0;
+    while i < n {
+        let node = nodes[i];
+        let term = node.term;
+        r = put_term(r, term);
+        i += 1;
+    }
+    r
+}

@@ -1,0 +1,56 @@
+-- Queries in their typed form, and what reading and writing them says (document 01: question `LPQ`).
+use Prim.Native.Nat.{ℕ}
+use mathlib.Core.Bool.{cond}
+use mathlib.Core.List.{List, _∷_, _++_}
+use lib.Dec.{eqb}
+use lib.ListN.{getD, take, replicate}
+use Rattle.meaning.specs.Limits.{query-terms}
+use Rattle.meaning.specs.Query.{Query, each, single}
+use Rattle.nodes.specs.declared.Term.the-variants.{Empty}
+use Rattle.nodes.specs.Draft.{nodes-text}
+use Rattle.nodes.specs.Nodes.{node, nodes-read, padded}
+use Rattle.nodes.specs.Tree.{place-nodes, result-nodes}
+use Rattle.query.specs.Query.{query-code, query-scan}
+use Rattle.terms.specs.Text.{header-bytes}
+use Rattle.terms.specs.declared.Walk.{Walk}
+use Rattle.wire.specs.Wire.{Reply, fitted, unless}
+use Rattle.query_form.specs.declared.Form.{Form}
+use Rattle.query_form.specs.declared.Reading.{Reading}
+
+-- the typed form of a query: "a kind byte, 0 for a value at each place, 1 for one result, then one term written operator first"
+unfoldable pub form-of : Query → Form
+form-of (each t) = record { kind = 0; count = query-terms (each t); nodes = padded (place-nodes t) }
+form-of (single t) = record { kind = 1; count = query-terms (single t); nodes = padded (result-nodes t) }
+
+-- the bytes of a typed form, legal or not
+unfoldable pub form-bytes : Form → List ℕ
+form-bytes f = header-bytes 0x51 ++ (f .kind ∷ nodes-text (take (f .count) (f .nodes)))
+
+-- "A writer judges what it is handed as the reader of its bytes would, then 15"
+unfoldable pub write-reply : Form → ℕ → Reply
+write-reply f room = unless (query-code (form-bytes f)) (fitted (form-bytes f) room)
+
+-- the reading of bytes. These mirror the program and need not be believed: `read-form` says that the reading of a legal query's bytes is its typed form
+unfoldable pub blank-reading : ℕ → Reading
+blank-reading code = record {
+  code = code;
+  form = record { kind = 0; count = 0; nodes = replicate 64 (node Empty) };
+  paths = 0;
+  table = replicate 8 0;
+  reductions = 0;
+}
+
+unfoldable pub read-after : List ℕ → Walk → Reading
+read-after s w =
+    cond (eqb (w .code) 0)
+    (record {
+      code = 0;
+      form = record { kind = getD s 5 0; count = w .terms; nodes = nodes-read (w .terms) s 6 };
+      paths = w .paths;
+      table = w .table;
+      reductions = w .reductions;
+    })
+    (blank-reading (w .code))
+
+abbrev pub query-reading : List ℕ → Reading
+query-reading s = read-after s (query-scan s)

@@ -1,0 +1,93 @@
+// Queries in their typed form (document 01, question `LPQ`): read from bytes, and written to a lent buffer.
+use nodes::Draft;
+use nodes::Node;
+use nodes::Term;
+ghost use mathlib.Core.Path.{_≡_};
+ghost use Prim.Native.Nat.{_≤_};
+ghost use lib.ListN.{length, take};
+ghost use Rattle.wire.specs.Wire.{reply-number, reply-buffer};
+ghost use Rattle.query_form.specs.Form.{form-bytes, write-reply, blank-reading, query-reading};
+
+// A question: its kind and the first `count` of its terms in written order.
+pub struct Form {
+    pub kind: u8,
+    pub count: usize,
+    pub nodes: [Node; 64],
+}
+
+// What was read: 0 and the question, the table of its different path reductions and how many reductions it has; or the refusal and nothing.
+pub struct Reading {
+    pub code: u8,
+    pub form: Form,
+    pub paths: usize,
+    pub table: [u64; 8],
+    pub reductions: usize,
+}
+
+// Nothing, for the reason that the number gives.
+fn blank(code: u8) -> Reading
+    ensures { λ r. ⌜ r ≡ blank-reading code ⌝ }
+{
+    let empty = Node { term: Term::Empty };
+    let list = [empty; 64];
+    let table = [0u64; 8];
+    Reading {
+        code,
+        form: Form {
+            kind: 0,
+            count: 0,
+            nodes: list,
+        },
+        paths: 0,
+        table,
+        reductions: 0,
+    }
+}
+
+pub fn read(s: &[u8]) -> Reading
+    ensures { λ r. ⌜ r ≡ query-reading (now (s .entry)) ⌝ }
+{
+    let w = query::scan(s);
+    let code = w.code;
+    if code != 0 {
+        return blank(code);
+    }
+    let count = w.terms;
+    let list = nodes::read_nodes(s, 6, count);
+    let kind = nodes::byte(s, 5);
+    let table = w.table;
+    Reading {
+        code: 0,
+        form: Form {
+            kind,
+            count,
+            nodes: list,
+        },
+        paths: w.paths,
+        table,
+        reductions: w.reductions,
+    }
+}
+
+// The bytes of the form: 6, and at most 7 for each of 64 terms.
+fn draft_of(form: Form) -> Draft
+    ensures { λ r. ⌜ (take (r .len) (r .bytes) ≡ form-bytes form) × (r .len ≡ length (form-bytes form)) × (r .len ≤ 512) × (length (r .bytes) ≡ 512) ⌝ }
+{
+    let list = form.nodes;
+    let start = nodes::put(nodes::header(0x51), form.kind);
+    nodes::put_nodes(start, list, form.count)
+}
+
+// The writer of questions: what it is handed is judged by the reader of its bytes, then 15.
+pub fn write(form: Form, out: &mut [u8]) -> u32
+    ensures { λ r. ⌜ (r ≡ reply-number (write-reply form (length (now (out .entry))))) × (now (out .exit) ≡ reply-buffer (write-reply form (length (now (out .entry)))) (now (out .entry))) ⌝ }
+{
+    let d = draft_of(form);
+    let bytes = d.bytes;
+    let n = d.len;
+    let code = query::judge(&bytes[..n]);
+    if code != 0 {
+        return 65536 + code as u32;
+    }
+    wire::lay(&bytes[..n], n as u16, out)
+}

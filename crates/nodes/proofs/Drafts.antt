@@ -10,17 +10,21 @@ use borrow.Author.Tests.{lt-leb}
 use lib.Dec.{ltb}
 use lib.ListN.{length, getD, take, drop, length-set, length-replicate, length-append, length-take}
 use lib.Seq.{append-snoc, take-all, drop-cons, take-suc-set}
+use Rattle.wire.specs.Wire.{fitted, unless}
 use Rattle.nodes.specs.declared.Draft.{Draft}
 use Rattle.nodes.specs.declared.Node.{Node}
 use Rattle.nodes.specs.declared.Term.{Term}
-use Rattle.nodes.specs.declared.Term.the-variants.{Apply, Empty, EntryIndex, Literal, Path, PathIndex, Reduce, ResultApply, ResultLiteral}
-use Rattle.nodes.specs.Draft.{empty-draft, key-text, nodes-text, path-text, put-byte, put-list, term-text}
+use Rattle.nodes.specs.declared.Term.the-variants.{Apply, Empty, Entry, EntryIndex, Literal, Path, PathIndex, Reduce, ResultApply, ResultLiteral}
+use Rattle.nodes.specs.Draft.{empty-draft, key-text, node-text, nodes-text, path-text, put-byte, put-list, term-text, texts}
 use Rattle.nodes.specs.Nodes.{node}
 
 pub put-append : (a b : List ℕ) (d : Draft) → put-list d (a ++ b) ≡ put-list (put-list d a) b
 unfolding put-list
 put-append [] b d = refl
 put-append (x ∷ a) b d = put-append a b (put-byte d x)
+
+pub put-three : (a b c : List ℕ) (d : Draft) → put-list d (a ++ (b ++ c)) ≡ put-list (put-list (put-list d a) b) c
+put-three a b c d = put-append a (b ++ c) d ∙ put-append b c (put-list d a)
 
 pub put-four : (a b c e : List ℕ) (d : Draft) → put-list d (a ++ (b ++ (c ++ e))) ≡ put-list (put-list (put-list (put-list d a) b) c) e
 put-four a b c e d = put-append a (b ++ (c ++ e)) d ∙ put-append b (c ++ e) (put-list d a) ∙ put-append c e (put-list (put-list d a) b)
@@ -29,16 +33,16 @@ put-four a b c e d = put-append a (b ++ (c ++ e)) d ∙ put-append b (c ++ e) (p
 pub record Holds (d : Draft) (l : List ℕ) : Type 0 where
   pub len : d .len ≡ length l
   pub text : take (d .len) (d .bytes) ≡ l
-  pub size : length (d .bytes) ≡ 512
+  pub size : length (d .bytes) ≡ 576
 
 holds-empty : Holds empty-draft []
 unfolding empty-draft
-holds-empty = record { len = refl; text = refl; size = length-replicate {A = ℕ} 512 0 }
+holds-empty = record { len = refl; text = refl; size = length-replicate {A = ℕ} 576 0 }
 
-holds-byte : (d : Draft) (l : List ℕ) (b : ℕ) → Holds d l → length l < 512 → Holds (put-byte d b) (l ++ (b ∷ []))
+holds-byte : (d : Draft) (l : List ℕ) (b : ℕ) → Holds d l → length l < 576 → Holds (put-byte d b) (l ++ (b ∷ []))
 unfolding put-byte
 holds-byte d l b h k =
-    rw (lt-leb 512 (d .len) (omega (arith, h .len)))
+    rw (lt-leb 576 (d .len) (omega (arith, h .len)))
     (record {
       len = omega (arith, h .len, length-append l (b ∷ []));
       text = rw (add-one (d .len)) (take-suc-set (d .bytes) (d .len) b (omega (arith, h .len, h .size)) ∙ ap (λ (t : List ℕ). t ++ (b ∷ [])) (h .text));
@@ -46,15 +50,21 @@ holds-byte d l b h k =
     })
 
 -- A DRAFT THAT HOLDS l HOLDS l AND THE BYTES PUT
-pub put-holds : (m l : List ℕ) (d : Draft) → Holds d l → length l + length m ≤ 512 → Holds (put-list d m) (l ++ m)
+pub put-holds : (m l : List ℕ) (d : Draft) → Holds d l → length l + length m ≤ 576 → Holds (put-list d m) (l ++ m)
 unfolding put-list
 put-holds [] l d h k = subst (Holds d) (sym (append-nil l)) h
 put-holds (b ∷ m) l d h k =
     subst (Holds (put-list (put-byte d b) m)) (append-snoc l b m)
     (put-holds m (l ++ (b ∷ [])) (put-byte d b) (holds-byte d l b h (omega arith)) (omega (arith, length-append l (b ∷ []))))
 
-pub drafted : (l : List ℕ) → length l ≤ 512 → Holds (put-list empty-draft l) l
+pub drafted : (l : List ℕ) → length l ≤ 576 → Holds (put-list empty-draft l) l
 drafted l h = put-holds l [] empty-draft holds-empty (omega arith)
+
+pub drafted-as : (l : List ℕ) → length l ≤ 576 → (d : Draft) → d ≡ put-list empty-draft l
+    → (take (d .len) (d .bytes) ≡ l) × (d .len ≡ length l) × (d .len ≤ 576) × (length (d .bytes) ≡ 576)
+drafted-as l short d e =
+    let h : Holds d l = rw e (drafted l short) in
+    (h .text, h .len, omega (arith, h .len), h .size)
 
 -- a term takes at most seven bytes
 key-short : (n j b : ℕ) → length (key-text n j b) ≤ 1
@@ -85,41 +95,50 @@ term-short (ResultLiteral k) = omega arith
 term-short (ResultApply o) = omega arith
 term-short (PathIndex i) = omega arith
 term-short (EntryIndex i) = omega arith
+term-short (Entry r) = omega arith
 
-text-short : (l : List Node) → length (nodes-text l) ≤ 7 * length l
-unfolding nodes-text
-text-short [] = omega arith
-text-short (n ∷ l) = omega (arith, term-short (n .term), text-short l, length-append (term-text (n .term)) (nodes-text l))
+-- texts of at most so many bytes each
+module _ {A : Type 0} (text : A → List ℕ) where
+  pub texts-short : (most : ℕ) → ((a : A) → length (text a) ≤ most) → (l : List A) → length (texts text l) ≤ most * length l
+  unfolding texts
+  texts-short most f [] = omega arith
+  texts-short most f (a ∷ l) = omega (arith, f a, texts-short most f l, length-append (text a) (texts text l))
 
-pub nodes-short : (count : ℕ) (l : List Node) → length l ≡ 64 → length (nodes-text (take count l)) ≤ 448
-nodes-short count l h = omega (arith, text-short (take count l), length-take count l)
+  pub text-append : (l k : List A) → texts text (l ++ k) ≡ texts text l ++ texts text k
+  unfolding texts
+  text-append [] k = refl
+  text-append (a ∷ l) k = ap (λ (t : List ℕ). text a ++ t) (text-append l k) ∙ sym (append-assoc (text a) (texts text l) (texts text k))
 
-pub text-append : (l k : List Node) → nodes-text (l ++ k) ≡ nodes-text l ++ nodes-text k
-unfolding nodes-text
-text-append [] k = refl
-text-append (n ∷ l) k = ap (λ (t : List ℕ). term-text (n .term) ++ t) (text-append l k) ∙ sym (append-assoc (term-text (n .term)) (nodes-text l) (nodes-text k))
+  -- what is left of the text of n of them from the i-th on
+  abbrev pub left : List A → ℕ → ℕ → List ℕ
+  left l n i = texts text (take (n - i) (drop i l))
 
--- what is left of the text of n terms from the i-th on
-abbrev pub left : List Node → ℕ → ℕ → List ℕ
-left nodes n i = nodes-text (take (n - i) (drop i nodes))
+  -- one more is put, of those that are left
+  module _ (d : Draft) (l : List A) (n i : ℕ) where
+    pub put-more : (z : A) → i < n → n ≤ length l → put-list d (left l n i) ≡ put-list (put-list d (text (getD l i z))) (left l n (i + 1))
+    unfolding texts
+    put-more z h k =
+        let e : n - i ≡ suc (n - (i + 1)) = omega arith in
+        ap (put-list d) (rw (e, drop-cons l i z (omega arith), ← add-one i) refl)
+        ∙ put-append (text (getD l i z)) (left l n (i + 1)) d
 
--- one term more is put, of those that are left
-module _ (d : Draft) (nodes : List Node) (n i : ℕ) where
-  pub put-more : i < n → n ≤ length nodes → put-list d (left nodes n i) ≡ put-list (put-list d (term-text (getD nodes i (node Empty) .term))) (left nodes n (i + 1))
-  unfolding nodes-text
-  put-more h k =
-      let e : n - i ≡ suc (n - (i + 1)) = omega arith in
-      let x : Node = getD nodes i (node Empty) in
-      ap (put-list d) (rw (e, drop-cons nodes i (node Empty) (omega arith), ← add-one i) refl)
-      ∙ put-append (term-text (x .term)) (left nodes n (i + 1)) d
+    pub put-done : n ≤ i → put-list d (left l n i) ≡ d
+    unfolding texts put-list
+    put-done h = let e : n - i ≡ 0 = omega arith in rw e refl
 
-  pub put-done : n ≤ i → put-list d (left nodes n i) ≡ d
-  unfolding nodes-text put-list
-  put-done h = let e : n - i ≡ 0 = omega arith in rw e refl
+pub nodes-short : (count : ℕ) (l : List Node) → length l ≡ 72 → length (nodes-text (take count l)) ≤ 504
+nodes-short count l h = omega (arith, texts-short node-text 7 (λ n. term-short (n .term)) (take count l), length-take count l)
 
-pub take-least : (count n : ℕ) (l : List Node) → length l ≡ 64 → n ≡ min count 64 → take n l ≡ take count l
-take-least count n l h e = go (decLe count 64)
+-- the first of them, where the count is cut to what there is
+pub take-least : {A : Type 0} (count most n : ℕ) (l : List A) → length l ≡ most → n ≡ min count most → take n l ≡ take count l
+take-least {A} count most n l h e = go (decLe count most)
   where
-    go : Dec (count ≤ 64) → take n l ≡ take count l
+    go : Dec (count ≤ most) → take n l ≡ take count l
     go (yes k) = ap (λ (j : ℕ). take j l) (let p : n ≡ count = omega arith in p)
     go (no k) = take-all n l (omega arith) ∙ sym (take-all count l (omega arith))
+
+-- what is laid of the draft is all that it holds
+pub delivered : (b : List ℕ) (len n code room : ℕ) → length b ≡ 576 → n ≡ min len 576 → code ≡ 0 → unless code (fitted (take len b) room) ≡ fitted (take n (take n b)) room
+delivered b len n code room h e z =
+    let p : take n (take n b) ≡ take len b = take-all n (take n b) (omega (arith, length-take n b)) ∙ take-least len 576 n b h e in
+    rw (z, p) refl

@@ -15,7 +15,7 @@ use Rattle.wire.specs.Wire.{le16}
 use Rattle.nodes.specs.declared.Node.{Node}
 use Rattle.nodes.specs.declared.Term as single
 use Rattle.nodes.specs.declared.Term.the-variants.{EntryIndex, Path, PathIndex, Reduce}
-use Rattle.nodes.specs.Draft.{nodes-text, path-text, term-text}
+use Rattle.nodes.specs.Draft.{nodes-text, path-text, term-text, texts}
 use Rattle.nodes.specs.Nodes.{collected, node, passed, tagged}
 use Rattle.nodes.specs.Tree.{entry-nodes, final-nodes, place-nodes, result-nodes, term-nodes}
 use Rattle.nodes.proofs.Fields.{byte-there, collected-on, path-read, path-written}
@@ -35,7 +35,7 @@ place-collected s = collected-term place-leaves path-nodes 0 s one
         ∙ ap (λ (j : ℕ). node (Path (path-number c)) ∷ collected k s (i + j)) (let q : 4 + length (c .keys) ≡ length (0x10 ∷ path-bytes c) = omega (arith, length-append (c .keys) (le16 (c .source))) in q)
 
 pub place-text : (t : VertexTerm) → Every (PathFits 256) t → nodes-text (place-nodes t) ≡ place-bytes t
-unfolding nodes-text term-text
+unfolding texts term-text
 place-text = text-term place-leaves path-nodes 0 (λ c f. append-nil (0x10 ∷ path-text (path-number c)) ∙ ap (λ (l : List ℕ). 0x10 ∷ l) (path-written c f))
 
 pub place-size : (t : VertexTerm) → length (place-nodes t) ≡ terms unit t
@@ -60,7 +60,7 @@ result-collected s = collected-term result-leaves reduction-nodes 1 s one
         ∙ ap (λ (j : ℕ). place-nodes (e .body) ++ collected k s j) (let q : i + 2 + length body ≡ i + length (0x20 ∷ e .reduction ∷ body) = omega arith in q))
 
 pub result-text : (t : ResultTerm) → Every (EveryBody (PathFits 256)) t → nodes-text (result-nodes t) ≡ result-bytes t
-unfolding nodes-text term-text
+unfolding texts term-text
 result-text = text-term result-leaves reduction-nodes 1 (λ e f. ap (λ (l : List ℕ). 0x20 ∷ e .reduction ∷ l) (place-text (e .body) (f .2)))
 
 pub result-size : (t : ResultTerm) → length (result-nodes t) ≡ terms (λ e. suc (terms unit (e .body))) t
@@ -81,7 +81,7 @@ module _ (m count : ℕ) (made : ℕ → single.Term) (is : (s : List ℕ) (i : 
           ∙ collected-on s i (leaf-tag m) (j ∷ rest) e k (node (made j)) (i + 2) (ap node (is s i ∙ ap made (byte-there s i (leaf-tag m) j rest e))) (on s i)
 
   index-text : (t : Term ℕ) → Every (λ j. j < count) t → nodes-text (term-nodes m index-nodes t) ≡ expression-bytes m t
-  unfolding nodes-text
+  unfolding texts
   index-text = text-term (index-leaves m count) index-nodes m (λ j f. append-nil (term-text (made j)) ∙ text j)
 
   index-size : (t : Term ℕ) → length (term-nodes m index-nodes t) ≡ terms unit t

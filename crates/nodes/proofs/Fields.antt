@@ -5,7 +5,7 @@ use mathlib.Core.Logic.{_⊎_, inl, inr}
 use mathlib.Core.Bool.{Bool, true, false, cond}
 use mathlib.Core.List.{List, [], _∷_, _++_}
 use native.Mathlib.Omega.{arith}
-use borrow.Author.Tests.{lt-leb}
+use borrow.Author.Tests.{lt-leb, lt-ltb, ne-eqb}
 use lib.Dec.{T, leb, eqb, leb→le}
 use lib.ListN.{length, getD, drop}
 use Rattle.meaning.specs.Limits.{PathFits}
@@ -18,7 +18,7 @@ use Rattle.walks.specs.Keys.{all-known, known}
 use Rattle.walks.proofs.Tests.{and-left, and-right}
 use Rattle.wire.specs.Wire.{at32, le16, le32}
 use Rattle.nodes.specs.declared.Node.{Node}
-use Rattle.nodes.specs.declared.Term.the-variants.{Path}
+use Rattle.nodes.specs.declared.Term.the-variants.{Entry, Path}
 use Rattle.nodes.specs.Draft.{key-text, path-text, term-text}
 use Rattle.nodes.specs.Nodes.{collected, next-at, node, passed, tagged, term-at}
 use Rattle.nodes.specs.Tree.{apply-node, literal-node}
@@ -57,15 +57,22 @@ key-small [] t i = omega arith
 key-small (k ∷ ks) t zero = omega (arith, leb→le k 6 (and-right (leb 1 k) (leb k 6) (and-left (known k) (all-known ks) t)))
 key-small (k ∷ ks) t (suc i) = key-small ks (and-right (known k) (all-known ks) t) i
 
+-- the digits of its number are its key count, its keys and its source
+pub path-digits : (c : PathReduction) → PathFits 256 c
+    → (path-number c % 256 ≡ length (c .keys)) × (path-number c / 256 % 256 ≡ getD (c .keys) 0 0) × (path-number c / 65536 % 256 ≡ getD (c .keys) 1 0) × (path-number c / 16777216 % 256 ≡ getD (c .keys) 2 0) × (path-number c / 4294967296 ≡ c .source)
+path-digits c f =
+    let p = legal-parts (c .keys) (f .0) in
+    let w = path-number c in
+    let few = leb→le (length (c .keys)) 3 (p .1) in
+    five-digits (w % 256) (w / 256 % 256) (w / 65536 % 256) (w / 16777216 % 256) (w / 4294967296) (length (c .keys)) (getD (c .keys) 0 0) (getD (c .keys) 1 0) (getD (c .keys) 2 0) (c .source)
+    (omega arith) (omega arith) (omega arith) (key-small (c .keys) (p .2) 0) (omega arith) (key-small (c .keys) (p .2) 1) (omega arith) (key-small (c .keys) (p .2) 2) (split w)
+
 pub path-written : (c : PathReduction) → PathFits 256 c → path-text (path-number c) ≡ path-bytes c
 unfolding path-text
 path-written c f =
     let p = legal-parts (c .keys) (f .0) in
-    let w = path-number c in
-    let few = leb→le (length (c .keys)) 3 (p .1) in
-    let d = five-digits (w % 256) (w / 256 % 256) (w / 65536 % 256) (w / 16777216 % 256) (w / 4294967296) (length (c .keys)) (getD (c .keys) 0 0) (getD (c .keys) 1 0) (getD (c .keys) 2 0) (c .source)
-    (omega arith) (omega arith) (omega arith) (key-small (c .keys) (p .2) 0) (omega arith) (key-small (c .keys) (p .2) 1) (omega arith) (key-small (c .keys) (p .2) 2) (split w) in
-    rw (d .0, d .1, d .2, d .3, d .4) (go (c .keys) few (leb→le 1 (length (c .keys)) (p .0)))
+    let d = path-digits c f in
+    rw (d .0, d .1, d .2, d .3, d .4) (go (c .keys) (leb→le (length (c .keys)) 3 (p .1)) (leb→le 1 (length (c .keys)) (p .0)))
   where
     go : (ks : List ℕ) → length ks ≤ 3 → 1 ≤ length ks
         → length ks ∷ (key-text (length ks) 0 (getD ks 0 0) ++ (key-text (length ks) 1 (getD ks 1 0) ++ (key-text (length ks) 2 (getD ks 2 0) ++ le16 (c .source))))
@@ -110,6 +117,11 @@ pub apply-read : (s : List ℕ) (i tag o : ℕ) (l : List ℕ) → (tag ≡ 0x11
 unfolding apply-node
 apply-read s i tag o l (inl p) e n = collected-on s i (tag + 1) (o ∷ l) e n (apply-node tag o) (i + 2) (rw (p, byte-there s i (tag + 1) o l e) refl) (rw p refl)
 apply-read s i tag o l (inr p) e n = collected-on s i (tag + 1) (o ∷ l) e n (apply-node tag o) (i + 2) (rw (p, byte-there s i (tag + 1) o l e) refl) (rw p refl)
+
+-- the reduction byte of an entry
+pub entry-read : (s : List ℕ) (i r : ℕ) (l : List ℕ) → r < 16 → drop i s ≡ r ∷ l → (n : ℕ) → collected (suc n) s i ≡ node (Entry r) ∷ collected n s (i + 1)
+entry-read s i r l h e n = collected-on s i r l e n (node (Entry r)) (i + 1) (rw (lt-ltb r 16 h, ne-eqb r 0x10 (λ p. absurd (omega arith)), ne-eqb r 0x11 (λ p. absurd (omega arith)), ne-eqb r 0x12 (λ p. absurd (omega arith)), ne-eqb r 0x20 (λ p. absurd (omega arith)), ne-eqb r 0x21 (λ p. absurd (omega arith)), ne-eqb r 0x22 (λ p. absurd (omega arith)), ne-eqb r 0x30 (λ p. absurd (omega arith)), ne-eqb r 0x31 (λ p. absurd (omega arith))) refl)
+    (rw (lt-ltb r 16 h, ne-eqb r 0x10 (λ p. absurd (omega arith)), ne-eqb r 0x11 (λ p. absurd (omega arith)), ne-eqb r 0x21 (λ p. absurd (omega arith))) refl)
 
 -- a path reduction
 pub path-read : (s : List ℕ) (i : ℕ) (c : PathReduction) (l : List ℕ) → PathFits 256 c → drop i s ≡ 0x10 ∷ (path-bytes c ++ l)

@@ -3,8 +3,8 @@ use Prim.Native.Nat.{ℕ, suc, _+_, _-_, _≤_, _<_, min}
 use mathlib.Core.Path.{_≡_, refl, sym, ap, _∙_}
 use mathlib.Core.List.{List, [], _∷_, _++_, append-nil}
 use native.Mathlib.Omega.{arith}
-use lib.ListN.{length, set, replicate, length-append}
-use lib.Seq.{set-at, append-snoc}
+use lib.ListN.{length, set, take, replicate, length-append}
+use lib.Seq.{set-at, take-at, append-snoc}
 use Rattle.nodes.specs.declared.Node.{Node}
 use Rattle.nodes.specs.declared.Term.the-variants.{Empty}
 use Rattle.nodes.specs.Nodes.{collected, next-at, node, nodes-read, padded, term-at}
@@ -15,17 +15,17 @@ module _ (s : List ℕ) (from n : ℕ) where
     pub front : List Node
     pub size : length front ≡ i
     pub below : i ≤ n
-    pub holds : nodes ≡ front ++ replicate (64 - i) (node Empty)
+    pub holds : nodes ≡ front ++ replicate (72 - i) (node Empty)
     pub rest : front ++ collected (n - i) s at ≡ collected n s from
 
-  pub held-none : Held (replicate 64 (node Empty)) from 0
+  pub held-none : Held (replicate 72 (node Empty)) from 0
   held-none = record { front = []; size = refl; below = omega arith; holds = refl; rest = ap (λ (k : ℕ). collected k s from) (let e : n - 0 ≡ n = omega arith in e) }
 
-  pub held-more : n ≤ 64 → (nodes : List Node) (at i : ℕ) → i < n → Held nodes at i → Held (set nodes i (node (term-at s at))) (next-at s at) (i + 1)
+  pub held-more : n ≤ 72 → (nodes : List Node) (at i : ℕ) → i < n → Held nodes at i → Held (set nodes i (node (term-at s at))) (next-at s at) (i + 1)
   unfolding collected
   held-more few nodes at i h b =
       let x : Node = node (term-at s at) in
-      let e : 64 - i ≡ suc (64 - (i + 1)) = omega arith in
+      let e : 72 - i ≡ suc (72 - (i + 1)) = omega arith in
       let p : n - i ≡ suc (n - (i + 1)) = omega arith in
       record {
         front = b .front ++ (x ∷ []);
@@ -33,8 +33,8 @@ module _ (s : List ℕ) (from n : ℕ) where
         below = omega arith;
         holds =
             ap (λ (l : List Node). set l i x) (b .holds ∙ ap (λ (k : ℕ). b .front ++ replicate k (node Empty)) e)
-            ∙ set-at (b .front) (node Empty) (replicate (64 - (i + 1)) (node Empty)) x i (b .size)
-            ∙ sym (append-snoc (b .front) x (replicate (64 - (i + 1)) (node Empty)));
+            ∙ set-at (b .front) (node Empty) (replicate (72 - (i + 1)) (node Empty)) x i (b .size)
+            ∙ sym (append-snoc (b .front) x (replicate (72 - (i + 1)) (node Empty)));
         rest =
             append-snoc (b .front) x (collected (n - (i + 1)) s (next-at s at))
             ∙ ap (λ (k : ℕ). b .front ++ collected k s at) (sym p) ∙ b .rest;
@@ -45,11 +45,14 @@ module _ (s : List ℕ) (from n : ℕ) where
   held-all nodes at i h b =
       let p : n - i ≡ 0 = omega arith in
       let e : b .front ≡ collected n s from = sym (append-nil (b .front)) ∙ ap (λ (k : ℕ). b .front ++ collected k s at) (sym p) ∙ b .rest in
-      b .holds ∙ ap (λ (k : ℕ). b .front ++ replicate (64 - k) (node Empty)) (sym (b .size)) ∙ ap padded e
+      b .holds ∙ ap (λ (k : ℕ). b .front ++ replicate (72 - k) (node Empty)) (sym (b .size)) ∙ ap padded e
 
--- all terms of a text that has at most 64
-pub read-whole : (s : List ℕ) (i j n : ℕ) (l : List Node) → n ≤ 64 → collected (n + 0) s i ≡ l ++ collected 0 s j → nodes-read n s i ≡ padded l
+-- all terms of a text that has at most 72
+pub read-whole : (s : List ℕ) (i j n : ℕ) (l : List Node) → n ≤ 72 → collected (n + 0) s i ≡ l ++ collected 0 s j → nodes-read n s i ≡ padded l
 unfolding nodes-read collected
 read-whole s i j n l h e =
-    let p : min n 64 ≡ n + 0 = omega arith in
+    let p : min n 72 ≡ n + 0 = omega arith in
     ap padded (ap (λ (k : ℕ). collected k s i) p ∙ e ∙ append-nil l)
+
+pub first-nodes : (n : ℕ) (l : List Node) → length l ≡ n → take n (padded l) ≡ l
+first-nodes n l e = take-at l _ n e

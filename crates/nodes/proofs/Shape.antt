@@ -12,7 +12,7 @@ use Rattle.terms.specs.Text.{term-bytes}
 use Rattle.terms.proofs.Shape.{Leaves}
 use Rattle.terms.proofs.Steps.{drop-on}
 use Rattle.nodes.specs.declared.Node.{Node}
-use Rattle.nodes.specs.Draft.{nodes-text, term-text}
+use Rattle.nodes.specs.Draft.{node-text, nodes-text, term-text, texts}
 use Rattle.nodes.specs.Nodes.{collected}
 use Rattle.nodes.specs.Tree.{apply-node, literal-node, term-nodes}
 use Rattle.nodes.proofs.Drafts.{text-append}
@@ -51,11 +51,11 @@ module _ {A : Type 0} (K : Leaves A) (N : A → List Node) (m : ℕ) where
 
   -- THE TEXT OF ITS TERMS IS ITS BYTES
   pub text-term : ((a : A) → K .fine a → nodes-text (N a) ≡ K .bytes a) → (t : Term A) → Every (K .fine) t → nodes-text (term-nodes m N t) ≡ term-bytes m (K .bytes) t
-  unfolding nodes-text
+  unfolding texts
   text-term f (leaf a) e = f a e
   text-term f (literal k) e = append-nil (term-text (literal-node (literal-tag m) k .term)) ∙ literal-text (literal-tag m) k (literal-tags m)
   text-term f (apply o t u) e =
-      ap₂ _++_ (apply-text (literal-tag m) o (literal-tags m)) (text-append (nodes t) (nodes u) ∙ ap₂ _++_ (text-term f t (e .2)) (text-term f u (e .3)))
+      ap₂ _++_ (apply-text (literal-tag m) o (literal-tags m)) (text-append node-text (nodes t) (nodes u) ∙ ap₂ _++_ (text-term f t (e .2)) (text-term f u (e .3)))
 
   -- there are as many as the tree has terms
   pub count-term : ((a : A) → length (N a) ≡ K .size a) → (t : Term A) → length (term-nodes m N t) ≡ terms (K .size) t

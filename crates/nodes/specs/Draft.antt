@@ -8,14 +8,14 @@ use Rattle.wire.specs.Wire.{le16, le32}
 use Rattle.nodes.specs.declared.Draft.{Draft}
 use Rattle.nodes.specs.declared.Node.{Node}
 use Rattle.nodes.specs.declared.Term.{Term}
-use Rattle.nodes.specs.declared.Term.the-variants.{Empty, Path, Literal, Apply, Reduce, ResultLiteral, ResultApply, PathIndex, EntryIndex}
+use Rattle.nodes.specs.declared.Term.the-variants.{Empty, Path, Literal, Apply, Reduce, ResultLiteral, ResultApply, PathIndex, EntryIndex, Entry}
 
 -- these mirror the program and need not be believed: what the draft holds is said of the bytes put (`put-holds`)
 unfoldable pub empty-draft : Draft
-empty-draft = record { bytes = replicate 512 0; len = 0 }
+empty-draft = record { bytes = replicate 576 0; len = 0 }
 
 unfoldable pub put-byte : Draft → ℕ → Draft
-put-byte d b = cond (leb 512 (d .len)) d (record { bytes = set (d .bytes) (d .len) b; len = d .len + 1 })
+put-byte d b = cond (leb 576 (d .len)) d (record { bytes = set (d .bytes) (d .len) b; len = d .len + 1 })
 
 unfoldable pub put-list : Draft → List ℕ → Draft
 put-list d [] = d
@@ -43,8 +43,16 @@ term-text (ResultLiteral k) = 0x21 ∷ le32 k
 term-text (ResultApply o) = 0x22 ∷ o ∷ []
 term-text (PathIndex i) = 0x30 ∷ i ∷ []
 term-text (EntryIndex i) = 0x31 ∷ i ∷ []
+term-text (Entry r) = r ∷ []
 
--- "written operator first": one after the other
-unfoldable pub nodes-text : List Node → List ℕ
-nodes-text [] = []
-nodes-text (n ∷ l) = term-text (n .term) ++ nodes-text l
+-- one after the other, each by its text
+unfoldable pub texts : {A : Type 0} → (A → List ℕ) → List A → List ℕ
+texts text [] = []
+texts text (a ∷ l) = text a ++ texts text l
+
+abbrev pub node-text : Node → List ℕ
+node-text n = term-text (n .term)
+
+-- "written operator first"
+abbrev pub nodes-text : List Node → List ℕ
+nodes-text = texts node-text

@@ -2,19 +2,20 @@
 use Prim.Native.Nat.{ℕ, zero, suc, _+_, _-_, min}
 use mathlib.Core.Bool.{cond}
 use mathlib.Core.List.{List, [], _∷_, _++_}
-use lib.Dec.{leb, eqb}
+use lib.Dec.{leb, ltb, eqb}
 use lib.ListN.{length, getD, replicate}
 use Rattle.terms.specs.Fields.{path-word}
 use Rattle.wire.specs.Wire.{at32}
 use Rattle.nodes.specs.declared.Node.{Node}
 use Rattle.nodes.specs.declared.Term.{Term}
-use Rattle.nodes.specs.declared.Term.the-variants.{Empty, Path, Literal, Apply, Reduce, ResultLiteral, ResultApply, PathIndex, EntryIndex}
+use Rattle.nodes.specs.declared.Term.the-variants.{Empty, Path, Literal, Apply, Reduce, ResultLiteral, ResultApply, PathIndex, EntryIndex, Entry}
 
 abbrev pub node : Term → Node
 node t = record { term = t }
 
 -- the term that starts at place i, by its tag: "0x10, key count 1 to 3, the keys, a 16-bit start .. ; 0x11 and a 32-bit literal; 0x12, operator, ..", "0x20, reduction,
--- a place term; 0x21 and a 32-bit literal; 0x22, operator, ..", "0x30 and a chain's index for a chain, 0x31 and an entry's index for a reduction"; empty for another byte
+-- a place term; 0x21 and a 32-bit literal; 0x22, operator, ..", "0x30 and a chain's index for a chain, 0x31 and an entry's index for a reduction"; "e entries, each a
+-- reduction byte and an expression": no term starts with a byte below 0x10; empty for another byte
 abbrev pub tagged : ℕ → List ℕ → ℕ → Term
 tagged tag s i =
     cond (eqb tag 0x10) (Path (path-word s (i + 1)))
@@ -24,11 +25,12 @@ tagged tag s i =
     (cond (eqb tag 0x21) (ResultLiteral (at32 s (i + 1)))
     (cond (eqb tag 0x22) (ResultApply (getD s (i + 1) 0))
     (cond (eqb tag 0x30) (PathIndex (getD s (i + 1) 0))
-    (cond (eqb tag 0x31) (EntryIndex (getD s (i + 1) 0)) Empty)))))))
+    (cond (eqb tag 0x31) (EntryIndex (getD s (i + 1) 0))
+    (cond (ltb tag 0x10) (Entry tag) Empty))))))))
 
--- where the next term starts: a path reduction has four bytes and its keys, a literal five, every other term two
+-- where the next term starts: a path reduction has four bytes and its keys, a literal five, every other term two, a reduction byte is one
 abbrev pub passed : ℕ → List ℕ → ℕ → ℕ
-passed tag s i = cond (eqb tag 0x10) (i + 4 + getD s (i + 1) 0) (cond (eqb tag 0x11) (i + 5) (cond (eqb tag 0x21) (i + 5) (i + 2)))
+passed tag s i = cond (eqb tag 0x10) (i + 4 + getD s (i + 1) 0) (cond (eqb tag 0x11) (i + 5) (cond (eqb tag 0x21) (i + 5) (cond (ltb tag 0x10) (i + 1) (i + 2))))
 
 -- no term starts past the end
 unfoldable pub term-at : List ℕ → ℕ → Term
@@ -42,10 +44,10 @@ unfoldable pub collected : ℕ → List ℕ → ℕ → List Node
 collected zero s i = []
 collected (suc k) s i = node (term-at s i) ∷ collected k s (next-at s i)
 
--- the rest of 64 places is empty
+-- the rest of 72 places is empty
 abbrev pub padded : List Node → List Node
-padded l = l ++ replicate (64 - length l) (node Empty)
+padded l = l ++ replicate (72 - length l) (node Empty)
 
--- the typed form: "A question has at most 64 terms"
+-- the typed form: 64 terms, and 8 reduction bytes of entries
 unfoldable pub nodes-read : ℕ → List ℕ → ℕ → List Node
-nodes-read count s i = padded (collected (min count 64) s i)
+nodes-read count s i = padded (collected (min count 72) s i)

@@ -3,13 +3,13 @@ ghost use mathlib.Core.Path.{_≡_};
 ghost use Prim.Native.Nat.{ℕ, _+_, _≤_, _<_, min};
 ghost use lib.ListN.{length, getD, take};
 ghost use mathlib.Core.List.{_∷_, []};
-ghost use Rattle.wire.specs.Wire.{at16, at32, le16, le32};
+ghost use Rattle.wire.specs.Wire.{at16, at32, le16, le32, fitted, reply-number, reply-buffer, unless};
 ghost use Rattle.terms.specs.Fields.{path-word, used};
 ghost use Rattle.terms.specs.Text.{header-bytes};
 ghost use Rattle.nodes.specs.Nodes.{term-at, next-at, nodes-read};
 ghost use Rattle.nodes.specs.Draft.{empty-draft, put-byte, put-list, key-text, path-text, term-text, nodes-text};
 
-// A term without those that it contains; a path reduction is its six bytes in a worksheet as one number.
+// A term without those that it contains, or the reduction byte before an entry of a worksheet; a path reduction is its six bytes in a worksheet as one number.
 pub enum Term {
     Empty,
     Path(u64),
@@ -20,6 +20,7 @@ pub enum Term {
     ResultApply(u8),
     PathIndex(u8),
     EntryIndex(u8),
+    Entry(u8),
 }
 
 pub struct Node {
@@ -28,7 +29,7 @@ pub struct Node {
 
 // Bytes to be written: the first `len` of `bytes`.
 pub struct Draft {
-    pub bytes: [u8; 512],
+    pub bytes: [u8; 576],
     pub len: usize,
 }
 
@@ -120,6 +121,9 @@ fn term_of(s: &[u8], i: usize) -> Term
     if tag == 0x31 {
         return Term::EntryIndex(byte(s, i + 1));
     }
+    if tag < 0x10 {
+        return Term::Entry(tag);
+    }
     Term::Empty
 }
 
@@ -140,22 +144,26 @@ fn next_of(s: &[u8], i: usize) -> usize
     if tag == 0x21 {
         return i + 5;
     }
+    if tag < 0x10 {
+        return i + 1;
+    }
     i + 2
 }
 
-fn lesser(a: usize, b: usize) -> usize
+// The lesser of two.
+pub fn lesser(a: usize, b: usize) -> usize
     ensures { λ r. ⌜ (r ≡ min a b) × (r ≤ b) ⌝ }
 {
     if a <= b { a } else { b }
 }
 
-// The first `count` terms from `at` on, one after the other as written; at most 64, and empty ones after them.
-pub fn read_nodes(s: &[u8], at: usize, count: usize) -> [Node; 64]
+// The first `count` terms from `at` on, one after the other as written; at most 72 (64 terms, and 8 entries), and empty ones after them.
+pub fn read_nodes(s: &[u8], at: usize, count: usize) -> [Node; 72]
     ensures { λ r. ⌜ r ≡ nodes-read count (now (s .entry)) at ⌝ }
 {
     let empty = Node { term: Term::Empty };
-    let mut nodes = [empty; 64];
-    let n = lesser(count, 64);
+    let mut nodes = [empty; 72];
+    let n = lesser(count, 72);
     let mut place = at;
     let mut i: usize = 0;
     while i < n {
@@ -170,7 +178,7 @@ pub fn read_nodes(s: &[u8], at: usize, count: usize) -> [Node; 64]
 pub fn empty() -> Draft
     ensures { λ r. ⌜ r ≡ empty-draft ⌝ }
 {
-    let bytes = [0u8; 512];
+    let bytes = [0u8; 576];
     Draft { bytes, len: 0 }
 }
 
@@ -179,7 +187,7 @@ pub fn put(d: Draft, b: u8) -> Draft
     ensures { λ r. ⌜ r ≡ put-byte d b ⌝ }
 {
     let n = d.len;
-    if 512 <= n {
+    if 576 <= n {
         return d;
     }
     let mut r = d;
@@ -257,14 +265,15 @@ pub fn put_term(d: Draft, t: Term) -> Draft
         Term::ResultApply(o) => put_two(d, 0x22, o),
         Term::PathIndex(i) => put_two(d, 0x30, i),
         Term::EntryIndex(i) => put_two(d, 0x31, i),
+        Term::Entry(b) => put(d, b),
     }
 }
 
 // The first `count` terms, in written order: at most 7 bytes each.
-pub fn put_nodes(d: Draft, nodes: [Node; 64], count: usize) -> Draft
-    ensures { λ r. ⌜ (r ≡ put-list d (nodes-text (take count nodes))) × (length (nodes-text (take count nodes)) ≤ 448) ⌝ }
+pub fn put_nodes(d: Draft, nodes: [Node; 72], count: usize) -> Draft
+    ensures { λ r. ⌜ (r ≡ put-list d (nodes-text (take count nodes))) × (length (nodes-text (take count nodes)) ≤ 504) ⌝ }
 {
-    let n = lesser(count, 64);
+    let n = lesser(count, 72);
     let mut r = d;
     let mut i: usize = 0;
     while i < n {
@@ -274,4 +283,15 @@ pub fn put_nodes(d: Draft, nodes: [Node; 64], count: usize) -> Draft
         i += 1;
     }
     r
+}
+
+// The end of a writer by draft: refuses by the number that its bytes were judged by, or lays the first `len` of them.
+pub fn deliver(bytes: [u8; 576], len: usize, code: u8, out: &mut [u8]) -> u32
+    ensures { λ r. ⌜ (r ≡ reply-number (unless code (fitted (take len bytes) (length (now (out .entry)))))) × (now (out .exit) ≡ reply-buffer (unless code (fitted (take len bytes) (length (now (out .entry))))) (now (out .entry))) ⌝ }
+{
+    if code != 0 {
+        return 65536 + code as u32;
+    }
+    let n = lesser(len, 576);
+    wire::lay(&bytes[..n], n as u16, out)
 }

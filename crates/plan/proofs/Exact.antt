@@ -22,21 +22,23 @@ use Rattle.terms.proofs.Steps.{drop-on, there}
 use Rattle.terms.proofs.Table.{Table}
 use Rattle.wire.specs.Wire.{Bytes}
 use Rattle.plan.specs.Plan.{body-scan, count-code, entries-scan, entry-scan, final-scan, moved, plan-code, plan-scan, rows-scan}
-use Rattle.plan.specs.Text.{body-bytes, encode, entries-bytes, kind-of, rows-bytes}
+use Rattle.plan.specs.Text.{body-bytes, encode, entries-bytes, entry-count, kind-of, rows-bytes}
 use Rattle.plan.proofs.Expressions.{Passed, entries-complete, entries-sound, entry-complete, entry-sound, expr-complete, expr-sound, moved-table}
 use Rattle.plan.proofs.PathRows.{RowsHeld, filler-zero, rows-complete, rows-sound}
 
--- what the reader knows of an accepted plan: its path reductions in the table, and its terms
+-- what the reader knows of an accepted plan: its path reductions in the table, its terms and its entries
 pub record Scanned (w : Walk) (p : Plan) : Type 0 where
   pub accepted : w .code ≡ 0
   pub terms : w .terms ≡ plan-terms (p .body)
+  pub reductions : w .reductions ≡ entry-count (p .body)
   pub table : Table w (p .paths)
 
 -- so far on, with the same path reductions
-record Read (w w′ : Walk) (cs : List PathReduction) (n z : ℕ) : Type 0 where
+record Read (w w′ : Walk) (cs : List PathReduction) (n z e : ℕ) : Type 0 where
   pub code : w′ .code ≡ 0
   pub at : w′ .at ≡ w .at + n
   pub terms : w′ .terms ≡ z
+  pub reductions : w′ .reductions ≡ e
   pub table : Table w′ cs
 
 abbrev reductions-of : Walk → ℕ
@@ -53,7 +55,7 @@ module _ (s : List ℕ) where
 
   -- from the entry count on
   body-complete : (b : Body) (w : Walk) (cs : List PathReduction) (rest : List ℕ) → w .code ≡ 0 → Table w cs → w .terms ≡ 0 → drop (w .at) s ≡ body-bytes b ++ rest
-      → BodyLegal (length cs) b → plan-terms b ≤ 64 → Read w (body-scan (kind-of b) s w) cs (length (body-bytes b)) (plan-terms b)
+      → BodyLegal (length cs) b → plan-terms b ≤ 64 → Read w (body-scan (kind-of b) s w) cs (length (body-bytes b)) (plan-terms b) (entry-count b)
   unfolding moved final-scan entries-scan leaf-step literal-tag leaf-tag
   body-complete (each-vertex t) w cs rest z tb n e l k =
       let h = there s (w .at) 1 (0 ∷ (expression-bytes 2 t ++ rest)) e in
@@ -62,8 +64,8 @@ module _ (s : List ℕ) where
       let next = drop-on s (w .at) 1 (1 ∷ []) (0 ∷ (expression-bytes 2 t ++ rest)) e refl in
       let a = entry-complete s 0 0 t w1 cs rest z (moved-table w cs (w .at + 1) 1 tb (omega arith)) refl next l (omega arith) in
       let walk : body-scan 0 s w ≡ entry-scan 0 s w1 = body-walk 0 1 w z h b refl ∙ rw (eq-eqb (w .code) 0 z) refl in
-      subst (λ (v : Walk). Read w v cs (length (body-bytes (each-vertex t))) (terms unit t)) (sym walk)
-      (record { code = a .code; at = omega (arith, a .at); terms = omega (arith, a .terms); table = a .table })
+      subst (λ (v : Walk). Read w v cs (length (body-bytes (each-vertex t))) (terms unit t) 1) (sym walk)
+      (record { code = a .code; at = omega (arith, a .at); terms = omega (arith, a .terms); reductions = a .reductions; table = a .table })
   body-complete (one-result es t) w cs rest z tb n e l k =
       let c = length es in
       let e0 : drop (w .at) s ≡ length es ∷ (entries-bytes es ++ (expression-bytes 3 t ++ rest)) =
@@ -79,11 +81,12 @@ module _ (s : List ℕ) where
       let d = expr-complete s 3 reductions-of (λ w w′ p q. q) (λ w. refl) refl refl t w2 cs rest (a .code) (a .table) (omega (arith, a .reductions, l .0)) e2
       (subst (λ (m : ℕ). Expression m t) (sym (a .reductions)) (l .2)) (omega (arith, a .terms)) in
       let walk : body-scan 1 s w ≡ read 3 16 s w2 = body-walk 1 c w z h b (count-one c (l .0)) in
-      subst (λ (v : Walk). Read w v cs (length (body-bytes (one-result es t))) (plan-terms (one-result es t))) (sym walk)
+      subst (λ (v : Walk). Read w v cs (length (body-bytes (one-result es t))) (plan-terms (one-result es t)) (length es)) (sym walk)
       (record {
         code = d .code;
         at = omega (arith, d .at, a .at, length-append (entries-bytes es) (expression-bytes 3 t));
         terms = omega (arith, d .terms, a .terms);
+        reductions = d .reductions ∙ a .reductions;
         table = d .table;
       })
 
@@ -112,7 +115,7 @@ read-complete p l =
     let whole =
     plan-walk s (kind-of (p .body)) n (header-accepted 0x57 (kind-of (p .body) ∷ n ∷ (rows-bytes (p .paths) ++ body-bytes (p .body)))) refl (kind-small (p .body)) refl (l .few-paths)
     ∙ ended-whole s (body-scan (kind-of (p .body)) s w1) (omega (arith, b .at, a .at)) in
-    subst (λ (w : Walk). Scanned w p) (sym whole) (record { accepted = b .code; terms = b .terms; table = b .table })
+    subst (λ (w : Walk). Scanned w p) (sym whole) (record { accepted = b .code; terms = b .terms; reductions = b .reductions; table = b .table })
 
 -- what an accepted text is: header, kind, count, and the rest read to its end
 accepted-parts : (s : List ℕ) → plan-code s ≡ 0
@@ -239,7 +242,7 @@ read-sound s bytes e =
     let a = subst (λ (v : Walk). RowsHeld (started 7) v (f .0) (length (rows-bytes (f .0)))) walk
     (rows-complete s (f .0) (started 7) [] (f .1) refl (started-table 7) (f .3) (f .4) (omega (arith, p .2, f .2))) in
     let b = body-sound s bytes kind w1 (f .0) (p .1) ok (a .table) (a .terms) (z .0) in
-    let c = subst (λ (k : ℕ). Read w1 (body-scan k s w1) (f .0) (length (body-bytes (b .0))) (plan-terms (b .0))) (b .2)
+    let c = subst (λ (k : ℕ). Read w1 (body-scan k s w1) (f .0) (length (body-bytes (b .0))) (plan-terms (b .0)) (entry-count (b .0))) (b .2)
     (body-complete s (b .0) w1 (f .0) (b .1) ok (a .table) (a .terms) (b .3) (b .4) (b .5)) in
     let rest : f .1 ≡ body-bytes (b .0) ++ b .1 =
     sym (ap (λ (i : ℕ). drop i s) (a .at) ∙ drop-on s 7 (length (rows-bytes (f .0))) (rows-bytes (f .0)) (f .1) (f .4) refl) ∙ b .3 in

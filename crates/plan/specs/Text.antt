@@ -29,6 +29,10 @@ abbrev pub kind-of : Body → ℕ
 kind-of (each-vertex t) = 0
 kind-of (one-result es t) = 1
 
+abbrev pub entry-count : Body → ℕ
+entry-count (each-vertex t) = 1
+entry-count (one-result es t) = length es
+
 -- "kind byte; chain count c (0 to 8) and c chains ..; entry count e; e entries ..; for kind 1 a final expression"
 abbrev pub encode : Plan → List ℕ
 encode p = header-bytes 0x57 ++ (kind-of (p .body) ∷ length (p .paths) ∷ (rows-bytes (p .paths) ++ body-bytes (p .body)))

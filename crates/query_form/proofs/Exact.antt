@@ -2,9 +2,9 @@
 use Prim.Native.Nat.{ℕ, _+_, _≤_}
 use mathlib.Core.Path.{_≡_, refl, sym, ap, _∙_}
 use mathlib.Core.List.{List, [], _∷_, _++_, map, append-nil}
+use native.Mathlib.Omega.{arith}
 use borrow.Author.Tests.{le-ltb, eq-eqb}
 use lib.ListN.{length, getD, take}
-use lib.Seq.{take-at}
 use Rattle.meaning.specs.Limits.{QueryLegal, query-reductions, query-terms}
 use Rattle.meaning.specs.Plan.{put-all}
 use Rattle.meaning.specs.Query.{Query, each, single, written-paths}
@@ -13,7 +13,7 @@ use Rattle.nodes.specs.Draft.{nodes-text}
 use Rattle.nodes.specs.Nodes.{nodes-read, padded}
 use Rattle.nodes.specs.Tree.{place-nodes, result-nodes}
 use Rattle.nodes.proofs.Exact.{place-collected, place-size, place-text, result-collected, result-size, result-text}
-use Rattle.nodes.proofs.Held.{read-whole}
+use Rattle.nodes.proofs.Held.{first-nodes, read-whole}
 use Rattle.query.specs.Query.{encode, query-code, query-scan}
 use Rattle.query.proofs.Exact.{read-complete, read-sound}
 use Rattle.terms.specs.Text.{header-bytes, path-number, place-bytes, result-bytes}
@@ -26,10 +26,10 @@ use Rattle.query_form.specs.Form.{form-bytes, form-of, query-reading, re
 nodes-are : (q : Query) → QueryLegal 256 q → nodes-read (query-terms q) (encode q) 6 ≡ form-of q .nodes
 unfolding form-of
 nodes-are (each t) l =
-    read-whole (encode (each t)) 6 (6 + length (place-bytes t)) (query-terms (each t)) (place-nodes t) (l .few-terms)
+    read-whole (encode (each t)) 6 (6 + length (place-bytes t)) (query-terms (each t)) (place-nodes t) (omega (arith, l .few-terms))
     (place-collected (encode (each t)) t (l .legal) 6 0 [] (sym (append-nil (place-bytes t))))
 nodes-are (single t) l =
-    read-whole (encode (single t)) 6 (6 + length (result-bytes t)) (query-terms (single t)) (result-nodes t) (l .few-terms)
+    read-whole (encode (single t)) 6 (6 + length (result-bytes t)) (query-terms (single t)) (result-nodes t) (omega (arith, l .few-terms))
     (result-collected (encode (single t)) t (l .legal) 6 0 [] (sym (append-nil (result-bytes t))))
 
 form-made : (q : Query) → QueryLegal 256 q → _≡_ {A = Form} (record { kind = getD (encode q) 5 0; count = query-terms q; nodes = nodes-read (query-terms q) (encode q) 6 }) (form-of q)
@@ -62,15 +62,12 @@ read-form q l =
     })
 
 -- WRITTEN, THE TYPED FORM IS THE BYTES
-first-terms : (n : ℕ) (l : List Node) → length l ≡ n → take n (padded l) ≡ l
-first-terms n l e = take-at l _ n e
-
 pub write-form : (q : Query) → QueryLegal 256 q → form-bytes (form-of q) ≡ encode q
 unfolding form-of form-bytes
 write-form (each t) l =
-    ap (λ (b : List ℕ). header-bytes 0x51 ++ (0 ∷ b)) (ap nodes-text (first-terms (query-terms (each t)) (place-nodes t) (place-size t)) ∙ place-text t (l .legal))
+    ap (λ (b : List ℕ). header-bytes 0x51 ++ (0 ∷ b)) (ap nodes-text (first-nodes (query-terms (each t)) (place-nodes t) (place-size t)) ∙ place-text t (l .legal))
 write-form (single t) l =
-    ap (λ (b : List ℕ). header-bytes 0x51 ++ (1 ∷ b)) (ap nodes-text (first-terms (query-terms (single t)) (result-nodes t) (result-size t)) ∙ result-text t (l .legal))
+    ap (λ (b : List ℕ). header-bytes 0x51 ++ (1 ∷ b)) (ap nodes-text (first-nodes (query-terms (single t)) (result-nodes t) (result-size t)) ∙ result-text t (l .legal))
 
 -- WRITING WHAT WAS READ GIVES THE BYTES READ
 pub write-read : (s : List ℕ) → Bytes s → query-code s ≡ 0 → (room : ℕ) → length s ≤ room → write-reply (query-reading s .form) room ≡ done s

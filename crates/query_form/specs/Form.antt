@@ -34,7 +34,7 @@ write-reply f room = unless (query-code (form-bytes f)) (fitted (form-bytes f) r
 unfoldable pub blank-reading : ℕ → Reading
 blank-reading code = record {
   code = code;
-  form = record { kind = 0; count = 0; nodes = replicate 64 (node Empty) };
+  form = record { kind = 0; count = 0; nodes = replicate 72 (node Empty) };
   paths = 0;
   table = replicate 8 0;
   reductions = 0;

@@ -12,7 +12,7 @@ ghost use Rattle.query_form.specs.Form.{form-bytes, write-reply, blank-r
 pub struct Form {
     pub kind: u8,
     pub count: usize,
-    pub nodes: [Node; 64],
+    pub nodes: [Node; 72],
 }
 
 // What was read: 0 and the question, the table of its different path reductions and how many reductions it has; or the refusal and nothing.
@@ -29,7 +29,7 @@ fn blank(code: u8) -> Reading
     ensures { λ r. ⌜ r ≡ blank-reading code ⌝ }
 {
     let empty = Node { term: Term::Empty };
-    let list = [empty; 64];
+    let list = [empty; 72];
     let table = [0u64; 8];
     Reading {
         code,
@@ -69,9 +69,9 @@ pub fn read(s: &[u8]) -> Reading
     }
 }
 
-// The bytes of the form: 6, and at most 7 for each of 64 terms.
+// The bytes of the form: 6, and at most 7 for each of 72 terms.
 fn draft_of(form: Form) -> Draft
-    ensures { λ r. ⌜ (take (r .len) (r .bytes) ≡ form-bytes form) × (r .len ≡ length (form-bytes form)) × (r .len ≤ 512) × (length (r .bytes) ≡ 512) ⌝ }
+    ensures { λ r. ⌜ (take (r .len) (r .bytes) ≡ form-bytes form) × (r .len ≡ length (form-bytes form)) × (r .len ≤ 576) × (length (r .bytes) ≡ 576) ⌝ }
 {
     let list = form.nodes;
     let start = nodes::put(nodes::header(0x51), form.kind);
@@ -86,8 +86,5 @@ pub fn write(form: Form, out: &mut [u8]) -> u32
     let bytes = d.bytes;
     let n = d.len;
     let code = query::judge(&bytes[..n]);
-    if code != 0 {
-        return 65536 + code as u32;
-    }
-    wire::lay(&bytes[..n], n as u16, out)
+    nodes::deliver(bytes, n, code, out)
 }

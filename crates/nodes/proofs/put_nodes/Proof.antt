@@ -6,14 +6,16 @@ use native.Mathlib.Omega.{arith}
 use native.Mathlib.Nat.{sub-zero}
 use borrow.Author.Needs.{needs}
 use lib.ListN.{take}
-use Rattle.nodes.specs.Draft.{put-list, nodes-text}
+use Rattle.nodes.specs.Draft.{put-list, node-text, nodes-text}
 use Rattle.nodes.specs.declared.Node.{Node}
+use Rattle.nodes.specs.declared.Term.the-variants.{Empty}
+use Rattle.nodes.specs.Nodes.{node}
 use Rattle.nodes.proofs.Drafts.{left, put-more, put-done, take-least, nodes-short}
 use Rattle.nodes.proofs.put_nodes.Statement.{statement}
 use Rattle.nodes.proofs.put_nodes.Tie as tie
 
 abbrev Inv-loop : tie.InvT-loop
-Inv-loop count nodes n r₀ i₀ r i = (i ≤ n) × (put-list r (left nodes n i) ≡ put-list r₀ (nodes-text (take n nodes)))
+Inv-loop count nodes n r₀ i₀ r i = (i ≤ n) × (put-list r (left node-text nodes n i) ≡ put-list r₀ (nodes-text (take n nodes)))
 
 abbrev μ-loop : tie.MeasureT-loop
 μ-loop count nodes n r₀ i₀ r i = n - i
@@ -42,15 +44,15 @@ loop-less c = omega arith
 loop-again : tie.Need-loop-again Inv-loop μ-loop
 loop-again c =
     let l = c .before .before .before .loop in
-    (omega arith, rw (c .put-term .ensures) (sym (put-more (l .r) _ _ (l .i) (c .before .before .loop-test .taken) (omega arith)) ∙ l .inv .1))
+    (omega arith, rw (c .put-term .ensures) (sym (put-more node-text (l .r) _ _ (l .i) (node Empty) (c .before .before .loop-test .taken) (omega arith)) ∙ l .inv .1))
 
 returns : tie.Need-returns Inv-loop μ-loop
 returns c =
     let l = c .before .loop in
     let a = c .before .before .before .args in (
-      sym (put-done (l .r) (a .t2) _ (l .i) (c .loop-test .left))
+      sym (put-done node-text (l .r) (a .t2) _ (l .i) (c .loop-test .left))
           ∙ l .inv .1
-          ∙ ap (λ (t : List Node). put-list (a .d) (nodes-text t)) (take-least (a .count) _ (a .t2) (omega arith) (c .before .before .lesser .ensures .0)),
+          ∙ ap (λ (t : List Node). put-list (a .d) (nodes-text t)) (take-least (a .count) 72 _ (a .t2) (omega arith) (c .before .before .lesser .ensures .0)),
       nodes-short (a .count) (a .t2) (omega arith),
     )
 

@@ -61,6 +61,12 @@ enum-known-t-8 c = search needs
 put-two-requires-5 : tie.Need-put-two-requires-5
 put-two-requires-5 c κs = search needs
 
+enum-known-t-9 : tie.Need-enum-known-t-9
+enum-known-t-9 c = search needs
+
+put-requires-3 : tie.Need-put-requires-3
+put-requires-3 c κs = search needs
+
 returns : tie.Need-returns
 unfolding put-list term-text
 returns c = rw (c .before .enum-told .given .1) (c .put .ensures)
@@ -97,6 +103,10 @@ returns-9 : tie.Need-returns-9
 unfolding put-list term-text
 returns-9 c = rw (c .before .before .t8 .given .1) (c .put-two5 .ensures)
 
+returns-10 : tie.Need-returns-10
+unfolding put-list term-text
+returns-10 c = rw (c .before .before .t9 .given .1) (c .put3 .ensures)
+
 pub put-term-spec : {M : Type 1} → statement M
 put-term-spec =
     tie.close
@@ -120,6 +130,8 @@ put-term-spec =
     put-two-requires-4
     enum-known-t-8
     put-two-requires-5
+    enum-known-t-9
+    put-requires-3
     returns
     returns-2
     returns-3
@@ -128,4 +140,5 @@ put-term-spec =
     returns-6
     returns-7
     returns-8
-    returns-9)
+    returns-9
+    returns-10)

@@ -1,7 +1,7 @@
 -- `nodes::term_of` meets its contract. Assumes nothing.
 use mathlib.Core.Path.{ap}
 use borrow.Author.Needs.{needs}
-use borrow.Author.Tests.{eq-eqb, le-leb, lt-leb, ne-eqb}
+use borrow.Author.Tests.{eq-eqb, le-leb, le-ltb, lt-leb, lt-ltb, ne-eqb}
 use Rattle.nodes.specs.Nodes.{term-at}
 use Rattle.nodes.specs.declared.Term.the-variants.{Path, Literal, Apply, Reduce, ResultLiteral, ResultApply, PathIndex, EntryIndex}
 use Rattle.nodes.proofs.term_of.Statement.{statement}
@@ -96,7 +96,11 @@ returns-9 c = rw (lt-leb _ _ (c .before .before .before .before .before .before 
 
 returns-10 : tie.Need-returns-10
 unfolding term-at
-returns-10 c = rw (lt-leb _ _ (c .before .before .before .before .before .before .before .before .before .if1 .left), ne-eqb _ _ (c .before .before .before .before .before .before .before .if2 .left), ne-eqb _ _ (c .before .before .before .before .before .before .if3 .left), ne-eqb _ _ (c .before .before .before .before .before .if4 .left), ne-eqb _ _ (c .before .before .before .before .if5 .left), ne-eqb _ _ (c .before .before .before .if6 .left), ne-eqb _ _ (c .before .before .if7 .left), ne-eqb _ _ (c .before .if8 .left), ne-eqb _ _ (c .if9 .left))
+returns-10 c = rw (lt-leb _ _ (c .before .before .before .before .before .before .before .before .before .before .if1 .left), ne-eqb _ _ (c .before .before .before .before .before .before .before .before .if2 .left), ne-eqb _ _ (c .before .before .before .before .before .before .before .if3 .left), ne-eqb _ _ (c .before .before .before .before .before .before .if4 .left), ne-eqb _ _ (c .before .before .before .before .before .if5 .left), ne-eqb _ _ (c .before .before .before .before .if6 .left), ne-eqb _ _ (c .before .before .before .if7 .left), ne-eqb _ _ (c .before .before .if8 .left), ne-eqb _ _ (c .before .if9 .left), lt-ltb _ _ (c .if10 .taken))
+
+returns-11 : tie.Need-returns-11
+unfolding term-at
+returns-11 c = rw (lt-leb _ _ (c .before .before .before .before .before .before .before .before .before .before .if1 .left), ne-eqb _ _ (c .before .before .before .before .before .before .before .before .if2 .left), ne-eqb _ _ (c .before .before .before .before .before .before .before .if3 .left), ne-eqb _ _ (c .before .before .before .before .before .before .if4 .left), ne-eqb _ _ (c .before .before .before .before .before .if5 .left), ne-eqb _ _ (c .before .before .before .before .if6 .left), ne-eqb _ _ (c .before .before .before .if7 .left), ne-eqb _ _ (c .before .before .if8 .left), ne-eqb _ _ (c .before .if9 .left), le-ltb _ _ (c .if10 .left))
 
 pub term-of-spec : {M : Type 1} → statement M
 term-of-spec =
@@ -128,4 +132,5 @@ term-of-spec =
     add-byte-5
     byte-requires-5
     returns-9
-    returns-10)
+    returns-10
+    returns-11)

@@ -1,9 +1,10 @@
 -- `query_form::draft_of` meets its contract. Assumes nothing.
 use mathlib.Core.Path.{_≡_, refl, _∙_}
+use native.Mathlib.Omega.{arith}
 use borrow.Author.Needs.{needs}
 use Rattle.nodes.specs.Draft.{empty-draft, put-list}
+use Rattle.nodes.proofs.Drafts.{drafted-as}
 use Rattle.query_form.specs.Form.{form-bytes}
-use Rattle.query_form.proofs.Written.{holds-form}
 use Rattle.query_form.proofs.draft_of.Statement.{statement}
 use Rattle.query_form.proofs.draft_of.Tie as tie
 
@@ -21,7 +22,8 @@ unfolding put-list form-bytes
 made c = c .put-nodes .ensures .0 ∙ rw (c .before .put .ensures, c .before .before .header .ensures) refl
 
 returns : tie.Need-returns
-returns c = holds-form (c .before .before .before .before .args .form) (c .put-nodes .ensures .1) (c .put-nodes .result) (made c)
+unfolding form-bytes
+returns c = drafted-as (form-bytes (c .before .before .before .before .args .form)) (omega (arith, c .put-nodes .ensures .1)) (c .put-nodes .result) (made c)
 
 pub draft-of-spec : {M : Type 1} → statement M
 draft-of-spec = tie.close (tie.spec header-requires put-requires put-nodes-requires returns)

@@ -1,0 +1,184 @@
+-- READING GIVES THE TYPED FORM OF A PLAN, AND WRITING IT GIVES ITS BYTES. Assumes nothing.
+use Prim.Native.Nat.{ℕ, suc, _+_, _*_, _/_, _%_, _≤_, min}
+use mathlib.Core.Path.{_≡_, refl, sym, ap, ap₂, _∙_}
+use mathlib.Core.List.{List, [], _∷_, _++_, map, append-assoc, append-nil}
+use native.Mathlib.Omega.{arith}
+use borrow.Author.Tests.{le-ltb, eq-eqb}
+use lib.ListN.{length, getD, drop, take, length-append, length-map}
+use lib.Seq.{take-at}
+use Rattle.meaning.specs.Limits.{BodyLegal, EntryLegal, PathFits, PlanLegal, entry-terms, plan-terms, terms, unit}
+use Rattle.meaning.specs.Plan.{Body, Plan, each-vertex, one-result}
+use Rattle.meaning.specs.Query.{PathReduction, Term, VertexReduction}
+use Rattle.nodes.specs.declared.Node.{Node}
+use Rattle.nodes.specs.declared.Term.the-variants.{Entry}
+use Rattle.nodes.specs.Draft.{node-text, nodes-text, term-text, texts}
+use Rattle.nodes.specs.Nodes.{collected, node, nodes-read, padded}
+use Rattle.nodes.specs.Tree.{entry-nodes, final-nodes}
+use Rattle.nodes.proofs.Drafts.{text-append}
+use Rattle.nodes.proofs.Exact.{entry-collected, entry-size, entry-text, final-collected, final-size, final-text}
+use Rattle.nodes.proofs.Fields.{entry-read, path-digits}
+use Rattle.nodes.proofs.Held.{first-nodes, read-whole}
+use Rattle.plan.specs.Plan.{plan-code, plan-scan}
+use Rattle.plan.specs.Text.{body-bytes, encode, entries-bytes, entry-count, kind-of, row-bytes, rows-bytes}
+use Rattle.plan.proofs.Exact.{read-complete, read-sound}
+use Rattle.terms.specs.Text.{expression-bytes, header-bytes, path-number}
+use Rattle.terms.specs.declared.Walk.{Walk}
+use Rattle.terms.proofs.Steps.{drop-on}
+use Rattle.walks.specs.Lists.{All}
+use Rattle.wire.specs.Wire.{Bytes, done, le16}
+use Rattle.plan_form.specs.declared.Form.{Form}
+use Rattle.plan_form.specs.declared.Reading.{Reading}
+use Rattle.plan_form.specs.Form.{FormOf, body-nodes, entries-nodes, form-bytes, plan-reading, read-after, row-text, rows-text, write-reply}
+
+-- the bytes behind the entry count
+abbrev inner : Body → List ℕ
+inner (each-vertex t) = 0 ∷ expression-bytes 2 t
+inner (one-result es t) = entries-bytes es ++ expression-bytes 3 t
+
+body-is : (b : Body) → body-bytes b ≡ entry-count b ∷ inner b
+body-is (each-vertex t) = refl
+body-is (one-result es t) = refl
+
+-- THE NODES ARE COLLECTED
+module _ (s : List ℕ) (count : ℕ) where
+  entries-collected : (es : List (VertexReduction ℕ)) → All (EntryLegal count) es → (i k : ℕ) (rest : List ℕ) → drop i s ≡ entries-bytes es ++ rest
+      → collected (entry-terms es + length es + k) s i ≡ entries-nodes es ++ collected k s (i + length (entries-bytes es))
+  entries-collected [] f i k rest d = ap₂ (λ (n j : ℕ). collected n s j) (let e : 0 + k ≡ k = omega arith in e) (let e : i ≡ i + 0 = omega arith in e)
+  entries-collected (e ∷ es) f i k rest d =
+      let b = expression-bytes 2 (e .body) in
+      let n = terms unit (e .body) in
+      let m = entry-terms es + length es + k in
+      let g = f .0 in
+      let d0 : drop i s ≡ e .reduction ∷ (b ++ (entries-bytes es ++ rest)) = d ∙ ap (λ (l : List ℕ). e .reduction ∷ l) (append-assoc b (entries-bytes es) rest) in
+      let d1 = drop-on s i 1 (e .reduction ∷ []) (b ++ (entries-bytes es ++ rest)) d0 refl in
+      let d2 = drop-on s (i + 1) (length b) b (entries-bytes es ++ rest) d1 refl in
+      let p = entry-collected count s (e .body) (g .2 .0) (i + 1) m (entries-bytes es ++ rest) d1 in
+      let q = entries-collected es (f .1) (i + 1 + length b) k rest d2 in
+      let end : i + 1 + length b + length (entries-bytes es) ≡ i + suc (length (b ++ entries-bytes es)) = omega (arith, length-append b (entries-bytes es)) in
+      ap (λ (j : ℕ). collected j s i) (let z : n + entry-terms es + suc (length es) + k ≡ suc (n + m) = omega arith in z)
+      ∙ entry-read s i (e .reduction) (b ++ (entries-bytes es ++ rest)) (omega (arith, g .1)) d0 (n + m)
+      ∙ ap (λ (l : List Node). node (Entry (e .reduction)) ∷ l)
+      (p ∙ ap (λ (l : List Node). entry-nodes (e .body) ++ l) (q ∙ ap (λ (j : ℕ). entries-nodes es ++ collected k s j) end)
+      ∙ sym (append-assoc (entry-nodes (e .body)) (entries-nodes es) (collected k s (i + suc (length (b ++ entries-bytes es))))))
+
+body-collected : (s : List ℕ) (count : ℕ) (b : Body) → BodyLegal count b → (i : ℕ) → drop i s ≡ inner b
+    → (j : ℕ) × (collected (plan-terms b + entry-count b + 0) s i ≡ body-nodes b ++ collected 0 s j)
+body-collected s count (each-vertex t) l i d =
+    let d1 = drop-on s i 1 (0 ∷ []) (expression-bytes 2 t) d refl ∙ sym (append-nil (expression-bytes 2 t)) in (
+      i + 1 + length (expression-bytes 2 t),
+      ap (λ (j : ℕ). collected j s i) (let z : terms unit t + 1 + 0 ≡ suc (terms unit t + 0) = omega arith in z)
+          ∙ entry-read s i 0 (expression-bytes 2 t) (omega arith) d (terms unit t + 0)
+          ∙ ap (λ (l : List Node). node (Entry 0) ∷ l) (entry-collected count s t (l .0) (i + 1) 0 [] d1),
+    )
+body-collected s count (one-result es t) l i d =
+    let e = expression-bytes 3 t in
+    let m = i + length (entries-bytes es) in
+    let d2 = drop-on s i (length (entries-bytes es)) (entries-bytes es) e d refl ∙ sym (append-nil e) in (
+      m + length e,
+      ap (λ (j : ℕ). collected j s i) (let z : entry-terms es + terms unit t + length es + 0 ≡ entry-terms es + length es + (terms unit t + 0) = omega arith in z)
+          ∙ entries-collected s count es (l .1) i (terms unit t + 0) e d
+          ∙ ap (λ (l : List Node). entries-nodes es ++ l) (final-collected (length es) s t (l .2 .0) m 0 [] d2)
+          ∙ sym (append-assoc (entries-nodes es) (final-nodes t) (collected 0 s (m + length e))),
+    )
+
+-- their place, behind the path reductions of six bytes each
+rows-length : (cs : List PathReduction) → length (rows-bytes cs) ≡ 6 * length cs
+rows-length [] = refl
+rows-length (c ∷ cs) = omega (arith, rows-length cs)
+
+inner-there : (p : Plan) → drop (8 + 6 * length (p .paths)) (encode p) ≡ inner (p .body)
+inner-there p =
+    let s = encode p in
+    let n = length (rows-bytes (p .paths)) in
+    let d = drop-on s 7 n (rows-bytes (p .paths)) (body-bytes (p .body)) refl refl ∙ body-is (p .body) in
+    ap (λ (i : ℕ). drop i s) (let z : 8 + 6 * length (p .paths) ≡ 7 + n + 1 = omega (arith, rows-length (p .paths)) in z)
+    ∙ drop-on s (7 + n) 1 (entry-count (p .body) ∷ []) (inner (p .body)) d refl
+
+few-entries : (count : ℕ) (b : Body) → BodyLegal count b → entry-count b ≤ 8
+few-entries count (each-vertex t) l = omega arith
+few-entries count (one-result es t) l = l .0
+
+nodes-are : (p : Plan) → PlanLegal 256 p → nodes-read (plan-terms (p .body) + entry-count (p .body)) (encode p) (8 + 6 * length (p .paths)) ≡ padded (body-nodes (p .body))
+nodes-are p l =
+    let b = body-collected (encode p) (length (p .paths)) (p .body) (l .body-legal) (8 + 6 * length (p .paths)) (inner-there p) in
+    read-whole (encode p) (8 + 6 * length (p .paths)) (b .0) (plan-terms (p .body) + entry-count (p .body)) (body-nodes (p .body))
+    (omega (arith, l .few-terms, few-entries (length (p .paths)) (p .body) (l .body-legal))) (b .1)
+
+-- THE BYTES OF A LEGAL PLAN ARE READ AS ITS TYPED FORM
+pub read-form : (p : Plan) → PlanLegal 256 p → (plan-reading (encode p) .code ≡ 0) × FormOf p (plan-reading (encode p) .form)
+unfolding read-after
+read-form p l =
+    let a = read-complete p l in
+    let w = plan-scan (encode p) in
+    let few = few-entries (length (p .paths)) (p .body) (l .body-legal) in
+    let t : min (w .terms) 64 ≡ plan-terms (p .body) = omega (arith, a .terms, l .few-terms) in
+    let r : min (w .reductions) 8 ≡ entry-count (p .body) = omega (arith, a .reductions, few) in
+    let c : min (w .paths) 8 ≡ length (p .paths) = omega (arith, a .table .count, l .few-paths) in
+    rw (eq-eqb (w .code) 0 (a .accepted), t, r, c) (
+      refl,
+      record {
+        kind = refl;
+        paths = refl;
+        rest = a .table .rest;
+        table = a .table .holds;
+        entries = refl;
+        count = refl;
+        nodes = nodes-are p l;
+      },
+    )
+
+-- THE TEXT OF THE NODES IS THE BYTES
+entries-text : (count : ℕ) (es : List (VertexReduction ℕ)) → All (EntryLegal count) es → nodes-text (entries-nodes es) ≡ entries-bytes es
+unfolding texts term-text
+entries-text count [] f = refl
+entries-text count (e ∷ es) f =
+    ap (λ (l : List ℕ). e .reduction ∷ l)
+    (text-append node-text (entry-nodes (e .body)) (entries-nodes es) ∙ ap₂ _++_ (entry-text count (e .body) (f .0 .2 .0)) (entries-text count es (f .1)))
+
+body-text : (count : ℕ) (b : Body) → BodyLegal count b → nodes-text (body-nodes b) ≡ inner b
+unfolding texts term-text
+body-text count (each-vertex t) l = ap (λ (l : List ℕ). 0 ∷ l) (entry-text count t (l .0))
+body-text count (one-result es t) l =
+    text-append node-text (entries-nodes es) (final-nodes t) ∙ ap₂ _++_ (entries-text count es (l .1)) (final-text (length es) t (l .2 .0))
+
+entries-size : (es : List (VertexReduction ℕ)) → length (entries-nodes es) ≡ entry-terms es + length es
+entries-size [] = refl
+entries-size (e ∷ es) = omega (arith, length-append (entry-nodes (e .body)) (entries-nodes es), entry-size (e .body), entries-size es)
+
+body-size : (b : Body) → length (body-nodes b) ≡ plan-terms b + entry-count b
+body-size (each-vertex t) = omega (arith, entry-size t)
+body-size (one-result es t) = omega (arith, length-append (entries-nodes es) (final-nodes t), entries-size es, final-size t)
+
+-- the text of the numbers of path reductions
+row-written : (c : PathReduction) → PathFits 256 c → row-text (path-number c) ≡ row-bytes c
+unfolding row-text
+row-written c f =
+    let w = path-number c in
+    let d = path-digits c f in
+    let e : w / 65536 / 256 % 256 ≡ w / 16777216 % 256 = omega arith in
+    rw (e, d .0, d .1, d .2, d .3, d .4) refl
+
+rows-written : (cs : List PathReduction) → All (PathFits 256) cs → rows-text (map path-number cs) ≡ rows-bytes cs
+unfolding texts
+rows-written [] f = refl
+rows-written (c ∷ cs) f = ap₂ _++_ (row-written c (f .0)) (rows-written cs (f .1))
+
+-- WRITTEN, THE TYPED FORM IS THE BYTES
+pub write-form : (p : Plan) → PlanLegal 256 p → (f : Form) → FormOf p f → form-bytes f ≡ encode p
+unfolding form-bytes
+write-form p l f h =
+    let rows : rows-text (take (f .paths) (f .table)) ≡ rows-bytes (p .paths) =
+    ap rows-text (rw (h .table) (take-at (map path-number (p .paths)) (h .rest) (f .paths) (length-map (p .paths) path-number ∙ sym (h .paths))))
+    ∙ rows-written (p .paths) (l .paths-legal) in
+    let list : nodes-text (take (f .count) (f .nodes)) ≡ inner (p .body) =
+    ap nodes-text (rw (h .nodes) (first-nodes (f .count) (body-nodes (p .body)) (body-size (p .body) ∙ sym (h .count)))) ∙ body-text (length (p .paths)) (p .body) (l .body-legal) in
+    rw (rows, list, h .kind, h .paths, h .entries, body-is (p .body)) refl
+
+-- WRITING WHAT WAS READ GIVES THE BYTES READ
+pub write-read : (s : List ℕ) → Bytes s → plan-code s ≡ 0 → (room : ℕ) → length s ≤ room → write-reply (plan-reading s .form) room ≡ done s
+unfolding write-reply
+write-read s b z room h =
+    let p = read-sound s b z in
+    let e : form-bytes (plan-reading s .form) ≡ s =
+    ap (λ (t : List ℕ). form-bytes (plan-reading t .form)) (sym (p .2)) ∙ write-form (p .0) (p .1) (plan-reading (encode (p .0)) .form) (read-form (p .0) (p .1) .1) ∙ p .2 in
+    rw (e, z, le-ltb room (length s) h) refl

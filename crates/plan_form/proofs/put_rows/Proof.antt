@@ -1,0 +1,72 @@
+-- `plan_form::put_rows` meets its contract. Assumes nothing.
+use Prim.Native.Nat.{ℕ, _-_, _≤_}
+use mathlib.Core.Path.{_≡_, sym, ap, _∙_}
+use mathlib.Core.List.{List}
+use native.Mathlib.Omega.{arith}
+use native.Mathlib.Nat.{sub-zero}
+use borrow.Author.Needs.{needs}
+use lib.ListN.{take}
+use Rattle.nodes.specs.Draft.{put-list}
+use Rattle.nodes.proofs.Drafts.{left, put-more, put-done, take-least}
+use Rattle.plan_form.specs.Form.{row-text, rows-text}
+use Rattle.plan_form.proofs.Written.{rows-short}
+use Rattle.plan_form.proofs.put_rows.Statement.{statement}
+use Rattle.plan_form.proofs.put_rows.Tie as tie
+
+abbrev Inv-loop : tie.InvT-loop
+Inv-loop paths table n r₀ i₀ r i = (i ≤ n) × (put-list r (left row-text table n i) ≡ put-list r₀ (rows-text (take n table)))
+
+abbrev μ-loop : tie.MeasureT-loop
+μ-loop paths table n r₀ i₀ r i = n - i
+
+lesser-requires : tie.Need-lesser-requires Inv-loop μ-loop
+lesser-requires c κs = search needs
+
+loop-holds : tie.Need-loop-holds Inv-loop μ-loop
+loop-holds c = (omega arith, rw sub-zero)
+
+mul-w : tie.Need-mul-w Inv-loop μ-loop
+mul-w c = omega arith
+
+array-read-w : tie.Need-array-read-w Inv-loop μ-loop
+array-read-w c = omega arith
+
+put-row-requires : tie.Need-put-row-requires Inv-loop μ-loop
+put-row-requires c κs = search needs
+
+add-i : tie.Need-add-i Inv-loop μ-loop
+add-i c = omega arith
+
+loop-less : tie.Need-loop-less Inv-loop μ-loop
+loop-less c = omega arith
+
+loop-again : tie.Need-loop-again Inv-loop μ-loop
+loop-again c =
+    let l = c .before .before .loop in
+    (omega arith, rw (c .put-row .ensures) (sym (put-more row-text (l .r) _ _ (l .i) 0 (c .before .loop-test .taken) (omega arith)) ∙ l .inv .1))
+
+returns : tie.Need-returns Inv-loop μ-loop
+returns c =
+    let l = c .before .loop in
+    let a = c .before .before .before .args in (
+      sym (put-done row-text (l .r) (a .t2) _ (l .i) (c .loop-test .left))
+          ∙ l .inv .1
+          ∙ ap (λ (t : List ℕ). put-list (a .d) (rows-text t)) (take-least (a .paths) 8 _ (a .t2) (omega arith) (c .before .before .lesser .ensures .0)),
+      rows-short (a .paths) (a .t2) (omega arith),
+    )
+
+pub put-rows-spec : {M : Type 1} → statement M
+put-rows-spec =
+    tie.close
+    (tie.spec
+    Inv-loop
+    μ-loop
+    lesser-requires
+    loop-holds
+    mul-w
+    array-read-w
+    put-row-requires
+    add-i
+    loop-less
+    loop-again
+    returns)

@@ -1,0 +1,71 @@
+-- `plan_form::read` meets its contract. Assumes nothing.
+use borrow.Author.Needs.{needs}
+use borrow.Author.Tests.{eq-eqb, ne-eqb}
+use Rattle.plan_form.specs.Form.{read-after}
+use Rattle.plan_form.proofs.read.Statement.{statement}
+use Rattle.plan_form.proofs.read.Tie as tie
+
+scan-requires : tie.Need-scan-requires
+scan-requires c κs = search needs
+
+blank-requires : tie.Need-blank-requires
+blank-requires c κs = search needs
+
+returns : tie.Need-returns
+unfolding read-after
+returns c = rw (← c .before .before .scan .ensures, ne-eqb _ _ (c .before .if1 .taken)) (c .blank .ensures)
+
+lesser-requires : tie.Need-lesser-requires
+lesser-requires c κs = search needs
+
+lesser-requires-2 : tie.Need-lesser-requires-2
+lesser-requires-2 c κs = search needs
+
+lesser-requires-3 : tie.Need-lesser-requires-3
+lesser-requires-3 c κs = search needs
+
+add-count : tie.Need-add-count
+add-count c = search needs
+
+mul-read-nodes : tie.Need-mul-read-nodes
+mul-read-nodes c = search needs
+
+add-read-nodes : tie.Need-add-read-nodes
+add-read-nodes c = search needs
+
+read-nodes-requires : tie.Need-read-nodes-requires
+read-nodes-requires c κs = search needs
+
+byte-requires : tie.Need-byte-requires
+byte-requires c κs = search needs
+
+cast-t13 : tie.Need-cast-t13
+cast-t13 c = search needs
+
+cast-t14 : tie.Need-cast-t14
+cast-t14 c = search needs
+
+returns-2 : tie.Need-returns-2
+unfolding read-after
+returns-2 c =
+    let least = c .before .before .before .before .before in
+    rw (← least .before .before .scan .ensures, eq-eqb _ _ (least .before .if1 .left), ← least .lesser .ensures .0, ← c .before .before .before .before .lesser2 .ensures .0, ← c .before .before .before .lesser3 .ensures .0, ← c .before .before .read-nodes .ensures, ← c .before .byte .ensures)
+
+pub read-spec : {M : Type 1} → statement M
+read-spec =
+    tie.close
+    (tie.spec
+    scan-requires
+    blank-requires
+    returns
+    lesser-requires
+    lesser-requires-2
+    lesser-requires-3
+    add-count
+    mul-read-nodes
+    add-read-nodes
+    read-nodes-requires
+    byte-requires
+    cast-t13
+    cast-t14
+    returns-2)

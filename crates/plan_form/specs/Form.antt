@@ -1,0 +1,82 @@
+-- Plans in their typed form, and what reading and writing them says (document 01: worksheet `LPW`).
+use Prim.Native.Nat.{ℕ, _+_, _*_, _/_, min}
+use mathlib.Core.Path.{_≡_}
+use mathlib.Core.Bool.{cond}
+use mathlib.Core.List.{List, [], _∷_, _++_, map}
+use lib.Dec.{eqb}
+use lib.ListN.{length, getD, take, replicate}
+use Rattle.meaning.specs.Limits.{plan-terms}
+use Rattle.meaning.specs.Plan.{Body, Plan, each-vertex, one-result}
+use Rattle.meaning.specs.Query.{VertexReduction}
+use Rattle.nodes.specs.declared.Node.{Node}
+use Rattle.nodes.specs.declared.Term.the-variants.{Empty, Entry}
+use Rattle.nodes.specs.Draft.{nodes-text, texts}
+use Rattle.nodes.specs.Nodes.{node, nodes-read, padded}
+use Rattle.nodes.specs.Tree.{entry-nodes, final-nodes}
+use Rattle.plan.specs.Plan.{plan-code, plan-scan}
+use Rattle.plan.specs.Text.{entry-count, kind-of}
+use Rattle.terms.specs.Text.{header-bytes, path-number}
+use Rattle.terms.specs.declared.Walk.{Walk}
+use Rattle.wire.specs.Wire.{Reply, fitted, le16, unless}
+use Rattle.plan_form.specs.declared.Form.{Form}
+use Rattle.plan_form.specs.declared.Reading.{Reading}
+
+-- the nodes of a plan: "e entries, each a reduction byte and an expression; for kind 1 a final expression"; "Kind 0 has e = 1 and reduction byte 0"
+abbrev pub entries-nodes : List (VertexReduction ℕ) → List Node
+entries-nodes [] = []
+entries-nodes (e ∷ es) = node (Entry (e .reduction)) ∷ (entry-nodes (e .body) ++ entries-nodes es)
+
+abbrev pub body-nodes : Body → List Node
+body-nodes (each-vertex t) = node (Entry 0) ∷ entry-nodes t
+body-nodes (one-result es t) = entries-nodes es ++ final-nodes t
+
+-- THE TYPED FORM OF A PLAN; behind its path reductions the table may hold anything
+pub record FormOf (p : Plan) (f : Form) : Type 0 where
+  pub kind : f .kind ≡ kind-of (p .body)
+  pub paths : f .paths ≡ length (p .paths)
+  pub rest : List ℕ
+  pub table : f .table ≡ map path-number (p .paths) ++ rest
+  pub entries : f .entries ≡ entry-count (p .body)
+  pub count : f .count ≡ plan-terms (p .body) + entry-count (p .body)
+  pub nodes : f .nodes ≡ padded (body-nodes (p .body))
+
+-- the bytes of a typed form, legal or not: "kind byte; chain count c (0 to 8) and c chains of 6 bytes ..; entry count e; e entries ..; .. a final expression"
+unfoldable pub row-text : ℕ → List ℕ
+row-text w = le16 w ++ (le16 (w / 65536) ++ le16 (w / 4294967296))
+
+abbrev pub rows-text : List ℕ → List ℕ
+rows-text = texts row-text
+
+unfoldable pub form-bytes : Form → List ℕ
+form-bytes f = header-bytes 0x57 ++ (f .kind ∷ f .paths ∷ (rows-text (take (f .paths) (f .table)) ++ (f .entries ∷ nodes-text (take (f .count) (f .nodes)))))
+
+-- "A writer judges what it is handed as the reader of its bytes would, then 15"
+unfoldable pub write-reply : Form → ℕ → Reply
+write-reply f room = unless (plan-code (form-bytes f)) (fitted (form-bytes f) room)
+
+-- the reading of bytes. These mirror the program and need not be believed: `read-form` says that the reading of a legal plan's bytes is its typed form
+unfoldable pub blank-reading : ℕ → Reading
+blank-reading code = record {
+  code = code;
+  form = record { kind = 0; paths = 0; table = replicate 8 0; entries = 0; count = 0; nodes = replicate 72 (node Empty) };
+}
+
+unfoldable pub read-after : List ℕ → Walk → Reading
+read-after s w =
+    let count = min (w .terms) 64 + min (w .reductions) 8 in
+    cond (eqb (w .code) 0)
+    (record {
+      code = 0;
+      form = record {
+        kind = getD s 5 0;
+        paths = min (w .paths) 8;
+        table = w .table;
+        entries = min (w .reductions) 8;
+        count = count;
+        nodes = nodes-read count s (8 + 6 * min (w .paths) 8);
+      };
+    })
+    (blank-reading (w .code))
+
+abbrev pub plan-reading : List ℕ → Reading
+plan-reading s = read-after s (plan-scan s)

@@ -1,14 +1,16 @@
 #!/usr/bin/env python3
-"""Writes the cases on which the program `cases` tries the readers and the writer of maps.
+"""Writes the cases on which the program `cases` tries the readers and the writers.
 
     python3 tests/make_cases.py          writes crates/cases/data/cases.bin and crates/cases/stdout
     python3 tests/make_cases.py list     prints each case: index, kind, number, name, length, first bytes
 
 Each number here is written by hand from document 01 ("Numbers at the desk" and the order below that table); none is what
 a reader said. In the file a case is a kind byte (its place in KINDS), the number, a 16-bit length and as many bytes; all
-integers low byte first. The bytes are those of the file to be judged, but for two kinds:
+integers low byte first. The bytes are those of the file to be judged, but for these kinds:
     answers   n (16 bits), kind, room (16 bits): the fields that the writer of answers judges
-    writes    lent length, n, m (16 bits each), then a map: it is read, and its typed form is written with the counts n and m
+    .. written    five 16-bit fields, then a file: it is read, and its typed form is written, with other values of some fields,
+              to a buffer of the length that the first field says. The others are, of a map, n and m; of a question, the
+              kind and how many terms; of a worksheet, the kind, how many chains, how many entries, how many terms and entries
 """
 import os
 import sys
@@ -456,26 +458,76 @@ def answers():
         yield number, f"n {n}, kind {kind}, room {room}", u16(n) + bytes([kind]) + u16(room)
 
 
-# ------------------------------------------------------------------------------------------------ maps written
+# ------------------------------------------------------------------------------------------------ files written
 # As the reader of the bytes would judge, then 15.
 
 
-def written(number, name, lent, n, m, whole):
-    return number, f"{name}, lent {lent}", u16(lent) + u16(n) + u16(m) + whole
+def written(number, name, whole, lent, *fields):
+    fields += (0,) * (4 - len(fields))
+    return number, f"{name}, lent {lent}", b"".join(u16(x) for x in (lent, *fields)) + whole
 
 
-def writes():
+def lengths(name, whole, *fields):
+    """Lent as many bytes as there are, one more, one less, none."""
+    size = len(whole)
+    for number, lent in ((0, size), (0, size + 1), (15, size - 1), (15, 0)):
+        yield written(number, name, whole, lent, *fields)
+
+
+def changed(number, name, whole, *fields):
+    """Refused before the lent length is looked at."""
+    for lent in (0, 9000):
+        yield written(number, name, whole, lent, *fields)
+
+
+def maps_written():
     row_map = map_file(2, [row(0, 1, 65535, 65534)])
     for name, n, m, size, whole in (("no row", 1, 0, 9, map_file(1)), ("a row", 2, 1, 17, row_map), ("map A", 4, 4, 41, MAP_A)):
-        for number, lent in ((0, size), (0, size + 1), (15, size - 1), (15, 0)):
-            yield written(number, name, lent, n, m, whole)
-    yield written(0, "1,024 rows", 8201, 256, 1024, map_file(256, [row(255, 255, 513, 65534)] * 1024))
+        assert len(whole) == size
+        yield from lengths(name, whole, n, m)
+    yield written(0, "1,024 rows", map_file(256, [row(255, 255, 513, 65534)] * 1024), 8201, 256, 1024)
     # Map A's typed form with other counts. Row 3 goes to place 3; the rows behind the four of map A have crate 0.
     for number, n, m in ((4, 0, 4), (4, 257, 4), (4, 0, 1025), (5, 4, 1025), (5, 1, 1025), (7, 3, 4), (7, 3, 5), (8, 4, 5)):
-        for lent in (0, 9000):
-            yield written(number, f"map A with n {n}, m {m}", lent, n, m, MAP_A)
-    yield written(15, "map A with m 3", 32, 4, 3, MAP_A)
-    yield written(15, "map A with m 0", 8, 4, 0, MAP_A)
+        yield from changed(number, f"map A with n {n}, m {m}", MAP_A, n, m)
+    yield written(15, "map A with m 3", MAP_A, 32, 4, 3)
+    yield written(15, "map A with m 0", MAP_A, 8, 4, 0)
+
+
+def questions_written():
+    one = Q0 + chain(1, 2, 5, start=255)
+    two = Q0 + hexed("12 03") + chain(2) + hexed("11 ff ff ff ff")
+    result = Q1 + hexed("22 04 20 05") + chain(6, start=65535) + hexed("21 00 00 00 80")
+    full = Q0 + place_tree(63)
+    for name, whole, kind, count in (("a chain", one, 0, 1), ("three terms", two, 0, 3), ("a result", result, 1, 4), ("63 terms", full, 0, 63)):
+        yield from lengths(name, whole, kind, count)
+    # The typed form with another kind or count. A term too few is missing, 1; one behind the last is written as a byte 0, left over, 6.
+    for number, name, whole, kind, count in (
+        (9, "kind 2", two, 2, 3), (9, "kind 1", two, 1, 3), (9, "kind 0", result, 0, 4),
+        (1, "a term too few", two, 0, 2), (1, "no term", two, 0, 0), (1, "no reduction", result, 1, 1), (1, "no operand", result, 1, 3),
+        (6, "a term too many", two, 0, 4), (6, "all there are", one, 0, 65535), (6, "a term behind 63", full, 0, 64),
+    ):
+        yield from changed(number, name, whole, kind, count)
+
+
+def worksheets_written():
+    none = W1 + hexed("00 00 21 07 00 00 00")  # no chain, no entry, a literal
+    place = W0 + bytes([1]) + slots(2, start=3) + hexed("01 00 12 03 30 00 11 01 00 00 00")
+    both = W1 + bytes([2]) + slots(1, 2, 5) + slots(6, start=65535) + hexed("02 05 30 00 01 30 01 22 04 31 00 31 01")
+    eight = W1 + bytes([8]) + b"".join(slots(1, start=i) for i in range(8)) + bytes([8]) + hexed("01 30 07") * 8 + hexed("31 07")
+    for name, whole, fields in (
+        ("no entry", none, (1, 0, 0, 1)), ("kind 0", place, (0, 1, 1, 4)), ("two entries", both, (1, 2, 2, 7)), ("eight of each", eight, (1, 8, 8, 17)),
+    ):
+        yield from lengths(name, whole, *fields)
+    # The typed form with other fields.
+    for number, name, whole, fields in (
+        (9, "kind 2", place, (2, 1, 1, 4)), (14, "nine chains", eight, (1, 9, 8, 17)), (14, "255 chains", place, (0, 255, 1, 4)),
+        (14, "nine entries", eight, (1, 8, 9, 17)), (9, "two entries of kind 0", place, (0, 1, 2, 4)), (9, "no entry of kind 0", place, (0, 1, 0, 4)),
+        (16, "no chain", place, (0, 0, 1, 4)), (16, "seven chains", eight, (1, 7, 8, 17)),
+        (1, "no node", place, (0, 1, 1, 0)), (1, "no expression", place, (0, 1, 1, 1)), (1, "an operand too few", place, (0, 1, 1, 3)),
+        (6, "a node behind the last", place, (0, 1, 1, 5)), (6, "all there are", none, (1, 0, 0, 65535)),
+        (9, "no reduction byte where kind 1 has one", place, (1, 1, 1, 4)), (9, "a reduction byte of kind 1 where kind 0 has 0", eight, (0, 8, 1, 2)),
+    ):
+        yield from changed(number, name, whole, *fields)
 
 
 # ------------------------------------------------------------------------------------------------ the file
@@ -486,7 +538,8 @@ def maps():
         yield from part()
 
 
-KINDS = (("maps", maps), ("questions", questions), ("worksheets", sheets), ("answers", answers), ("writes", writes))
+KINDS = (("maps", maps), ("questions", questions), ("worksheets", sheets), ("answers", answers), ("maps written", maps_written),
+         ("questions written", questions_written), ("worksheets written", worksheets_written))
 
 
 def table():

@@ -1,7 +1,6 @@
-// Tries the readers and the writer of maps on the cases of cases.bin, which tests/make_cases.py writes: a case is a kind byte, the
+// Tries the readers and writers on the cases of cases.bin, which tests/make_cases.py writes: a case is a kind byte, the
 // number expected, a 16-bit length and as many bytes. Prints the first cases that differ, then how many there are of each kind,
 // and how many differ.
-use graph::EdgeTable;
 ghost use Rattle.io.specs.Counts.{Counts};
 ghost use mathlib.Core.Path.{_≡_};
 ghost use Prim.Native.Nat.{_≤_, _<_};
@@ -29,7 +28,7 @@ struct Case {
 struct Score {
     cases: u64,
     differences: u64,
-    kinds: [u64; 5],
+    kinds: [u64; 7],
 }
 
 fn load(path: &[u8], buf: &mut [u8]) -> usize
@@ -60,6 +59,11 @@ fn number(s: &[u8], at: usize) -> u16 {
     0
 }
 
+// The byte at a place, 0 where there is none.
+fn low(s: &[u8], at: usize) -> u8 {
+    if at < s.len() { s[at] } else { 0 }
+}
+
 // The case at a place. One that is cut is of no kind and the last.
 fn case_at(s: &[u8], at: usize) -> Case
     requires { ⌜ at < length (now s) ⌝ }
@@ -86,21 +90,21 @@ fn case_at(s: &[u8], at: usize) -> Case
     }
 }
 
-// Place i of a buffer into which the first `done` bytes of a map were written.
-fn wanted(map: &[u8], done: usize, i: usize) -> u8 {
+// Place i of a buffer into which the first `done` bytes of a file were written.
+fn wanted(file: &[u8], done: usize, i: usize) -> u8 {
     if i < done {
-        if i < map.len() {
-            return map[i];
+        if i < file.len() {
+            return file[i];
         }
     }
     FILL
 }
 
-// Whether the buffer holds the first `done` bytes of the map, and behind them what it was filled with.
-fn holds(out: &[u8], map: &[u8], done: usize) -> bool {
+// Whether the buffer holds the first `done` bytes of the file, and behind them what it was filled with.
+fn holds(out: &[u8], file: &[u8], done: usize) -> bool {
     let mut i: usize = 0;
     while i < out.len() {
-        if out[i] != wanted(map, done, i) {
+        if out[i] != wanted(file, done, i) {
             return false;
         }
         i += 1;
@@ -108,11 +112,11 @@ fn holds(out: &[u8], map: &[u8], done: usize) -> bool {
     true
 }
 
-// The number that the writer of maps returned, if the buffer is as it should be: the map's bytes, or untouched.
-fn written(code: u32, map: &[u8], out: &[u8]) -> u8 {
+// The number that a writer returned, if the buffer is as it should be: the file's bytes, or untouched.
+fn written(code: u32, file: &[u8], out: &[u8]) -> u8 {
     if code < 65536 {
-        if code as usize == map.len() {
-            if holds(out, map, map.len()) {
+        if code as usize == file.len() {
+            if holds(out, file, file.len()) {
                 return 0;
             }
         }
@@ -120,34 +124,67 @@ fn written(code: u32, map: &[u8], out: &[u8]) -> u8 {
     }
     let refusal = code - 65536;
     if refusal < 255 {
-        if holds(out, map, 0) {
+        if holds(out, file, 0) {
             return refusal as u8;
         }
     }
     WRONG
 }
 
-// A typed form is written into the first `lent` bytes of a buffer, if it has as many.
-fn write_table(table: EdgeTable, lent: usize, out: &mut [u8]) -> u32 {
+// A map is read, and its typed form is written with the counts of the case.
+fn write_map(fields: &[u8], file: &[u8], out: &mut [u8]) -> u32 {
+    let reading = graph::read(file);
+    let mut table = reading.graph;
+    table.vertices = number(fields, 2);
+    table.count = number(fields, 4);
+    graph::write(table, out)
+}
+
+// A question likewise, with the kind and the count of terms.
+fn write_query(fields: &[u8], file: &[u8], out: &mut [u8]) -> u32 {
+    let reading = query_form::read(file);
+    let mut form = reading.form;
+    form.kind = low(fields, 2);
+    form.count = number(fields, 4) as usize;
+    query_form::write(form, out)
+}
+
+// A worksheet likewise, with the kind, the count of chains, of entries, and of terms and entries.
+fn write_plan(fields: &[u8], file: &[u8], out: &mut [u8]) -> u32 {
+    let reading = plan_form::read(file);
+    let mut form = reading.form;
+    form.kind = low(fields, 2);
+    form.paths = low(fields, 4);
+    form.entries = low(fields, 6);
+    form.count = number(fields, 8) as usize;
+    plan_form::write(form, out)
+}
+
+fn write_file(kind: u8, fields: &[u8], file: &[u8], out: &mut [u8]) -> u32 {
+    match kind {
+        4 => write_map(fields, file, out),
+        5 => write_query(fields, file, out),
+        _ => write_plan(fields, file, out),
+    }
+}
+
+// The first `lent` bytes of the buffer are lent, if it has as many.
+fn lend(kind: u8, fields: &[u8], file: &[u8], lent: usize, out: &mut [u8]) -> u32 {
     if lent <= out.len() {
-        return graph::write(table, &mut out[..lent]);
+        return write_file(kind, fields, file, &mut out[..lent]);
     }
     NOT_WRITTEN
 }
 
-// A map is read, and its typed form is written with the counts of the case.
-fn write_map(s: &[u8]) -> u8 {
-    if s.len() < 6 {
+// Ten bytes of fields, and a file that is read and written.
+fn write_case(kind: u8, s: &[u8]) -> u8 {
+    if s.len() < 10 {
         return WRONG;
     }
-    let map = &s[6..];
-    let reading = graph::read(map);
-    let mut table = reading.graph;
-    table.vertices = number(s, 2);
-    table.count = number(s, 4);
+    let file = &s[10..];
     let mut out = [FILL; 9000];
-    let code = write_table(table, number(s, 0) as usize, &mut out);
-    written(code, map, &out)
+    let code = lend(kind, s, file, number(s, 0) as usize, &mut out);
+    written(code, file, &out)
 }
 
 // The fields of an answer and the room.
@@ -165,7 +202,9 @@ fn found(kind: u8, s: &[u8]) -> u8 {
         1 => query::judge(s),
         2 => plan::judge(s),
         3 => judge_answer(s),
-        4 => write_map(s),
+        4 => write_case(kind, s),
+        5 => write_case(kind, s),
+        6 => write_case(kind, s),
         _ => WRONG,
     }
 }
@@ -194,7 +233,7 @@ fn more(x: u64) -> u64 {
 fn counted(score: Score, kind: u8) -> Score {
     let mut r = score;
     let k = wide(kind) as usize;
-    if k < 5 {
+    if k < 7 {
         r.kinds[k] = more(score.kinds[k]);
     }
     r.cases = more(score.cases);
@@ -215,7 +254,7 @@ fn scored(score: Score, c: Case, number: u8) -> Score {
 }
 
 fn run_all(s: &[u8]) -> Score {
-    let kinds = [0u64; 5];
+    let kinds = [0u64; 7];
     let mut score = Score {
         cases: 0,
         differences: 0,
@@ -240,6 +279,8 @@ fn main() {
     line(b"questions ", score.kinds[1]);
     line(b"worksheets ", score.kinds[2]);
     line(b"answers ", score.kinds[3]);
-    line(b"writes ", score.kinds[4]);
+    line(b"maps written ", score.kinds[4]);
+    line(b"questions written ", score.kinds[5]);
+    line(b"worksheets written ", score.kinds[6]);
     line(b"differences ", score.differences);
 }

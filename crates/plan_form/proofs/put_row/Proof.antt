@@ -1,5 +1,6 @@
 -- `plan_form::put_row` meets its contract. Assumes nothing.
 use Prim.Native.Nat.{_/_}
+use mathlib.Core.Path.{sym}
 use borrow.Author.Needs.{needs}
 use Rattle.wire.specs.Wire.{le16}
 use Rattle.nodes.proofs.Drafts.{put-three}
@@ -20,7 +21,7 @@ returns : tie.Need-returns
 unfolding row-text
 returns c =
     let a = c .before .before .before .args in
-    rw (put-three (le16 (a .w)) (le16 (a .w / 65536)) (le16 (a .w / 4294967296)) (a .d), ← c .before .before .put16 .ensures, ← c .before .put162 .ensures) (c .put163 .ensures)
+    rw (c .put163 .ensures, c .before .put162 .ensures, c .before .before .put16 .ensures) (sym (put-three (le16 (a .w)) (le16 (a .w / 65536)) (le16 (a .w / 4294967296)) (a .d)))
 
 pub put-row-spec : {M : Type 1} → statement M
 put-row-spec = tie.close (tie.spec put16-requires put16-requires-2 put16-requires-3 returns)

@@ -1,4 +1,5 @@
 -- `plan_form::read` meets its contract. Assumes nothing.
+use mathlib.Core.Path.{refl}
 use borrow.Author.Needs.{needs}
 use borrow.Author.Tests.{eq-eqb, ne-eqb}
 use Rattle.plan_form.specs.Form.{read-after}
@@ -49,7 +50,7 @@ returns-2 : tie.Need-returns-2
 unfolding read-after
 returns-2 c =
     let least = c .before .before .before .before .before in
-    rw (← least .before .before .scan .ensures, eq-eqb _ _ (least .before .if1 .left), ← least .lesser .ensures .0, ← c .before .before .before .before .lesser2 .ensures .0, ← c .before .before .before .lesser3 .ensures .0, ← c .before .before .read-nodes .ensures, ← c .before .byte .ensures)
+    rw (← least .before .before .scan .ensures, eq-eqb _ _ (least .before .if1 .left), c .before .before .read-nodes .ensures, c .before .byte .ensures, c .before .before .before .lesser3 .ensures .0, c .before .before .before .before .lesser2 .ensures .0, least .lesser .ensures .0) refl
 
 pub read-spec : {M : Type 1} → statement M
 read-spec =

@@ -1,4 +1,5 @@
 -- `query_form::read` meets its contract. Assumes nothing.
+use mathlib.Core.Path.{refl}
 use borrow.Author.Needs.{needs}
 use borrow.Author.Tests.{eq-eqb, ne-eqb}
 use Rattle.query_form.specs.Form.{read-after}
@@ -23,7 +24,7 @@ byte-requires c κs = search needs
 
 returns-2 : tie.Need-returns-2
 unfolding read-after
-returns-2 c = rw (← c .before .before .before .before .scan .ensures, eq-eqb _ _ (c .before .before .before .if1 .left), ← c .before .before .read-nodes .ensures, ← c .before .byte .ensures)
+returns-2 c = rw (← c .before .before .before .before .scan .ensures, eq-eqb _ _ (c .before .before .before .if1 .left), c .before .before .read-nodes .ensures, c .before .byte .ensures) refl
 
 pub read-spec : {M : Type 1} → statement M
 read-spec =

@@ -134,7 +134,7 @@ evaluate-returns-3 : (t : ℕ) → evaluate-lts.Need-returns-3 (
   operate-on-reads.Learnt,
 ) (evaluate-at t) evaluate.Post
 unfolding joined
-evaluate-returns-3 t c = rw (evaluated-next _ _ _ _ (c .before .before .before .before .before .before .before .if1 .left), sym (c .before .before .before .before .before .before .head-of .ensures) ∙ c .before .before .before .before .operator .given .1, ← c .before .before .evaluate .ensures, ← c .before .evaluate2 .ensures, c .operate-on .ensures)
+evaluate-returns-3 t c = rw (evaluated-next _ _ _ _ (c .before .before .before .before .before .before .before .if1 .left), sym (c .before .before .before .before .before .before .head-of .ensures) ∙ c .before .before .before .before .operator .given .1, c .operate-on .ensures, c .before .evaluate2 .ensures, c .before .before .evaluate .ensures)
 
 pub +evaluate-spec : {M : Type 1} → statement M
 +evaluate-spec = close μ-evaluate λ t. evaluate-lts.spec (

@@ -29,7 +29,7 @@ add-t15 c = search needs
 
 returns-2 : tie.Need-returns-2
 unfolding head
-returns-2 c = rw (lt-leb _ _ (c .before .before .before .before .before .if1 .left), ← c .before .before .before .one-of .ensures, c .before .before .if2 .taken, ← c .before .byte .ensures, ← c .value-at .ensures)
+returns-2 c = rw (lt-leb _ _ (c .before .before .before .before .before .if1 .left), ← c .before .before .before .one-of .ensures, c .before .before .if2 .taken, c .value-at .ensures, c .before .byte .ensures)
 
 one-of-requires-2 : tie.Need-one-of-requires-2
 one-of-requires-2 c κs = search needs
@@ -45,7 +45,7 @@ add-t21 c = search needs
 
 returns-3 : tie.Need-returns-3
 unfolding head
-returns-3 c = rw (lt-leb _ _ (c .before .before .before .before .before .before .if1 .left), ← c .before .before .before .before .one-of .ensures, c .before .before .before .if2 .left, ← c .before .before .one-of2 .ensures, c .before .if3 .taken, ← c .word .ensures)
+returns-3 c = rw (lt-leb _ _ (c .before .before .before .before .before .before .if1 .left), ← c .before .before .before .before .one-of .ensures, c .before .before .before .if2 .left, ← c .before .before .one-of2 .ensures, c .before .if3 .taken, c .word .ensures)
 
 one-of-requires-3 : tie.Need-one-of-requires-3
 one-of-requires-3 c κs = search needs
@@ -61,7 +61,7 @@ add-t26 c = search needs
 
 returns-4 : tie.Need-returns-4
 unfolding head
-returns-4 c = rw (lt-leb _ _ (c .before .before .before .before .before .before .before .before .if1 .left), ← c .before .before .before .before .before .before .one-of .ensures, c .before .before .before .before .before .if2 .left, ← c .before .before .before .before .one-of2 .ensures, c .before .before .before .if3 .left, ← c .before .before .one-of3 .ensures, c .before .if4 .taken, ← c .byte2 .ensures)
+returns-4 c = rw (lt-leb _ _ (c .before .before .before .before .before .before .before .before .if1 .left), ← c .before .before .before .before .before .before .one-of .ensures, c .before .before .before .before .before .if2 .left, ← c .before .before .before .before .one-of2 .ensures, c .before .before .before .if3 .left, ← c .before .before .one-of3 .ensures, c .before .if4 .taken, c .byte2 .ensures)
 
 returns-5 : tie.Need-returns-5
 unfolding head

@@ -8,6 +8,7 @@ ghost use lib.ListN.{length, getD};
 ghost use Rattle.value.specs.Value.{values};
 ghost use Rattle.wire.specs.Wire.{at16, at32};
 ghost use Rattle.eval.specs.Eval.{one-of, head, evaluated};
+ghost use Rattle.eval.specs.Body.{expression-end};
 
 // The value of a term, and where the term behind it starts.
 pub struct Found {
@@ -119,4 +120,16 @@ pub fn evaluate(s: &[u8], rows: [Row; 8], at: usize, left: usize) -> Found
             }
         }
     }
+}
+
+// Where the expression at `at` ends: that rests on its bytes alone.
+pub fn expression_end(s: &[u8], at: usize) -> usize
+    ensures { λ r. ⌜ r ≡ expression-end (now (s .entry)) at ⌝ }
+{
+    let absent = Row {
+        value: Value::Absent,
+    };
+    let rows = [absent; 8];
+    let found = evaluate(s, rows, at, 16);
+    found.next
 }

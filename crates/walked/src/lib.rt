@@ -2,9 +2,9 @@
 // their end backwards, once for each key. Written from document 01, "Meaning", alone; it has no rounds and no table of figures.
 use value::Value;
 ghost use mathlib.Core.Path.{_≡_};
-ghost use Prim.Native.Nat.{_+_, _*_, _≤_};
+ghost use Prim.Native.Nat.{_+_, _*_, _≤_, min};
 
-// "A chain": the first `count` of the keys, and its start (65,535: anywhere).
+// A chain: the first `count` of the keys, and "a 16-bit start (0 to 255, or 65,535 for anywhere)".
 pub struct PathReduction {
     pub keys: [u8; 3],
     pub count: usize,
@@ -43,7 +43,7 @@ fn wide(x: u16) -> u64
 }
 
 fn least(x: usize, y: usize) -> usize
-    ensures { λ r. ⌜ (r ≤ x) × (r ≤ y) ⌝ }
+    ensures { λ r. ⌜ (r ≡ min x y) × (r ≤ y) ⌝ }
 {
     if x <= y { x } else { y }
 }
@@ -142,7 +142,7 @@ fn better(key: u8, figure: u64, found: Value) -> Value {
     found
 }
 
-// One walk, from the vertex `start` on: is it of the chain, and kept so far, then its figure counts.
+// What is found with the walk w from the vertex `start`: its figure counts where it may start there and is kept so far.
 fn judged(k: Kept, w: Walk, start: u16, found: Value) -> Value {
     let path = k.path;
     let keys = path.keys;

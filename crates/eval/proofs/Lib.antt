@@ -1,0 +1,4 @@
+pub mod Laws
+pub mod Tree
+pub mod Body
+pub mod Fill

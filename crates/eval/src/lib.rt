@@ -1,0 +1,135 @@
+// The value of a plan's expression (document 01, worksheet), read straight from its accepted bytes: of an entry, over the values of
+// the path reductions at a vertex; of the final expression, over the results of the entries.
+use value::Row;
+use value::Value;
+ghost use mathlib.Core.Path.{_≡_};
+ghost use Prim.Native.Nat.{_+_, _≤_};
+ghost use lib.ListN.{length, getD};
+ghost use Rattle.value.specs.Value.{values};
+ghost use Rattle.wire.specs.Wire.{at16, at32};
+ghost use Rattle.eval.specs.Eval.{one-of, head, evaluated};
+ghost use Rattle.eval.specs.Body.{expression-end};
+
+// The value of a term, and where the term behind it starts.
+pub struct Found {
+    pub value: Value,
+    pub next: usize,
+}
+
+// A term without those that it contains: a leaf's value, or an operator and where its two terms start.
+pub enum Head {
+    Leaf(Found),
+    Apply(u8, usize),
+}
+
+fn wide(b: u8) -> u64
+    ensures { λ r. ⌜ (r ≡ b) × (r ≤ 255) ⌝ }
+{
+    b as u64
+}
+
+// 16 bits at i.
+fn half(s: &[u8], i: usize) -> u64
+    requires { ⌜ i ≤ length (now s) + 4 ⌝ }
+    ensures { λ r. ⌜ (r ≡ at16 (now (s .entry)) i) × (r ≤ 65535) ⌝ }
+{
+    wide(nodes::byte(s, i)) + 256 * wide(nodes::byte(s, i + 1))
+}
+
+// 32 bits at i.
+fn word(s: &[u8], i: usize) -> u64
+    requires { ⌜ i ≤ length (now s) ⌝ }
+    ensures { λ r. ⌜ r ≡ at32 (now (s .entry)) i ⌝ }
+{
+    half(s, i) + 65536 * half(s, i + 2)
+}
+
+// The value of row i, absent where there is no such row.
+fn value_at(rows: [Row; 8], i: u8) -> Value
+    ensures { λ r. ⌜ r ≡ getD (values rows) i Value.Absent ⌝ }
+{
+    let k = i as usize;
+    if k < 8 {
+        let row = rows[k];
+        return row.value;
+    }
+    Value::Absent
+}
+
+fn one_of(tag: u8, a: u8, b: u8) -> bool
+    ensures { λ r. ⌜ r ≡ one-of tag a b ⌝ }
+{
+    if tag == a {
+        return true;
+    }
+    tag == b
+}
+
+// What stands at a place, by its tag.
+fn head_of(s: &[u8], rows: [Row; 8], at: usize) -> Head
+    ensures { λ r. ⌜ r ≡ head (now (s .entry)) rows at ⌝ }
+{
+    if s.len() <= at {
+        return Head::Leaf(Found {
+            value: Value::Absent,
+            next: at,
+        });
+    }
+    let tag = s[at];
+    if one_of(tag, 0x30, 0x31) {
+        return Head::Leaf(Found {
+            value: value_at(rows, nodes::byte(s, at + 1)),
+            next: at + 2,
+        });
+    }
+    if one_of(tag, 0x11, 0x21) {
+        return Head::Leaf(Found {
+            value: Value::Number(word(s, at + 1)),
+            next: at + 5,
+        });
+    }
+    if one_of(tag, 0x12, 0x22) {
+        return Head::Apply(nodes::byte(s, at + 1), at + 2);
+    }
+    Head::Leaf(Found {
+        value: Value::Absent,
+        next: at,
+    })
+}
+
+// The value of the term at `at`, with so many levels of depth left; absent where no term of an expression stands there.
+pub fn evaluate(s: &[u8], rows: [Row; 8], at: usize, left: usize) -> Found
+    ensures { λ r. ⌜ r ≡ evaluated left (now (s .entry)) rows at ⌝ }
+{
+    if left == 0 {
+        return Found {
+            value: Value::Absent,
+            next: at,
+        };
+    }
+    match head_of(s, rows, at) {
+        Head::Leaf(found) => found,
+        Head::Apply(operator, next) => {
+            let first = evaluate(s, rows, next, left - 1);
+            let second = evaluate(s, rows, first.next, left - 1);
+            let a = first.value;
+            let b = second.value;
+            Found {
+                value: value::operate_on(operator, a, b),
+                next: second.next,
+            }
+        }
+    }
+}
+
+// Where the expression at `at` ends: that rests on its bytes alone.
+pub fn expression_end(s: &[u8], at: usize) -> usize
+    ensures { λ r. ⌜ r ≡ expression-end (now (s .entry)) at ⌝ }
+{
+    let absent = Row {
+        value: Value::Absent,
+    };
+    let rows = [absent; 8];
+    let found = evaluate(s, rows, at, 16);
+    found.next
+}

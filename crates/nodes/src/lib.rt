@@ -3,9 +3,9 @@ ghost use mathlib.Core.Path.{_≡_};
 ghost use Prim.Native.Nat.{ℕ, _+_, _≤_, _<_, min};
 ghost use lib.ListN.{length, getD, take};
 ghost use mathlib.Core.List.{_∷_, []};
+ghost use Rattle.wire.specs.Header.{header-bytes};
 ghost use Rattle.wire.specs.Wire.{at16, at32, le16, le32};
 ghost use Rattle.terms.specs.Fields.{path-word, used};
-ghost use Rattle.terms.specs.Text.{header-bytes};
 ghost use Rattle.nodes.specs.Nodes.{term-at, next-at, nodes-read};
 ghost use Rattle.nodes.specs.Draft.{empty-draft, put-byte, put-list, key-text, path-text, term-text, nodes-text};
 

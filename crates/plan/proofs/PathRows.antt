@@ -14,17 +14,19 @@ use Rattle.meaning.specs.Limits.{PathFits}
 use Rattle.meaning.specs.Query.{PathReduction}
 use Rattle.meaning.proofs.Lists.{all-append, map-append}
 use Rattle.terms.specs.declared.Walk.{Walk}
-use Rattle.terms.specs.Fields.{code-of, key-code, source-code, then}
+use Rattle.terms.specs.Fields.{code-of, key-code, source-code}
 use Rattle.terms.specs.Terms.{blank}
 use Rattle.terms.specs.Text.{path-number}
 use Rattle.terms.proofs.Laws.{getD-any}
-use Rattle.terms.proofs.Paths.{code-range, code-zero, drop-at, key-known, key-zero, legal-parts, nth, present, source-range, source-zero, then-both, then-zero, two-bytes}
+use Rattle.terms.proofs.Paths.{code-range, code-zero, drop-at, key-known, key-zero, legal-parts, nth, present, source-range, source-zero, two-bytes}
 use Rattle.terms.proofs.Steps.{drop-on, there}
 use Rattle.terms.proofs.Table.{Table}
 use Rattle.walks.specs.Keys.{all-known, early, in-order, known, legal-keys}
 use Rattle.walks.specs.Lists.{All}
 use Rattle.walks.proofs.Tests.{and-both, and-left, and-right}
+use Rattle.wire.specs.Header.{then}
 use Rattle.wire.specs.Wire.{Bytes}
+use Rattle.wire.proofs.Codes.{then-both, then-zero}
 use Rattle.plan.specs.Plan.{filler-code, row-code, row-step, row-word, rows-scan, slot-code}
 use Rattle.plan.specs.Text.{row-bytes, rows-bytes}
 

@@ -209,7 +209,7 @@ fn body(s: &[u8], w: Walk, kind: u16) -> Walk
 pub fn scan(s: &[u8]) -> Walk
     ensures { λ r. ⌜ r ≡ plan-scan (now (s .entry)) ⌝ }
 {
-    let h = terms::judge_header(s, 0x57);
+    let h = wire::judge_header(s, 0x57, 5);
     if h != 0 {
         return terms::blank_of(h);
     }

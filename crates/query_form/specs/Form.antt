@@ -11,8 +11,8 @@ use Rattle.nodes.specs.Draft.{nodes-text}
 use Rattle.nodes.specs.Nodes.{node, nodes-read, padded}
 use Rattle.nodes.specs.Tree.{place-nodes, result-nodes}
 use Rattle.query.specs.Query.{query-code, query-scan}
-use Rattle.terms.specs.Text.{header-bytes}
 use Rattle.terms.specs.declared.Walk.{Walk}
+use Rattle.wire.specs.Header.{header-bytes}
 use Rattle.wire.specs.Wire.{Reply, fitted, unless}
 use Rattle.query_form.specs.declared.Form.{Form}
 use Rattle.query_form.specs.declared.Reading.{Reading}

@@ -8,9 +8,10 @@ use native.Mathlib.Nat.{not-suc-le-zero, le-of-suc-le-suc}
 use borrow.Author.Tests.{ne-eqb}
 use lib.Dec.{leb, eqb, eqb·suc-suc}
 use lib.ListN.{length, getD, List·getD-eq-default}
+use Rattle.wire.specs.Header.{then}
 use Rattle.terms.specs.declared.Step.{Step}
 use Rattle.terms.specs.declared.Walk.{Walk}
-use Rattle.terms.specs.Fields.{key-code, keys-code, then}
+use Rattle.terms.specs.Fields.{key-code, keys-code}
 use Rattle.terms.specs.Terms.{read, slot-of, term-step}
 
 -- past the end, and only there, the default shows

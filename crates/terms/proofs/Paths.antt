@@ -15,8 +15,10 @@ use Rattle.meaning.specs.Limits.{PathFits}
 use Rattle.meaning.specs.Query.{PathReduction}
 use Rattle.walks.specs.Keys.{all-known, early, in-order, known, legal-keys}
 use Rattle.walks.proofs.Tests.{and-both, and-left, and-right}
+use Rattle.wire.specs.Header.{then}
 use Rattle.wire.specs.Wire.{Bytes, le16}
-use Rattle.terms.specs.Fields.{code-of, key-code, keys-code, path-code, path-word, source-code, then, used}
+use Rattle.wire.proofs.Codes.{then-both, then-zero}
+use Rattle.terms.specs.Fields.{code-of, key-code, keys-code, path-code, path-word, source-code, used}
 use Rattle.terms.specs.Text.{path-bytes, path-number}
 use Rattle.terms.proofs.Laws.{getD-any, getD-past}
 
@@ -25,16 +27,6 @@ pub nth : (s : List ℕ) (i j k d : ℕ) → k ≡ i + j → getD s k d ≡ getD
 nth s i j k d e = rw e (sym (getD-drop i s j d))
 
 -- codes that are 0
-pub then-zero : (a b : ℕ) → a ≡ 0 → b ≡ 0 → then a b ≡ 0
-then-zero a b p q = rw (eq-eqb a 0 p) q
-
-pub then-both : (a b : ℕ) → then a b ≡ 0 → (a ≡ 0) × (b ≡ 0)
-then-both a b e = go (eqb a 0) refl e
-  where
-    go : (t : Bool) → eqb a 0 ≡ t → cond t b a ≡ 0 → (a ≡ 0) × (b ≡ 0)
-    go true p q = (eqb-true a 0 p, q)
-    go false p q = absurd (eqb-false a 0 p q)
-
 not-here : {A : Type 0} (k n : ℕ) → suc k ≡ n → n ≡ 0 → A
 not-here k n e z = absurd (omega arith)
 

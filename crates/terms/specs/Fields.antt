@@ -3,19 +3,9 @@ use Prim.Native.Nat.{ℕ, zero, suc, _+_, _*_}
 use mathlib.Core.Bool.{Bool, cond}
 use mathlib.Core.List.{List}
 use lib.Dec.{ltb, eqb}
-use lib.ListN.{length, getD}
+use lib.ListN.{getD}
 use Rattle.walks.specs.Keys.{early, known}
-
--- the first refusal of two judgements, one after the other
-abbrev pub then : ℕ → ℕ → ℕ
-then a b = cond (eqb a 0) b a
-
--- "header (1 if under 5 bytes ..), 2, 3": "Each file starts with three letters and a 16-bit version, 1"; the third letter is given
-unfoldable pub header-code : ℕ → List ℕ → ℕ
-header-code letter s =
-    cond (ltb (length s) 5) 1
-    (cond (eqb (getD s 0 0) 0x4c) (cond (eqb (getD s 1 0) 0x50) (cond (eqb (getD s 2 0) letter)
-    (cond (eqb (getD s 3 0) 1) (cond (eqb (getD s 4 0) 0) 0 3) 3) 2) 2) 2)
+use Rattle.wire.specs.Header.{then}
 
 -- a byte from 1 to `most`: "9 | code | an illegal .. key count, key, operator, reduction .. byte"
 abbrev pub code-of : ℕ → ℕ → ℕ

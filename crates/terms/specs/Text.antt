@@ -6,10 +6,6 @@ use Rattle.meaning.specs.Query.{PathReduction, ResultTerm, Term, VertexTerm, ap
 use Rattle.wire.specs.Wire.{le16, le32}
 use Rattle.terms.specs.Terms.{leaf-tag, literal-tag}
 
--- the first five bytes
-abbrev pub header-bytes : ℕ → List ℕ
-header-bytes letter = 0x4c ∷ 0x50 ∷ letter ∷ 1 ∷ 0 ∷ []
-
 -- "key count 1 to 3, the keys, a 16-bit start"
 abbrev pub path-bytes : PathReduction → List ℕ
 path-bytes c = length (c .keys) ∷ (c .keys ++ le16 (c .source))

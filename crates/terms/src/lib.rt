@@ -4,7 +4,7 @@ ghost use mathlib.Core.Path.{_≡_};
 ghost use Prim.Native.Nat.{ℕ, _+_, _*_, _≤_, _<_, max};
 ghost use lib.ListN.{length, getD};
 ghost use Rattle.terms.specs.Terms.{blank, stopped, slot-of, kept-path, advanced, path-step, reduce-step, index-step, leaf-step, literal-step, apply-step, leaf-tag, literal-tag, term-step, read, started, ended};
-ghost use Rattle.terms.specs.Fields.{header-code, code-of, key-code, keys-code, source-code, path-code, path-word, used};
+ghost use Rattle.terms.specs.Fields.{code-of, key-code, keys-code, source-code, path-code, path-word, used};
 
 // How far a reading has come. `code` is 0, or the number of the refusal; `paths` and `reductions` count what has been met, or, in a
 // worksheet, what there is; `table` holds the different path reductions, each as its six worksheet bytes in one number.
@@ -36,31 +36,6 @@ pub fn byte(s: &[u8], i: usize) -> u16
     ensures { λ r. ⌜ (r ≡ getD (now (s .entry)) i 256) × (r ≤ 256) ⌝ }
 {
     if i < s.len() { s[i] as u16 } else { 256 }
-}
-
-// The refusal of the first five bytes of a question or worksheet, or 0.
-pub fn judge_header(s: &[u8], letter: u8) -> u8
-    ensures { λ r. ⌜ r ≡ header-code letter (now (s .entry)) ⌝ }
-{
-    if s.len() < 5 {
-        return 1;
-    }
-    if s[0] != 0x4c {
-        return 2;
-    }
-    if s[1] != 0x50 {
-        return 2;
-    }
-    if s[2] != letter {
-        return 2;
-    }
-    if s[3] != 1 {
-        return 3;
-    }
-    if s[4] != 0 {
-        return 3;
-    }
-    0
 }
 
 // A byte from 1 to `most`: 1 missing, 9 another.

@@ -5,7 +5,6 @@ ghost use lib.ListN.{length, getD, take};
 ghost use mathlib.Core.List.{_∷_, []};
 ghost use Rattle.wire.specs.Header.{header-bytes};
 ghost use Rattle.wire.specs.Wire.{at16, at32, le16, le32};
-ghost use Rattle.terms.specs.Fields.{path-word, used};
 ghost use Rattle.nodes.specs.Nodes.{term-at, next-at, nodes-read};
 ghost use Rattle.nodes.specs.Draft.{empty-draft, put-byte, put-list, key-text, path-text, term-text, nodes-text};
 
@@ -61,33 +60,6 @@ fn word(s: &[u8], i: usize) -> u32
     half(s, i) + 65536 * half(s, i + 2)
 }
 
-fn long(b: u16) -> u64
-    ensures { λ r. ⌜ (r ≡ b) × (r ≤ 65535) ⌝ }
-{
-    b as u64
-}
-
-// Key byte j of a path reduction of n keys, or 0 where there is no such key.
-fn key_at(n: u16, j: u16, b: u16) -> u64
-    ensures { λ r. ⌜ (r ≡ used n j b) × (r ≤ 65535) ⌝ }
-{
-    if j < n { long(b) } else { 0 }
-}
-
-// The path reduction whose key count stands at i, as one number: its six bytes in a worksheet.
-fn path_at(s: &[u8], i: usize) -> u64
-    requires { ⌜ i ≤ length (now s) ⌝ }
-    ensures { λ r. ⌜ r ≡ path-word (now (s .entry)) i ⌝ }
-{
-    let n = terms::byte(s, i);
-    let j = i + 1 + (n as usize);
-    let first = long(n) + 256 * long(terms::byte(s, i + 1));
-    let later = 65536 * key_at(n, 1, terms::byte(s, i + 2))
-        + 16777216 * key_at(n, 2, terms::byte(s, i + 3));
-    let source = long(terms::byte(s, j)) + 256 * long(terms::byte(s, j + 1));
-    first + later + 4294967296 * source
-}
-
 // The term that starts at i, by its tag.
 fn term_of(s: &[u8], i: usize) -> Term
     ensures { λ r. ⌜ r ≡ term-at (now (s .entry)) i ⌝ }
@@ -97,7 +69,7 @@ fn term_of(s: &[u8], i: usize) -> Term
     }
     let tag = s[i];
     if tag == 0x10 {
-        return Term::Path(path_at(s, i + 1));
+        return Term::Path(terms::path_word(s, i + 1));
     }
     if tag == 0x11 {
         return Term::Literal(word(s, i + 1));

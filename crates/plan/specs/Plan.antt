@@ -1,11 +1,11 @@
 -- How the bytes of a plan (document 01: worksheet `LPW`) are read, left to right.
-use Prim.Native.Nat.{ℕ, zero, suc, _+_, _*_}
+use Prim.Native.Nat.{ℕ, zero, suc, _+_}
 use mathlib.Core.Bool.{cond}
 use mathlib.Core.List.{List}
 use lib.Dec.{leb, ltb, eqb}
 use lib.ListN.{length, getD, set}
 use Rattle.terms.specs.declared.Walk.{Walk}
-use Rattle.terms.specs.Fields.{code-of, key-code, source-code}
+use Rattle.terms.specs.Fields.{code-of, key-code, packed, source-code}
 use Rattle.terms.specs.Terms.{blank, ended, read, started}
 use Rattle.wire.specs.Header.{header-code, then}
 
@@ -29,8 +29,7 @@ row-code s i =
 -- its six bytes as one number
 unfoldable pub row-word : List ℕ → ℕ → ℕ
 row-word s i =
-    getD s i 256 + 256 * getD s (i + 1) 256 + 65536 * getD s (i + 2) 256 + 16777216 * getD s (i + 3) 256
-    + 4294967296 * (getD s (i + 4) 256 + 256 * getD s (i + 5) 256)
+    packed (getD s i 256) (getD s (i + 1) 256) (getD s (i + 2) 256) (getD s (i + 3) 256) (getD s (i + 4) 256) (getD s (i + 5) 256)
 
 -- one chain more (equal chains stay apart: they are legal here)
 unfoldable pub row-step : List ℕ → Walk → Walk

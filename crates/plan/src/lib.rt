@@ -54,23 +54,22 @@ fn row_code_of(s: &[u8], at: usize) -> u8
     terms::source_code(terms::byte(s, at + 4), terms::byte(s, at + 5))
 }
 
-fn wide(b: u16) -> u64
-    ensures { λ r. ⌜ (r ≡ b) × (r ≤ 65535) ⌝ }
-{
-    b as u64
-}
-
 // The six bytes as one number.
 fn row_word_of(s: &[u8], at: usize) -> u64
     requires { ⌜ at ≤ length (now s) ⌝ }
     ensures { λ r. ⌜ r ≡ row-word (now (s .entry)) at ⌝ }
 {
-    let keys = wide(terms::byte(s, at))
-        + 256 * wide(terms::byte(s, at + 1))
-        + 65536 * wide(terms::byte(s, at + 2));
-    let last = 16777216 * wide(terms::byte(s, at + 3));
-    let source = wide(terms::byte(s, at + 4)) + 256 * wide(terms::byte(s, at + 5));
-    keys + last + 4294967296 * source
+    let first = terms::byte(s, at + 1);
+    let second = terms::byte(s, at + 2);
+    let third = terms::byte(s, at + 3);
+    terms::pack(
+        terms::byte(s, at),
+        first,
+        second,
+        third,
+        terms::byte(s, at + 4),
+        terms::byte(s, at + 5),
+    )
 }
 
 // One path reduction more.

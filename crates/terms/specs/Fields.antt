@@ -34,9 +34,12 @@ path-code s i =
 abbrev pub used : ℕ → ℕ → ℕ → ℕ
 used n j b = cond (ltb j n) b 0
 
--- the path reduction at place i as its six bytes in a worksheet: "key count, three key bytes with unused ones 0, 16-bit start"
+-- six bytes as one number: "key count, three key bytes with unused ones 0, 16-bit start"
+abbrev pub packed : ℕ → ℕ → ℕ → ℕ → ℕ → ℕ → ℕ
+packed n a b c low high = n + 256 * a + 65536 * b + 16777216 * c + 4294967296 * (low + 256 * high)
+
+-- the path reduction at place i, packed as in a worksheet
 unfoldable pub path-word : List ℕ → ℕ → ℕ
 path-word s i =
     let n = getD s i 256 in
-    n + 256 * getD s (i + 1) 256 + 65536 * used n 1 (getD s (i + 2) 256) + 16777216 * used n 2 (getD s (i + 3) 256)
-    + 4294967296 * (getD s (i + 1 + n) 256 + 256 * getD s (i + 1 + n + 1) 256)
+    packed n (getD s (i + 1) 256) (used n 1 (getD s (i + 2) 256)) (used n 2 (getD s (i + 3) 256)) (getD s (i + 1 + n) 256) (getD s (i + 1 + n + 1) 256)

@@ -4,7 +4,7 @@ ghost use mathlib.Core.Path.{_≡_};
 ghost use Prim.Native.Nat.{ℕ, _+_, _*_, _≤_, _<_, max};
 ghost use lib.ListN.{length, getD};
 ghost use Rattle.terms.specs.Terms.{blank, stopped, slot-of, kept-path, advanced, path-step, reduce-step, index-step, leaf-step, literal-step, apply-step, leaf-tag, literal-tag, term-step, read, started, ended};
-ghost use Rattle.terms.specs.Fields.{code-of, key-code, keys-code, source-code, path-code, path-word, used};
+ghost use Rattle.terms.specs.Fields.{code-of, key-code, keys-code, source-code, path-code, packed, used, path-word};
 
 // How far a reading has come. `code` is 0, or the number of the refusal; `paths` and `reductions` count what has been met, or, in a
 // worksheet, what there is; `table` holds the different path reductions, each as its six worksheet bytes in one number.
@@ -134,23 +134,40 @@ fn wide(b: u16) -> u64
     b as u64
 }
 
-fn used_of(n: u16, j: u16, b: u16) -> u64
-    ensures { λ r. ⌜ (r ≡ used n j b) × (r ≤ 65535) ⌝ }
+// The six bytes of a path reduction in a worksheet as one number: its key count, its keys and its source.
+pub fn pack(n: u16, a: u16, b: u16, c: u16, low: u16, high: u16) -> u64
+    ensures { λ r. ⌜ r ≡ packed n a b c low high ⌝ }
 {
-    if j < n { wide(b) } else { 0 }
+    let keys = wide(n) + 256 * wide(a) + 65536 * wide(b) + 16777216 * wide(c);
+    let source = wide(low) + 256 * wide(high);
+    keys + 4294967296 * source
 }
 
-// The path reduction whose key count stands at `at`, as one number: its six bytes in a worksheet.
-fn path_word_of(s: &[u8], at: usize) -> u64
-    requires { ⌜ at ≤ length (now s) ⌝ }
+fn used_of(n: u16, j: u16, b: u16) -> u16
+    ensures { λ r. ⌜ r ≡ used n j b ⌝ }
+{
+    if j < n { b } else { 0 }
+}
+
+// The path reduction whose key count stands at `at`, packed as in a worksheet. Past the end each byte is 256.
+pub fn path_word(s: &[u8], at: usize) -> u64
     ensures { λ r. ⌜ r ≡ path-word (now (s .entry)) at ⌝ }
 {
+    if s.len() <= at {
+        return pack(256, 256, 256, 256, 256, 256);
+    }
     let n = byte(s, at);
     let i = at + 1 + (n as usize);
-    let first = wide(n) + 256 * wide(byte(s, at + 1));
-    let later = 65536 * used_of(n, 1, byte(s, at + 2)) + 16777216 * used_of(n, 2, byte(s, at + 3));
-    let source = wide(byte(s, i)) + 256 * wide(byte(s, i + 1));
-    first + later + 4294967296 * source
+    let second = used_of(n, 1, byte(s, at + 2));
+    let third = used_of(n, 2, byte(s, at + 3));
+    pack(
+        n,
+        byte(s, at + 1),
+        second,
+        third,
+        byte(s, i),
+        byte(s, i + 1),
+    )
 }
 
 // The first of the eight places of the table that is free or holds the path reduction; 8 where there is none.
@@ -236,7 +253,7 @@ fn path_step_of(s: &[u8], w: Walk) -> Step
         return stop(c);
     }
     let n = byte(s, at);
-    let word = path_word_of(s, at);
+    let word = path_word(s, at);
     Step {
         walk: keep_path(advance(w, at + 3 + (n as usize)), word),
         follow: 0,

@@ -8,9 +8,9 @@ use lib.ListN.{length, drop, getD, length-append}
 use Rattle.meaning.specs.Limits.{EveryBody, Every, PathFits, terms, unit}
 use Rattle.meaning.specs.Query.{PathReduction, ResultTerm, Term, VertexReduction, VertexTerm, leaf}
 use Rattle.terms.specs.Terms.{leaf-tag}
-use Rattle.terms.specs.Text.{expression-bytes, path-bytes, path-number, place-bytes, result-bytes}
-use Rattle.terms.proofs.Exact.{index-leaves, place-leaves, result-leaves}
-use Rattle.terms.proofs.Steps.{drop-on}
+use Rattle.term_text.specs.Text.{expression-bytes, path-bytes, path-number, place-bytes, result-bytes}
+use Rattle.term_text.proofs.Exact.{index-leaves, place-leaves, result-leaves}
+use Rattle.term_text.proofs.Steps.{drop-on}
 use Rattle.wire.specs.Wire.{le16}
 use Rattle.nodes.specs.declared.Node.{Node}
 use Rattle.nodes.specs.declared.Term as single

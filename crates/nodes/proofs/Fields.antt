@@ -11,9 +11,9 @@ use lib.ListN.{length, getD, drop}
 use Rattle.meaning.specs.Limits.{PathFits}
 use Rattle.meaning.specs.Query.{PathReduction}
 use Rattle.terms.specs.Terms.{literal-tag}
-use Rattle.terms.specs.Text.{path-bytes, path-number}
-use Rattle.terms.proofs.Paths.{five-digits, legal-parts, nth, path-numbered}
-use Rattle.terms.proofs.Steps.{drop-on, tag-there, there}
+use Rattle.term_text.specs.Text.{path-bytes, path-number}
+use Rattle.term_text.proofs.Paths.{five-digits, legal-parts, nth, path-numbered}
+use Rattle.term_text.proofs.Steps.{drop-on, tag-there, there}
 use Rattle.walks.specs.Keys.{all-known, known}
 use Rattle.walks.proofs.Tests.{and-left, and-right}
 use Rattle.wire.specs.Wire.{at32, le16, le32}

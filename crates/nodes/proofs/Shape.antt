@@ -8,9 +8,9 @@ use lib.ListN.{length, drop, length-append}
 use Rattle.meaning.specs.Limits.{Every, terms}
 use Rattle.meaning.specs.Query.{Term, apply, leaf, literal}
 use Rattle.terms.specs.Terms.{literal-tag}
-use Rattle.terms.specs.Text.{term-bytes}
-use Rattle.terms.proofs.Shape.{Leaves}
-use Rattle.terms.proofs.Steps.{drop-on}
+use Rattle.term_text.specs.Text.{term-bytes}
+use Rattle.term_text.proofs.Shape.{Leaves}
+use Rattle.term_text.proofs.Steps.{drop-on}
 use Rattle.nodes.specs.declared.Node.{Node}
 use Rattle.nodes.specs.Draft.{nodes-text, term-text}
 use Rattle.nodes.specs.Nodes.{collected}

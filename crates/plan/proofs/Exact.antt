@@ -13,12 +13,12 @@ use Rattle.meaning.specs.Plan.{Body, Plan, each-vertex, one-result}
 use Rattle.meaning.specs.Query.{PathReduction}
 use Rattle.terms.specs.declared.Walk.{Walk}
 use Rattle.terms.specs.Terms.{blank, ended, leaf-step, leaf-tag, literal-tag, read, started}
-use Rattle.terms.specs.Text.{expression-bytes}
-use Rattle.terms.proofs.Header.{ended-code, ended-whole, started-table}
+use Rattle.term_text.specs.Text.{expression-bytes}
+use Rattle.term_text.proofs.Ends.{ended-code, ended-whole, started-table}
 use Rattle.terms.proofs.Laws.{handed-on}
-use Rattle.terms.proofs.Paths.{drop-at, nth, present}
-use Rattle.terms.proofs.Steps.{drop-on, there}
-use Rattle.terms.proofs.Table.{Table}
+use Rattle.term_text.proofs.Paths.{drop-at, nth, present}
+use Rattle.term_text.proofs.Steps.{drop-on, there}
+use Rattle.term_text.proofs.Table.{Table}
 use Rattle.wire.specs.Header.{header-bytes, header-code}
 use Rattle.wire.specs.Wire.{Bytes}
 use Rattle.wire.proofs.Header.{header-accepted, header-found}

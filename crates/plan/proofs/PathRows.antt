@@ -16,11 +16,11 @@ use Rattle.meaning.proofs.Lists.{all-append, map-append}
 use Rattle.terms.specs.declared.Walk.{Walk}
 use Rattle.terms.specs.Fields.{code-of, key-code, source-code}
 use Rattle.terms.specs.Terms.{blank}
-use Rattle.terms.specs.Text.{path-number}
+use Rattle.term_text.specs.Text.{path-number}
 use Rattle.terms.proofs.Laws.{getD-any}
-use Rattle.terms.proofs.Paths.{code-range, code-zero, drop-at, key-known, key-zero, legal-parts, nth, present, source-range, source-zero, two-bytes}
-use Rattle.terms.proofs.Steps.{drop-on, there}
-use Rattle.terms.proofs.Table.{Table}
+use Rattle.term_text.proofs.Paths.{code-range, code-zero, drop-at, key-known, key-zero, legal-parts, nth, present, source-range, source-zero, two-bytes}
+use Rattle.term_text.proofs.Steps.{drop-on, there}
+use Rattle.term_text.proofs.Table.{Table}
 use Rattle.walks.specs.Keys.{all-known, early, in-order, known, legal-keys}
 use Rattle.walks.specs.Lists.{All}
 use Rattle.walks.proofs.Tests.{and-both, and-left, and-right}

@@ -13,11 +13,11 @@ use Rattle.meaning.specs.Plan.{put-all}
 use Rattle.meaning.specs.Query.{PathReduction, Query, each, single, written-paths}
 use Rattle.terms.specs.declared.Walk.{Walk}
 use Rattle.terms.specs.Terms.{blank, ended, read, started}
-use Rattle.terms.specs.Text.{place-bytes, result-bytes}
-use Rattle.terms.proofs.Exact.{place-complete, place-count, place-paths, place-sound, result-complete, result-count, result-paths, result-sound}
-use Rattle.terms.proofs.Header.{ended-code, ended-whole, started-table}
-use Rattle.terms.proofs.Paths.{drop-at, present}
-use Rattle.terms.proofs.Table.{Table}
+use Rattle.term_text.specs.Text.{place-bytes, result-bytes}
+use Rattle.term_text.proofs.Exact.{place-complete, place-count, place-paths, place-sound, result-complete, result-count, result-paths, result-sound}
+use Rattle.term_text.proofs.Ends.{ended-code, ended-whole, started-table}
+use Rattle.term_text.proofs.Paths.{drop-at, present}
+use Rattle.term_text.proofs.Table.{Table}
 use Rattle.wire.specs.Header.{header-bytes, header-code}
 use Rattle.wire.specs.Wire.{Bytes}
 use Rattle.wire.proofs.Header.{header-accepted, header-found}

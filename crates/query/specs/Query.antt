@@ -7,7 +7,7 @@ use lib.ListN.{getD}
 use Rattle.meaning.specs.Query.{Query, each, single}
 use Rattle.terms.specs.declared.Walk.{Walk}
 use Rattle.terms.specs.Terms.{blank, ended, read, started}
-use Rattle.terms.specs.Text.{place-bytes, result-bytes}
+use Rattle.term_text.specs.Text.{place-bytes, result-bytes}
 use Rattle.wire.specs.Header.{header-bytes, header-code}
 
 -- "a kind byte, 0 for a value at each place, 1 for one result, then one term written operator first"

@@ -16,7 +16,7 @@ use Rattle.nodes.proofs.Exact.{place-collected, place-size, place-text, result-
 use Rattle.nodes.proofs.Held.{read-whole}
 use Rattle.query.specs.Query.{encode, query-code, query-scan}
 use Rattle.query.proofs.Exact.{read-complete, read-sound}
-use Rattle.terms.specs.Text.{path-number, place-bytes, result-bytes}
+use Rattle.term_text.specs.Text.{path-number, place-bytes, result-bytes}
 use Rattle.wire.specs.Header.{header-bytes}
 use Rattle.wire.specs.Wire.{Bytes, done}
 use Rattle.query_form.specs.declared.Form.{Form}

@@ -12,8 +12,8 @@ use lib.Seq.{take-at, drop-at}
 use Rattle.meaning.specs.Limits.{Every, EveryBody, PathFits}
 use Rattle.meaning.specs.Query.{PathReduction, ResultTerm, Term, VertexReduction, VertexTerm, apply, leaf, literal}
 use Rattle.wire.specs.Wire.{le16, le32}
 use Rattle.terms.specs.Terms.{leaf-tag, literal-tag}
-use Rattle.terms.specs.Text.{expression-bytes, path-bytes, place-bytes, result-bytes, term-bytes}
+use Rattle.term_text.specs.Text.{expression-bytes, path-bytes, place-bytes, result-bytes, term-bytes}
 
 -- lists of one length
 pub same-split : (a b x y : List ℕ) → length a ≡ length b → a ++ x ≡ b ++ y → (a ≡ b) × (x ≡ y)

@@ -16,10 +16,10 @@ use Rattle.meaning.proofs.Lists.{all-append, map-append}
 use Rattle.meaning.proofs.Paths.{path-refl, path-same, position-at, position-below}
 use Rattle.walks.specs.Lists.{All}
 use Rattle.walks.proofs.Tests.{T-of}
 use Rattle.terms.specs.declared.Walk.{Walk}
 use Rattle.terms.specs.Terms.{blank, kept-path, slot-of}
-use Rattle.terms.specs.Text.{path-number}
-use Rattle.terms.proofs.Paths.{number-same}
+use Rattle.term_text.specs.Text.{path-number}
+use Rattle.term_text.proofs.Paths.{number-same}
 
 -- the state w holds the path reductions cs, and has met at most eight reductions
 pub record Table (w : Walk) (cs : List PathReduction) : Type 0 where

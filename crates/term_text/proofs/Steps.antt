@@ -10,12 +10,12 @@ use lib.ListN.{length, getD, drop, length-drop}
 use lib.Seq.{drop-drop, drop-append-seam}
 use Rattle.meaning.specs.Query.{PathReduction}
 use Rattle.wire.specs.Wire.{le32}
 use Rattle.terms.specs.declared.Step.{Step}
 use Rattle.terms.specs.declared.Walk.{Walk}
 use Rattle.terms.specs.Terms.{advanced, apply-step, blank, leaf-step, leaf-tag, literal-step, literal-tag, read, stopped, term-step}
 use Rattle.terms.proofs.Laws.{read-next}
-use Rattle.terms.proofs.Paths.{digits, nth, two-bytes}
-use Rattle.terms.proofs.Table.{Table}
+use Rattle.term_text.proofs.Paths.{digits, nth, two-bytes}
+use Rattle.term_text.proofs.Table.{Table}
 
 -- a byte that stands there
 pub there : (s : List ℕ) (i x : ℕ) (l : List ℕ) → drop i s ≡ x ∷ l → i < length s

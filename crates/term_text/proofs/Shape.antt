@@ -13,14 +13,14 @@ use Rattle.meaning.specs.Plan.{among, put, put-all}
 use Rattle.meaning.specs.Query.{PathReduction, Term, apply, leaf, literal}
 use Rattle.meaning.proofs.Paths.{put-all-append}
 use Rattle.wire.specs.Wire.{Bytes, le32}
 use Rattle.terms.specs.declared.Walk.{Walk}
 use Rattle.terms.specs.Fields.{code-of}
 use Rattle.terms.specs.Terms.{advanced, apply-step, blank, leaf-tag, literal-step, literal-tag, read, stopped, term-step}
-use Rattle.terms.specs.Text.{term-bytes}
+use Rattle.term_text.specs.Text.{term-bytes}
 use Rattle.terms.proofs.Laws.{getD-any, handed-on}
-use Rattle.terms.proofs.Paths.{code-range, code-zero, drop-at, nth, present}
-use Rattle.terms.proofs.Steps.{drop-on, four-bytes, read-by, read-flat, read-starts, step-is, table-advanced, tag-there, there}
-use Rattle.terms.proofs.Table.{Table}
+use Rattle.term_text.proofs.Paths.{code-range, code-zero, drop-at, nth, present}
+use Rattle.term_text.proofs.Steps.{drop-on, four-bytes, read-by, read-flat, read-starts, step-is, table-advanced, tag-there, there}
+use Rattle.term_text.proofs.Table.{Table}
 
 -- a kind of leaf: its bytes, how many terms it is, how deep, the path reductions and reductions in it, and what is legal
 pub record Leaves (A : Type 0) : Type 1 where

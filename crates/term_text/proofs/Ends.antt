@@ -7,9 +7,9 @@ use native.Mathlib.Omega.{arith}
 use borrow.Author.Tests.{ltb-false, eqb-false, le-ltb}
 use lib.Dec.{ltb, eqb}
 use lib.ListN.{length, replicate}
 use Rattle.terms.specs.declared.Walk.{Walk}
 use Rattle.terms.specs.Terms.{blank, ended, started}
-use Rattle.terms.proofs.Table.{Table}
+use Rattle.term_text.proofs.Table.{Table}
 
 pub started-table : (at : ℕ) → Table (started at) []
 unfolding started

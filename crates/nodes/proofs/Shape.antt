@@ -12,10 +12,10 @@ use Rattle.term_text.specs.Text.{term-bytes}
 use Rattle.term_text.proofs.Shape.{Leaves}
 use Rattle.term_text.proofs.Steps.{drop-on}
 use Rattle.nodes.specs.declared.Node.{Node}
-use Rattle.nodes.specs.Draft.{nodes-text, term-text}
+use Rattle.nodes.specs.Text.{nodes-text, term-text}
 use Rattle.nodes.specs.Nodes.{collected}
 use Rattle.nodes.specs.Tree.{apply-node, literal-node, term-nodes}
-use Rattle.nodes.proofs.Drafts.{text-append}
+use Rattle.nodes.proofs.Text.{text-append}
 use Rattle.nodes.proofs.Fields.{apply-read, apply-text, literal-read, literal-tags, literal-text}
 
 module _ {A : Type 0} (K : Leaves A) (N : A → List Node) (m : ℕ) where

@@ -1,12 +1,13 @@
 // The typed form of terms (document 01, "Layouts"): one after the other in written order, read from bytes and put into a draft.
+use draft::Draft;
 ghost use mathlib.Core.Path.{_≡_};
 ghost use Prim.Native.Nat.{ℕ, _+_, _≤_, _<_, min};
 ghost use lib.ListN.{length, getD, take};
 ghost use mathlib.Core.List.{_∷_, []};
-ghost use Rattle.wire.specs.Header.{header-bytes};
-ghost use Rattle.wire.specs.Wire.{at16, at32, le16, le32};
+ghost use Rattle.wire.specs.Wire.{at16, at32, le32};
 ghost use Rattle.nodes.specs.Nodes.{term-at, next-at, nodes-read};
-ghost use Rattle.nodes.specs.Draft.{empty-draft, put-byte, put-list, key-text, path-text, term-text, nodes-text};
+ghost use Rattle.nodes.specs.Text.{key-text, path-text, term-text, nodes-text};
+ghost use Rattle.draft.specs.Draft.{put-list};
 
 // A term without those that it contains; a path reduction is its six bytes in a worksheet as one number.
 pub enum Term {
@@ -23,12 +24,6 @@ pub enum Term {
 
 pub struct Node {
     pub term: Term,
-}
-
-// Bytes to be written: the first `len` of `bytes`.
-pub struct Draft {
-    pub bytes: [u8; 512],
-    pub len: usize,
 }
 
 // The byte at i, or 0 past the end.
@@ -69,7 +64,7 @@ fn term_of(s: &[u8], i: usize) -> Term
     }
     let tag = s[i];
     if tag == 0x10 {
-        return Term::Path(terms::path_word(s, i + 1));
+        return Term::Path(fields::path_word(s, i + 1));
     }
     if tag == 0x11 {
         return Term::Literal(word(s, i + 1));
@@ -139,61 +134,11 @@ pub fn read_nodes(s: &[u8], at: usize, count: usize) -> [Node; 64]
     nodes
 }
 
-pub fn empty() -> Draft
-    ensures { λ r. ⌜ r ≡ empty-draft ⌝ }
-{
-    let bytes = [0u8; 512];
-    Draft { bytes, len: 0 }
-}
-
-// One byte more; no change where the draft is full.
-pub fn put(d: Draft, b: u8) -> Draft
-    ensures { λ r. ⌜ r ≡ put-byte d b ⌝ }
-{
-    let n = d.len;
-    if 512 <= n {
-        return d;
-    }
-    let mut r = d;
-    r.bytes[n] = b;
-    r.len = n + 1;
-    r
-}
-
-pub fn put_two(d: Draft, a: u8, b: u8) -> Draft
-    ensures { λ r. ⌜ r ≡ put-list d (a ∷ b ∷ []) ⌝ }
-{
-    put(put(d, a), b)
-}
-
-// The low 16 bits of x, low byte first.
-pub fn put16(d: Draft, x: u64) -> Draft
-    ensures { λ r. ⌜ r ≡ put-list d (le16 x) ⌝ }
-{
-    put_two(d, (x % 256) as u8, (x / 256 % 256) as u8)
-}
-
-// 32 bits, low byte first.
-pub fn put32(d: Draft, x: u32) -> Draft
-    ensures { λ r. ⌜ r ≡ put-list d (le32 x) ⌝ }
-{
-    let wide = x as u64;
-    put16(put16(d, wide), wide / 65536)
-}
-
-// The first five bytes of a question or worksheet.
-pub fn header(letter: u8) -> Draft
-    ensures { λ r. ⌜ r ≡ put-list empty-draft (header-bytes letter) ⌝ }
-{
-    let d = put_two(empty(), 0x4c, 0x50);
-    put(put_two(d, letter, 1), 0)
-}
-
 // Key byte j of a path reduction of n keys.
 fn put_key(d: Draft, n: u64, j: u64, b: u8) -> Draft
     ensures { λ r. ⌜ r ≡ put-list d (key-text n j b) ⌝ }
 {
-    if j < n { put(d, b) } else { d }
+    if j < n { draft::put(d, b) } else { d }
 }
 
 // A path reduction as a question writes it: its key count, as many keys as that says, and its source.
@@ -201,18 +146,18 @@ pub fn put_path(d: Draft, w: u64) -> Draft
     ensures { λ r. ⌜ r ≡ put-list d (path-text w) ⌝ }
 {
     let n = w % 256;
-    let d0 = put(d, n as u8);
+    let d0 = draft::put(d, n as u8);
     let d1 = put_key(d0, n, 0, (w / 256 % 256) as u8);
     let d2 = put_key(d1, n, 1, (w / 65536 % 256) as u8);
     let d3 = put_key(d2, n, 2, (w / 16777216 % 256) as u8);
-    put16(d3, w / 4294967296)
+    draft::put16(d3, w / 4294967296)
 }
 
 // A tag and 32 bits.
 fn put_literal(d: Draft, tag: u8, x: u32) -> Draft
     ensures { λ r. ⌜ r ≡ put-list d (tag ∷ le32 x) ⌝ }
 {
-    put32(put(d, tag), x)
+    draft::put32(draft::put(d, tag), x)
 }
 
 // A term without those that it contains. An empty one is a byte that no term starts with.
@@ -220,15 +165,15 @@ pub fn put_term(d: Draft, t: Term) -> Draft
     ensures { λ r. ⌜ r ≡ put-list d (term-text t) ⌝ }
 {
     match t {
-        Term::Empty => put(d, 0),
-        Term::Path(w) => put_path(put(d, 0x10), w),
+        Term::Empty => draft::put(d, 0),
+        Term::Path(w) => put_path(draft::put(d, 0x10), w),
         Term::Literal(x) => put_literal(d, 0x11, x),
-        Term::Apply(o) => put_two(d, 0x12, o),
-        Term::Reduce(o) => put_two(d, 0x20, o),
+        Term::Apply(o) => draft::put_two(d, 0x12, o),
+        Term::Reduce(o) => draft::put_two(d, 0x20, o),
         Term::ResultLiteral(x) => put_literal(d, 0x21, x),
-        Term::ResultApply(o) => put_two(d, 0x22, o),
-        Term::PathIndex(i) => put_two(d, 0x30, i),
-        Term::EntryIndex(i) => put_two(d, 0x31, i),
+        Term::ResultApply(o) => draft::put_two(d, 0x22, o),
+        Term::PathIndex(i) => draft::put_two(d, 0x30, i),
+        Term::EntryIndex(i) => draft::put_two(d, 0x31, i),
     }
 }
 

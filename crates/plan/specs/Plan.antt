@@ -5,7 +5,7 @@ use mathlib.Core.List.{List}
 use lib.Dec.{leb, ltb, eqb}
 use lib.ListN.{length, getD, set}
 use Rattle.terms.specs.declared.Walk.{Walk}
-use Rattle.terms.specs.Fields.{code-of, key-code, packed, source-code}
+use Rattle.fields.specs.Fields.{code-of, key-code, packed, source-code}
 use Rattle.terms.specs.Terms.{blank, ended, read, started}
 use Rattle.wire.specs.Header.{header-code, then}
 

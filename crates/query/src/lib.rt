@@ -11,7 +11,7 @@ pub fn scan(s: &[u8]) -> Walk
     if h != 0 {
         return terms::blank_of(h);
     }
-    let kind = terms::byte(s, 5);
+    let kind = fields::byte(s, 5);
     if 255 < kind {
         return terms::blank_of(1);
     }

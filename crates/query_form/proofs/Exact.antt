@@ -9,7 +9,7 @@ use Rattle.meaning.specs.Limits.{QueryLegal, query-reductions, query-terms}
 use Rattle.meaning.specs.Plan.{put-all}
 use Rattle.meaning.specs.Query.{Query, each, single, written-paths}
 use Rattle.nodes.specs.declared.Node.{Node}
-use Rattle.nodes.specs.Draft.{nodes-text}
+use Rattle.nodes.specs.Text.{nodes-text}
 use Rattle.nodes.specs.Nodes.{nodes-read, padded}
 use Rattle.nodes.specs.Tree.{place-nodes, result-nodes}
 use Rattle.nodes.proofs.Exact.{place-collected, place-size, place-text, result-collected, result-size, result-text}

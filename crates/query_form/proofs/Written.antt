@@ -6,9 +6,10 @@ use native.Mathlib.Omega.{arith}
 use borrow.Author.Tests.{ne-eqb}
 use lib.ListN.{length, take}
 use lib.Seq.{take-length}
-use Rattle.nodes.specs.declared.Draft.{Draft}
-use Rattle.nodes.specs.Draft.{empty-draft, nodes-text, put-list}
-use Rattle.nodes.proofs.Drafts.{Holds, drafted}
+use Rattle.draft.specs.declared.Draft.{Draft}
+use Rattle.draft.specs.Draft.{empty-draft, put-list}
+use Rattle.nodes.specs.Text.{nodes-text}
+use Rattle.draft.proofs.Drafts.{Holds, drafted}
 use Rattle.query.specs.Query.{query-code}
 use Rattle.wire.specs.Wire.{fitted, refused}
 use Rattle.query_form.specs.declared.Form.{Form}

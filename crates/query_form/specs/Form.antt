@@ -7,7 +7,7 @@ use lib.ListN.{getD, take, replicate}
 use Rattle.meaning.specs.Limits.{query-terms}
 use Rattle.meaning.specs.Query.{Query, each, single}
 use Rattle.nodes.specs.declared.Term.the-variants.{Empty}
-use Rattle.nodes.specs.Draft.{nodes-text}
+use Rattle.nodes.specs.Text.{nodes-text}
 use Rattle.nodes.specs.Nodes.{node, nodes-read, padded}
 use Rattle.nodes.specs.Tree.{place-nodes, result-nodes}
 use Rattle.query.specs.Query.{query-code, query-scan}

@@ -1,5 +1,5 @@
 // Queries in their typed form (document 01, question `LPQ`): read from bytes, and written to a lent buffer.
-use nodes::Draft;
+use draft::Draft;
 use nodes::Node;
 use nodes::Term;
 ghost use mathlib.Core.Path.{_≡_};
@@ -74,7 +74,7 @@ fn draft_of(form: Form) -> Draft
     ensures { λ r. ⌜ (take (r .len) (r .bytes) ≡ form-bytes form) × (r .len ≡ length (form-bytes form)) × (r .len ≤ 512) × (length (r .bytes) ≡ 512) ⌝ }
 {
     let list = form.nodes;
-    let start = nodes::put(nodes::header(0x51), form.kind);
+    let start = draft::put(draft::header(0x51), form.kind);
     nodes::put_nodes(start, list, form.count)
 }
 

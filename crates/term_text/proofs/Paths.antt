@@ -18,13 +18,20 @@ use Rattle.walks.proofs.Tests.{and-both, and-left, and-right}
 use Rattle.wire.specs.Header.{then}
 use Rattle.wire.specs.Wire.{Bytes, le16}
 use Rattle.wire.proofs.Codes.{then-both, then-zero}
-use Rattle.terms.specs.Fields.{code-of, key-code, keys-code, path-code, path-word, source-code, used}
+use Rattle.fields.specs.Fields.{code-of, key-code, keys-code, path-code, path-word, source-code, used}
 use Rattle.term_text.specs.Text.{path-bytes, path-number}
-use Rattle.terms.proofs.Laws.{getD-any, getD-past}
+use Rattle.fields.proofs.Laws.{getD-any, getD-past}
 
 -- a byte by its place in the rest
 pub nth : (s : List ℕ) (i j k d : ℕ) → k ≡ i + j → getD s k d ≡ getD (drop i s) j d
 nth s i j k d e = rw e (sym (getD-drop i s j d))
+
+pub source-small : (c : PathReduction) → PathFits 256 c → c .source < 65536
+source-small c f = go (f .1)
+  where
+    go : (c .source < 256) ⊎ (c .source ≡ 65535) → c .source < 65536
+    go (inl h) = omega arith
+    go (inr h) = omega arith
 
 -- codes that are 0
 not-here : {A : Type 0} (k n : ℕ) → suc k ≡ n → n ≡ 0 → A
@@ -235,13 +242,6 @@ module _ (s : List ℕ) where
         high : getD s (i + 1 + length (c .keys) + 1) 256 ≡ c .source / 256 % 256
         high = rw (nth s (i + 1 + length (c .keys)) 1 (i + 1 + length (c .keys) + 1) 256 (omega arith), source-there) refl
 
-        small : c .source < 65536
-        small = go (fits .1)
-          where
-            go : (c .source < 256) ⊎ (c .source ≡ 65535) → c .source < 65536
-            go (inl h) = omega arith
-            go (inr h) = omega arith
-
         key : (j k x : ℕ) → k ≡ i + 1 + j → (l : List ℕ) → drop (i + 1) s ≡ l → getD l j 256 ≡ x → getD s k 256 ≡ x
         key j k x p l q r = rw (nth s (i + 1) j k 256 p, q) r
 
@@ -250,10 +250,10 @@ module _ (s : List ℕ) where
             + 4294967296 * (c .source % 256 + 256 * (c .source / 256 % 256))
             ≡ length ks + 256 * getD ks 0 0 + 65536 * getD ks 1 0 + 16777216 * getD ks 2 0 + 4294967296 * c .source
         go [] e a b = absurd a
-        go (x ∷ []) e a b = rw (key 0 (i + 1) x (omega arith) _ e refl) (omega (arith, small))
-        go (x ∷ (y ∷ [])) e a b = rw (key 0 (i + 1) x (omega arith) _ e refl, key 1 (i + 2) y (omega arith) _ e refl) (omega (arith, small))
+        go (x ∷ []) e a b = rw (key 0 (i + 1) x (omega arith) _ e refl) (omega (arith, source-small c fits))
+        go (x ∷ (y ∷ [])) e a b = rw (key 0 (i + 1) x (omega arith) _ e refl, key 1 (i + 2) y (omega arith) _ e refl) (omega (arith, source-small c fits))
         go (x ∷ (y ∷ (z ∷ []))) e a b =
-            rw (key 0 (i + 1) x (omega arith) _ e refl, key 1 (i + 2) y (omega arith) _ e refl, key 2 (i + 3) z (omega arith) _ e refl) (omega (arith, small))
+            rw (key 0 (i + 1) x (omega arith) _ e refl, key 1 (i + 2) y (omega arith) _ e refl, key 2 (i + 3) z (omega arith) _ e refl) (omega (arith, source-small c fits))
         go (x ∷ (y ∷ (z ∷ (t ∷ ks)))) e a b = absurd (omega (arith, leb→le (suc (suc (suc (suc (length ks))))) 3 b))
 
 -- DIFFERENT LEGAL PATH REDUCTIONS HAVE DIFFERENT NUMBERS
@@ -268,7 +268,7 @@ module _ (n a b c s n′ a′ b′ c′ s′ : ℕ) (h : n < 256) (h′ : n′ <
       (p .0, q .0, r .0, t .0, t .1)
 
 -- every key of a known list is a byte
-key-byte : (ks : List ℕ) → T (all-known ks) → (i : ℕ) → getD ks i 0 < 256
+pub key-byte : (ks : List ℕ) → T (all-known ks) → (i : ℕ) → getD ks i 0 < 256
 key-byte [] t i = omega arith
 key-byte (k ∷ ks) t zero = omega (arith, known-range k (and-left (known k) (all-known ks) t))
 key-byte (k ∷ ks) t (suc i) = key-byte ks (and-right (known k) (all-known ks) t) i

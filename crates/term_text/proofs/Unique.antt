@@ -1,7 +1,6 @@
 -- DIFFERENT LEGAL TERMS HAVE DIFFERENT BYTES, and where one ends is seen from its bytes: so accepted bytes are read as one tree. Assumes nothing.
 use Prim.Native.Nat.{ℕ, _+_, _*_, _/_, _%_, _^_, _<_}
 use mathlib.Core.Path.{_≡_, refl, sym, ap, _∙_}
-use mathlib.Core.Logic.{_⊎_, inl, inr}
 use mathlib.Core.Bool.{false}
 use mathlib.Core.List.{List, [], _∷_, _++_, append-assoc}
 use native.Mathlib.Omega.{arith}
@@ -13,6 +12,7 @@ use Rattle.meaning.specs.Limits.{Every, EveryBody, PathFits}
 use Rattle.meaning.specs.Query.{PathReduction, ResultTerm, Term, VertexReduction, VertexTerm, apply, leaf, literal}
 use Rattle.wire.specs.Wire.{le16, le32}
 use Rattle.terms.specs.Terms.{leaf-tag, literal-tag}
+use Rattle.term_text.proofs.Paths.{source-small}
 use Rattle.term_text.specs.Text.{expression-bytes, path-bytes, place-bytes, result-bytes, term-bytes}
 
 -- lists of one length
@@ -41,13 +41,6 @@ le16-same k j h i e =
     let a = same-head (k % 256) (j % 256) _ _ e in
     let b = same-head (k / 256 % 256) (j / 256 % 256) _ _ (a .1) in
     omega (arith, a .0, b .0)
-
-pub source-small : (c : PathReduction) → PathFits 256 c → c .source < 65536
-source-small c f = go (f .1)
-  where
-    go : (c .source < 256) ⊎ (c .source ≡ 65535) → c .source < 65536
-    go (inl h) = omega arith
-    go (inr h) = omega arith
 
 pub path-split : (c d : PathReduction) (x y : List ℕ) → PathFits 256 c → PathFits 256 d → path-bytes c ++ x ≡ path-bytes d ++ y → (c ≡ d) × (x ≡ y)
 path-split c d x y f g e =

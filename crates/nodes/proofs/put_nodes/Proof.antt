@@ -6,9 +6,10 @@ use native.Mathlib.Omega.{arith}
 use native.Mathlib.Nat.{sub-zero}
 use borrow.Author.Needs.{needs}
 use lib.ListN.{take}
-use Rattle.nodes.specs.Draft.{put-list, nodes-text}
+use Rattle.draft.specs.Draft.{put-list}
+use Rattle.nodes.specs.Text.{nodes-text}
 use Rattle.nodes.specs.declared.Node.{Node}
-use Rattle.nodes.proofs.Drafts.{left, put-more, put-done, take-least, nodes-short}
+use Rattle.nodes.proofs.Text.{left, put-more, put-done, take-least, nodes-short}
 use Rattle.nodes.proofs.put_nodes.Statement.{statement}
 use Rattle.nodes.proofs.put_nodes.Tie as tie
 

@@ -1,7 +1,7 @@
 -- `query_form::draft_of` meets its contract. Assumes nothing.
 use mathlib.Core.Path.{_≡_, refl, _∙_}
 use borrow.Author.Needs.{needs}
-use Rattle.nodes.specs.Draft.{empty-draft, put-list}
+use Rattle.draft.specs.Draft.{empty-draft, put-list}
 use Rattle.query_form.specs.Form.{form-bytes}
 use Rattle.query_form.proofs.Written.{holds-form}
 use Rattle.query_form.proofs.draft_of.Statement.{statement}

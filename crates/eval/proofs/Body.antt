@@ -11,8 +11,8 @@ use Rattle.meaning.specs.Query.{PathReduction, Term, VertexReduction}
 use Rattle.meaning.specs.Run.{at-vertices, body-rows, evaluate, reduced, tabulate}
 use Rattle.meaning.proofs.Lists.{tabulate-at, tabulate-length}
 use Rattle.plan.specs.Text.{body-bytes, encode, entries-bytes, row-bytes, rows-bytes}
-use Rattle.terms.specs.Text.{expression-bytes}
-use Rattle.terms.proofs.Steps.{drop-on, tag-there}
+use Rattle.term_text.specs.Text.{expression-bytes}
+use Rattle.term_text.proofs.Steps.{drop-on, tag-there}
 use Rattle.value.specs.declared.Row.{Row}
 use Rattle.value.specs.declared.Value.{Value}
 use Rattle.value.specs.declared.Value.the-variants.{Absent}

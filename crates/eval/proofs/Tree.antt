@@ -11,9 +11,9 @@ use Rattle.meaning.specs.Query.{Term, apply, leaf, literal}
 use Rattle.meaning.specs.Run.{evaluate}
 use Rattle.nodes.proofs.Fields.{byte-there, literal-tags}
 use Rattle.terms.specs.Terms.{leaf-tag, literal-tag}
-use Rattle.terms.specs.Text.{expression-bytes}
-use Rattle.terms.proofs.Paths.{nth}
-use Rattle.terms.proofs.Steps.{drop-on, tag-there, there}
+use Rattle.term_text.specs.Text.{expression-bytes}
+use Rattle.term_text.proofs.Paths.{nth}
+use Rattle.term_text.proofs.Steps.{drop-on, tag-there, there}
 use Rattle.value.specs.declared.Row.{Row}
 use Rattle.value.specs.declared.Value.{Value}
 use Rattle.value.specs.declared.Value.the-variants.{Absent, Number}

@@ -9,10 +9,11 @@ use lib.ListN.{length, getD, drop, length-append, drop-of-length-le}
 use lib.Seq.{getD-append-add, drop-cons}
 use Rattle.meaning.specs.Run.{tabulate}
 use Rattle.walks.specs.Walks.{Edge, edge-at}
+use Rattle.wire.specs.Header.{header-bytes}
 use Rattle.wire.specs.Wire.{Bytes, at16, le16}
 use Rattle.graph.specs.Encode.{edge-bytes, edges-bytes, head-bytes}
 use Rattle.graph.specs.Graph.{edge-in, edges-in}
-use Rattle.graph.proofs.Accepted.{Accepted, Header}
+use Rattle.graph.proofs.Accepted.{Accepted}
 
 -- ---- 16 bits
 
@@ -68,21 +69,17 @@ module _ (s : List ℕ) (b : Bytes s) where
   edges-bytes-at (suc k) i h =
       edge-bytes-at i (omega arith) ∙ ap (λ (l : List ℕ). edge-bytes (edge-in s i) ++ l) (edges-bytes-at k (suc i) (omega arith))
 
-  head-bytes-at : Header s → s ≡ head-bytes (at16 s 5) (at16 s 7) ++ drop 9 s
-  head-bytes-at h =
-      byte-at 0 1 (omega arith) refl
-      ∙ ap (λ (l : List ℕ). getD s 0 0 ∷ l) (byte-at 1 2 (omega arith) refl
-      ∙ ap (λ (l : List ℕ). getD s 1 0 ∷ l) (byte-at 2 3 (omega arith) refl
-      ∙ ap (λ (l : List ℕ). getD s 2 0 ∷ l) (word-at 3 5 (omega arith) refl
-      ∙ ap (λ (l : List ℕ). le16 (at16 s 3) ++ l) (word-at 5 7 (omega arith) refl
-      ∙ ap (λ (l : List ℕ). le16 (at16 s 5) ++ l) (word-at 7 9 (omega arith) refl)))))
-      ∙ rw (h .letter1, h .letter2, h .letter3, h .version)
+  head-bytes-at : 9 ≤ length s → s ≡ header-bytes 0x4d ++ drop 5 s → s ≡ head-bytes (at16 s 5) (at16 s 7) ++ drop 9 s
+  head-bytes-at h e =
+      e
+      ∙ ap (λ (l : List ℕ). header-bytes 0x4d ++ l) (word-at 5 7 (omega arith) refl
+      ∙ ap (λ (l : List ℕ). le16 (at16 s 5) ++ l) (word-at 7 9 (omega arith) refl))
 
   -- accepted bytes are those of their fields and rows
   pub bytes-of : Accepted s → head-bytes (at16 s 5) (at16 s 7) ++ edges-bytes (edges-in s) ≡ s
   unfolding edges-in
   bytes-of h =
-      sym (head-bytes-at (h .start)
+      sym (head-bytes-at (omega (arith, h .exact)) (h .start)
       ∙ ap (λ (l : List ℕ). head-bytes (at16 s 5) (at16 s 7) ++ l) (edges-bytes-at (at16 s 7) 0 (omega (arith, h .exact))))
 
 -- ---- the bytes of edges

@@ -10,13 +10,16 @@ use lib.Dec.{leb, ltb, eqb}
 use lib.ListN.{length, length-append}
 use Rattle.meaning.specs.Limits.{GraphLegal}
 use Rattle.walks.specs.Walks.{Edge, Graph, edge-at}
-use Rattle.wire.specs.Wire.{Bytes, at16, done}
+use Rattle.wire.specs.Header.{header-code, then}
+use Rattle.wire.specs.Wire.{Bytes, at16, done, le16}
+use Rattle.wire.proofs.Codes.{past, then-both, then-none, then-same}
+use Rattle.wire.proofs.Header.{header-accepted}
 use Rattle.graph.specs.declared.Reading.{Reading}
 use Rattle.graph.specs.Encode.{edges-bytes, encode, head-bytes, table-bytes, table-graph, write-reply}
-use Rattle.graph.specs.Graph.{blank-table, counts-code, edge-code, edges-code, edges-in, first, graph-code, graph-of, graph-reading, header-code, table-of}
-use Rattle.graph.proofs.Accepted.{accepted, counts, past}
+use Rattle.graph.specs.Graph.{blank-table, counts-code, edge-code, edges-code, edges-in, graph-code, graph-of, graph-reading, table-of}
+use Rattle.graph.proofs.Accepted.{accepted, counts}
 use Rattle.graph.proofs.Bytes.{EdgeFits, EdgesFit, bytes-of, edge-fits, edges-length, edges-read, word-back}
-use Rattle.graph.proofs.Rows.{edge-there, edges-count, first-none, first-same, first-zero}
+use Rattle.graph.proofs.Rows.{edge-there, edges-count}
 use Rattle.graph.proofs.Table.{typed}
 
 -- ---- an edge, and the edges in turn
@@ -48,13 +51,13 @@ edge-accepted n e l =
 each-right : (n : ℕ) (es : List Edge) → edges-code n es ≡ 0 → (i : ℕ) → i < length es → edge-code n (edge-at es i) ≡ 0
 unfolding edges-code
 each-right n [] z i h = absurd (omega arith)
-each-right n (e ∷ es) z zero h = first-zero (edge-code n e) (edges-code n es) z .0
-each-right n (e ∷ es) z (suc i) h = each-right n es (first-zero (edge-code n e) (edges-code n es) z .1) i (le-of-suc-le-suc h)
+each-right n (e ∷ es) z zero h = then-both (edge-code n e) (edges-code n es) z .0
+each-right n (e ∷ es) z (suc i) h = each-right n es (then-both (edge-code n e) (edges-code n es) z .1) i (le-of-suc-le-suc h)
 
 all-right : (n : ℕ) (es : List Edge) → ((i : ℕ) → i < length es → edge-code n (edge-at es i) ≡ 0) → edges-code n es ≡ 0
 unfolding edges-code
 all-right n [] f = refl
-all-right n (e ∷ es) f = first-none (edge-code n e) (edges-code n es) (f 0 (omega arith)) ∙ all-right n es (λ i h. f (suc i) (suc-le-suc h))
+all-right n (e ∷ es) f = then-none (edge-code n e) (edges-code n es) (f 0 (omega arith)) ∙ all-right n es (λ i h. f (suc i) (suc-le-suc h))
 
 -- ---- the typed form
 
@@ -79,29 +82,23 @@ table-encoded : (g : Graph) → table-bytes (table-of g) ≡ encode g
 unfolding table-bytes table-of
 table-encoded g = ap (λ (h : Graph). head-bytes (g .vertices) (length (g .edges)) ++ edges-bytes (h .edges)) (typed g)
 
--- ---- what is judged of a header and edges that were written
-
-header-right : (n m : ℕ) (l : List ℕ) → header-code (head-bytes n m ++ l) ≡ 0
-unfolding header-code
-header-right n m l =
-    let long : ltb (length (head-bytes n m ++ l)) 9 ≡ false = le-ltb (length (head-bytes n m ++ l)) 9 (omega (arith, length-append (head-bytes n m) l)) in
-    rw long
+-- ---- what is judged of counts and edges that were written
 
 counts-right : (n m : ℕ) → 0 < n → n ≤ 256 → m ≤ 1024 → counts-code n m ≡ 0
 unfolding counts-code
 counts-right n m some few less = rw (ne-eqb n 0 (λ z. omega arith), le-ltb _ _ few, le-ltb _ _ less)
 
 pub judged-bytes : (n m : ℕ) (es : List Edge) → n < 65536 → m < 65536 → (m ≤ 1024 → m ≡ length es) → EdgesFit es →
-    graph-code (head-bytes n m ++ edges-bytes es) ≡ first (counts-code n m) (edges-code n es)
+    graph-code (head-bytes n m ++ edges-bytes es) ≡ then (counts-code n m) (edges-code n es)
 unfolding graph-code
 judged-bytes n m es hn hm same f =
     let s : List ℕ = head-bytes n m ++ edges-bytes es in
     let long : length s ≡ 9 + 8 * length es = length-append (head-bytes n m) (edges-bytes es) ∙ omega (arith, edges-length es) in
-    let rest : counts-code n m ≡ 0 → first (cond (eqb (length s) (9 + 8 * m)) 0 6) (edges-code n (edges-in s)) ≡ edges-code n es = λ z.
+    let rest : counts-code n m ≡ 0 → then (cond (eqb (length s) (9 + 8 * m)) 0 6) (edges-code n (edges-in s)) ≡ edges-code n es = λ z.
     let e : m ≡ length es = same (counts n m z .few-edges) in
     rw (eq-eqb (length s) (9 + 8 * m) (omega arith)) (ap (edges-code n) (edges-read n m es hm e f)) in
-    first-none (header-code s) _ (header-right n m (edges-bytes es))
-    ∙ rw (word-back n hn, word-back m hm) (first-same (counts-code n m) _ _ rest)
+    then-none (header-code 0x4d 9 s) _ (header-accepted 0x4d 9 (le16 n ++ (le16 m ++ edges-bytes es)) (omega arith))
+    ∙ rw (word-back n hn, word-back m hm) (then-same (counts-code n m) _ _ rest)
 
 -- ---- legal graphs
 
@@ -132,7 +129,7 @@ read-complete g l =
     }) in
     let code : graph-code (encode g) ≡ 0 =
     judged-bytes (g .vertices) m (g .edges) hn hm (λ _. refl) fit
-    ∙ first-none (counts-code (g .vertices) m) _ (counts-right (g .vertices) m (l .fits .some-vertex) (l .few-vertices) (l .few-edges))
+    ∙ then-none (counts-code (g .vertices) m) _ (counts-right (g .vertices) m (l .fits .some-vertex) (l .few-vertices) (l .few-edges))
     ∙ all-right (g .vertices) (g .edges) each in
     let back : graph-of (encode g) ≡ g = rw (word-back (g .vertices) hn, edges-read (g .vertices) m (g .edges) hm refl fit) in
     (code, back, table-read (encode g) code ∙ back)

@@ -6,6 +6,7 @@ use native.Mathlib.Omega.{arith}
 use borrow.Author.Tests.{lt-ltb, le-ltb, eq-eqb, ne-eqb}
 use lib.ListN.{length, drop, length-append}
 use Rattle.wire.specs.Wire.{done, refused}
+use Rattle.wire.proofs.Codes.{then-both}
 use Rattle.graph.specs.declared.EdgeTable.{EdgeTable}
 use Rattle.graph.specs.Encode.{edges-bytes, encode, head-bytes, table-bytes, table-graph, write-reply}
 use Rattle.graph.specs.Graph.{counts-code, graph-code}
@@ -14,7 +15,6 @@ use Rattle.graph.proofs.Accepted.{counts}
 use Rattle.graph.proofs.Bytes.{edges-length}
 use Rattle.graph.proofs.Exact.{judged-bytes}
 use Rattle.graph.proofs.Fits.{TableFits}
-use Rattle.graph.proofs.Rows.{first-zero}
 use Rattle.graph.proofs.Table.{table-count, table-there}
 use Rattle.graph.proofs.Written.{with-all}
 
@@ -30,7 +30,7 @@ module _ (t : EdgeTable) (f : TableFits t) where
 
   pub table-few : table-code t ≡ 0 → t .count ≤ 1024
   unfolding table-code
-  table-few z = counts (t .vertices) (t .count) (first-zero (counts-code (t .vertices) (t .count)) _ z .0) .few-edges
+  table-few z = counts (t .vertices) (t .count) (then-both (counts-code (t .vertices) (t .count)) _ z .0) .few-edges
 
   -- what is written is the encoding of the graph that the typed form means
   pub write-encodes : graph-code (table-bytes t) ≡ 0 → table-bytes t ≡ encode (table-graph t)

@@ -1,55 +1,32 @@
 -- Laws of the reading as its loops go: one row more is judged, one row more is stored. Assumes nothing.
 use Prim.Native.Nat.{ℕ, zero, suc, _+_, _-_, _≤_, _<_}
 use mathlib.Core.Path.{_≡_, refl, sym, ap, _∙_}
-use mathlib.Core.Bool.{Bool, true, false, cond}
 use mathlib.Core.List.{List, [], _∷_, _++_, map}
 use native.Mathlib.Numerals.{add-one}
 use native.Mathlib.Omega.{arith}
 use native.Mathlib.Nat.{add-zero, add-suc, suc-add, zero-add}
-use borrow.Author.Tests.{eqb-true, eqb-false, eq-eqb, ne-eqb}
-use lib.Dec.{eqb}
 use lib.ListN.{length, drop, set, replicate, length-append, length-map, drop-of-length-le}
 use lib.Seq.{drop-cons, append-snoc, set-at}
 use Rattle.meaning.specs.Run.{tabulate}
 use Rattle.meaning.proofs.Lists.{map-append, tabulate-at, tabulate-length}
 use Rattle.walks.specs.Walks.{Edge, edge, edge-at}
+use Rattle.wire.specs.Header.{then}
 use Rattle.wire.specs.Wire.{at16}
-use Rattle.graph.specs.Graph.{blank-row, edge-code, edge-in, edges-code, edges-in, filled, first, row-of}
-
--- ---- the first of two refusals
-
-pub first-none : (k x : ℕ) → k ≡ 0 → first k x ≡ x
-first-none k x e = rw (eq-eqb k 0 e)
-
-pub first-some : (k x : ℕ) → (k ≡ 0 → ⊥) → first k x ≡ k
-first-some k x h = rw (ne-eqb k 0 h)
-
-pub first-zero : (k x : ℕ) → first k x ≡ 0 → (k ≡ 0) × (x ≡ 0)
-first-zero k x e = go (eqb k 0) refl e
-  where
-    go : (b : Bool) → eqb k 0 ≡ b → cond b x k ≡ 0 → (k ≡ 0) × (x ≡ 0)
-    go true t z = (eqb-true k 0 t, z)
-    go false t z = absurd (eqb-false k 0 t z)
-
-pub first-same : (k x y : ℕ) → (k ≡ 0 → x ≡ y) → first k x ≡ first k y
-first-same k x y h = go (eqb k 0) refl
-  where
-    go : (b : Bool) → eqb k 0 ≡ b → _≡_ {A = ℕ} (cond b x k) (cond b y k)
-    go true t = h (eqb-true k 0 t)
-    go false t = refl
+use Rattle.wire.proofs.Codes.{then-none, then-some}
+use Rattle.graph.specs.Graph.{blank-row, edge-code, edge-in, edges-code, edges-in, filled, row-of}
 
 -- ---- rows judged in turn: those before row i were right
 
 module _ (n : ℕ) (es : List Edge) (i : ℕ) (right : edges-code n (drop i es) ≡ edges-code n es) where
-  next : i < length es → edges-code n es ≡ first (edge-code n (edge-at es i)) (edges-code n (drop (i + 1) es))
+  next : i < length es → edges-code n es ≡ then (edge-code n (edge-at es i)) (edges-code n (drop (i + 1) es))
   unfolding edges-code
   next h = sym right ∙ rw (add-one i, drop-cons es i (edge 0 0 0 0) h)
 
   pub row-refused : i < length es → (k : ℕ) → k ≡ edge-code n (edge-at es i) → (k ≡ 0 → ⊥) → k ≡ edges-code n es
-  row-refused h k e z = sym (next h ∙ rw (← e) (first-some k _ z))
+  row-refused h k e z = sym (next h ∙ rw (← e) (then-some k _ z))
 
   pub row-passed : i < length es → (k : ℕ) → k ≡ edge-code n (edge-at es i) → k ≡ 0 → edges-code n (drop (i + 1) es) ≡ edges-code n es
-  row-passed h k e z = sym (next h ∙ rw (← e) (first-none k _ z))
+  row-passed h k e z = sym (next h ∙ rw (← e) (then-none k _ z))
 
   pub rows-passed : length es ≤ i → 0 ≡ edges-code n es
   unfolding edges-code

@@ -3,6 +3,7 @@ use Prim.Native.Nat.{ℕ}
 use mathlib.Core.List.{List, [], _∷_, _++_, map}
 use lib.ListN.{length, take}
 use Rattle.walks.specs.Walks.{Edge, Graph, edge}
+use Rattle.wire.specs.Header.{header-bytes}
 use Rattle.wire.specs.Wire.{Reply, fitted, le16, unless}
 use Rattle.graph.specs.declared.EdgeRow.{EdgeRow}
 use Rattle.graph.specs.declared.EdgeTable.{EdgeTable}
@@ -16,12 +17,9 @@ unfoldable pub edges-bytes : List Edge → List ℕ
 edges-bytes [] = []
 edges-bytes (e ∷ es) = edge-bytes e ++ edges-bytes es
 
--- "three letters and a 16-bit version, 1", "places n (16 bits ..), passages m (16 bits ..)"
-abbrev pub letters : List ℕ
-letters = 0x4c ∷ 0x50 ∷ 0x4d ∷ []
-
+-- "places n (16 bits ..), passages m (16 bits ..)"
 abbrev pub head-bytes : ℕ → ℕ → List ℕ
-head-bytes n m = letters ++ le16 1 ++ le16 n ++ le16 m
+head-bytes n m = header-bytes 0x4d ++ le16 n ++ le16 m
 
 -- THE BYTES OF A GRAPH
 abbrev pub encode : Graph → List ℕ

@@ -3,9 +3,10 @@ use Prim.Native.Nat.{ℕ, zero, _+_, _-_, _*_}
 use mathlib.Core.Bool.{cond}
 use mathlib.Core.List.{List, [], _∷_, _++_, map}
 use lib.Dec.{leb, ltb, eqb}
-use lib.ListN.{length, getD, replicate}
+use lib.ListN.{length, replicate}
 use Rattle.meaning.specs.Run.{tabulate}
 use Rattle.walks.specs.Walks.{Edge, Graph, edge}
+use Rattle.wire.specs.Header.{header-code, then}
 use Rattle.wire.specs.Wire.{at16}
 use Rattle.graph.specs.declared.EdgeRow.{EdgeRow}
 use Rattle.graph.specs.declared.EdgeTable.{EdgeTable}
@@ -21,17 +22,6 @@ edges-in s = tabulate (at16 s 7) zero (edge-in s)
 -- the graph of some bytes; it counts where they are accepted
 abbrev pub graph-of : List ℕ → Graph
 graph-of s = record { vertices = at16 s 5; edges = edges-in s }
-
--- a refusal, 0 for none, before those that follow
-abbrev pub first : ℕ → ℕ → ℕ
-first k rest = cond (eqb k 0) rest k
-
--- "1 if under 5 bytes, or under 9 for a map", 2 the three letters, 3 the version
-unfoldable pub header-code : List ℕ → ℕ
-header-code s =
-    cond (ltb (length s) 9) 1
-    (cond (eqb (getD s 0 0) 0x4c) (cond (eqb (getD s 1 0) 0x50) (cond (eqb (getD s 2 0) 0x4d)
-    (cond (eqb (at16 s 3) 1) 0 3) 2) 2) 2)
 
 -- "4 | places | n is 0 or above 256", "5 | passages | m above 1,024"
 unfoldable pub counts-code : ℕ → ℕ → ℕ
@@ -50,11 +40,11 @@ edge-code n e =
 -- "its rows in turn"
 unfoldable pub edges-code : ℕ → List Edge → ℕ
 edges-code n [] = 0
-edges-code n (e ∷ es) = first (edge-code n e) (edges-code n es)
+edges-code n (e ∷ es) = then (edge-code n e) (edges-code n es)
 
 -- the number of the first refusal, 0 where the bytes are accepted: "header ..., 2, 3; a map then 4, 5, 6, and its rows in turn"
 unfoldable pub graph-code : List ℕ → ℕ
-graph-code s = first (header-code s) (first (counts-code (at16 s 5) (at16 s 7)) (first (length-code s) (edges-code (at16 s 5) (edges-in s))))
+graph-code s = then (header-code 0x4d 9 s) (then (counts-code (at16 s 5) (at16 s 7)) (then (length-code s) (edges-code (at16 s 5) (edges-in s))))
 
 -- the typed form: a row; the first of 1,024 rows, and nothing behind them; a graph
 abbrev pub row-of : Edge → EdgeRow

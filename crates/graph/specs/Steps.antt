@@ -4,13 +4,14 @@ use Prim.Native.Nat.{ℕ, _+_, _*_}
 use mathlib.Core.List.{List, _++_}
 use lib.ListN.{take, drop}
 use Rattle.walks.specs.Walks.{Edge}
+use Rattle.wire.specs.Header.{then}
 use Rattle.graph.specs.declared.EdgeTable.{EdgeTable}
 use Rattle.graph.specs.Encode.{edges-bytes, table-graph}
-use Rattle.graph.specs.Graph.{counts-code, edges-code, first}
+use Rattle.graph.specs.Graph.{counts-code, edges-code}
 
 -- the typed form judged by its fields
 unfoldable pub table-code : EdgeTable → ℕ
-table-code t = first (counts-code (t .vertices) (t .count)) (edges-code (t .vertices) (table-graph t .edges))
+table-code t = then (counts-code (t .vertices) (t .count)) (edges-code (t .vertices) (table-graph t .edges))
 
 -- a buffer whose nine first bytes are followed by those of i edges
 unfoldable pub with-edges : List ℕ → List Edge → ℕ → List ℕ

@@ -4,9 +4,10 @@ ghost use mathlib.Core.List.{_++_, map};
 ghost use Prim.Native.Nat.{_+_, _*_, _<_, _≤_};
 ghost use lib.ListN.{length, take, drop};
 ghost use lib.Seq.{sets};
+ghost use Rattle.wire.specs.Header.{header-bytes};
 ghost use Rattle.wire.specs.Wire.{at16, le16, reply-number, reply-buffer};
-ghost use Rattle.graph.specs.Graph.{edge-in, edges-in, edge-code, edges-code, header-code, counts-code, graph-code, graph-of, row-of, table-of, blank-table, graph-reading};
-ghost use Rattle.graph.specs.Encode.{row-edge, edge-bytes, letters, head-bytes, write-reply};
+ghost use Rattle.graph.specs.Graph.{edge-in, edges-in, edge-code, edges-code, counts-code, graph-code, graph-of, row-of, table-of, blank-table, graph-reading};
+ghost use Rattle.graph.specs.Encode.{row-edge, edge-bytes, head-bytes, write-reply};
 ghost use Rattle.graph.specs.Steps.{table-code, with-edges};
 
 // A passage: "from, to, seconds, crate size".
@@ -93,28 +94,6 @@ fn counts_code(n: u16, m: u16) -> u8
     0
 }
 
-// The refusal of the length, the letters and the version, or 0.
-fn header_code(s: &[u8]) -> u8
-    ensures { λ r. ⌜ r ≡ header-code (now (s .entry)) ⌝ }
-{
-    if s.len() < 9 {
-        return 1;
-    }
-    if s[0] != 0x4c {
-        return 2;
-    }
-    if s[1] != 0x50 {
-        return 2;
-    }
-    if s[2] != 0x4d {
-        return 2;
-    }
-    if read16(s, 3) != 1 {
-        return 3;
-    }
-    0
-}
-
 // The refusal of the first wrong row of the bytes, or 0.
 fn bytes_code(s: &[u8], n: u16, m: usize) -> u8
     requires { ⌜ (9 + 8 * m ≤ length (now s)) × (m ≡ at16 (now s) 7) ⌝ }
@@ -135,7 +114,7 @@ fn bytes_code(s: &[u8], n: u16, m: usize) -> u8
 pub fn judge(s: &[u8]) -> u8
     ensures { λ r. ⌜ r ≡ graph-code (now (s .entry)) ⌝ }
 {
-    let h = header_code(s);
+    let h = wire::judge_header(s, 0x4d, 9);
     if h != 0 {
         return h;
     }
@@ -261,22 +240,23 @@ fn put_edge(out: &mut [u8], at: usize, row: EdgeRow)
     put16(out, at + 6, row.capacity);
 }
 
-// The three letters.
-fn put_letters(out: &mut [u8])
-    requires { ⌜ 3 ≤ length (now out) ⌝ }
-    ensures { λ _. ⌜ now (out .exit) ≡ sets (now (out .entry)) 0 letters ⌝ }
+// The three letters and the version.
+fn put_header(out: &mut [u8])
+    requires { ⌜ 5 ≤ length (now out) ⌝ }
+    ensures { λ _. ⌜ now (out .exit) ≡ sets (now (out .entry)) 0 (header-bytes 0x4d) ⌝ }
 {
     out[0] = 0x4c;
     out[1] = 0x50;
     out[2] = 0x4d;
+    out[3] = 1;
+    out[4] = 0;
 }
 
 fn put_head(out: &mut [u8], n: u16, m: u16)
     requires { ⌜ 9 ≤ length (now out) ⌝ }
     ensures { λ _. ⌜ now (out .exit) ≡ head-bytes n m ++ drop 9 (now (out .entry)) ⌝ }
 {
-    put_letters(out);
-    put16(out, 3, 1);
+    put_header(out);
     put16(out, 5, n);
     put16(out, 7, m);
 }

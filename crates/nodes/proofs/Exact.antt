@@ -8,14 +8,15 @@ use lib.ListN.{length, drop, getD, length-append}
 use Rattle.meaning.specs.Limits.{EveryBody, Every, PathFits, terms, unit}
 use Rattle.meaning.specs.Query.{PathReduction, ResultTerm, Term, VertexReduction, VertexTerm, leaf}
 use Rattle.terms.specs.Terms.{leaf-tag}
-use Rattle.terms.specs.Text.{expression-bytes, path-bytes, path-number, place-bytes, result-bytes}
-use Rattle.terms.proofs.Exact.{index-leaves, place-leaves, result-leaves}
-use Rattle.terms.proofs.Steps.{drop-on}
+use Rattle.term_text.specs.Text.{expression-bytes, path-bytes, path-number, place-bytes, result-bytes}
+use Rattle.term_text.proofs.Exact.{index-leaves, place-leaves, result-leaves}
+use Rattle.term_text.proofs.Steps.{drop-on}
 use Rattle.wire.specs.Wire.{le16}
 use Rattle.nodes.specs.declared.Node.{Node}
 use Rattle.nodes.specs.declared.Term as single
 use Rattle.nodes.specs.declared.Term.the-variants.{EntryIndex, Path, PathIndex, Reduce}
-use Rattle.nodes.specs.Draft.{nodes-text, path-text, term-text, texts}
+use Rattle.draft.specs.Draft.{texts}
+use Rattle.nodes.specs.Text.{nodes-text, path-text, term-text}
 use Rattle.nodes.specs.Nodes.{collected, node, passed, tagged}
 use Rattle.nodes.specs.Tree.{entry-nodes, final-nodes, place-nodes, result-nodes, term-nodes}
 use Rattle.nodes.proofs.Fields.{byte-there, collected-on, path-read, path-written}

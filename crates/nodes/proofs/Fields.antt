@@ -1,25 +1,23 @@
 -- The bytes of one term, and the term read from them. Assumes nothing.
-use Prim.Native.Nat.{ℕ, zero, suc, _+_, _*_, _/_, _%_, _^_, _≤_, _<_}
+use Prim.Native.Nat.{ℕ, suc, _+_, _*_, _/_, _%_, _^_, _≤_, _<_}
 use mathlib.Core.Path.{_≡_, refl, ap}
 use mathlib.Core.Logic.{_⊎_, inl, inr}
 use mathlib.Core.Bool.{Bool, true, false, cond}
 use mathlib.Core.List.{List, [], _∷_, _++_}
 use native.Mathlib.Omega.{arith}
 use borrow.Author.Tests.{lt-leb, lt-ltb, ne-eqb}
-use lib.Dec.{T, leb, eqb, leb→le}
+use lib.Dec.{eqb, leb→le}
 use lib.ListN.{length, getD, drop}
 use Rattle.meaning.specs.Limits.{PathFits}
 use Rattle.meaning.specs.Query.{PathReduction}
 use Rattle.terms.specs.Terms.{literal-tag}
-use Rattle.terms.specs.Text.{path-bytes, path-number}
-use Rattle.terms.proofs.Paths.{five-digits, legal-parts, nth, path-numbered}
-use Rattle.terms.proofs.Steps.{drop-on, tag-there, there}
-use Rattle.walks.specs.Keys.{all-known, known}
-use Rattle.walks.proofs.Tests.{and-left, and-right}
+use Rattle.term_text.specs.Text.{path-bytes, path-number}
+use Rattle.term_text.proofs.Paths.{five-digits, key-byte, legal-parts, nth, path-numbered}
+use Rattle.term_text.proofs.Steps.{drop-on, tag-there, there}
 use Rattle.wire.specs.Wire.{at32, le16, le32}
 use Rattle.nodes.specs.declared.Node.{Node}
 use Rattle.nodes.specs.declared.Term.the-variants.{Entry, Path}
-use Rattle.nodes.specs.Draft.{key-text, path-text, term-text}
+use Rattle.nodes.specs.Text.{key-text, path-text, term-text}
 use Rattle.nodes.specs.Nodes.{collected, next-at, node, passed, tagged, term-at}
 use Rattle.nodes.specs.Tree.{apply-node, literal-node}
 
@@ -52,11 +50,6 @@ split w =
     let c : w / 4294967296 ≡ w / 16777216 / 256 = omega arith in
     omega arith
 
-key-small : (ks : List ℕ) → T (all-known ks) → (i : ℕ) → getD ks i 0 < 256
-key-small [] t i = omega arith
-key-small (k ∷ ks) t zero = omega (arith, leb→le k 6 (and-right (leb 1 k) (leb k 6) (and-left (known k) (all-known ks) t)))
-key-small (k ∷ ks) t (suc i) = key-small ks (and-right (known k) (all-known ks) t) i
-
 -- the digits of its number are its key count, its keys and its source
 pub path-digits : (c : PathReduction) → PathFits 256 c
     → (path-number c % 256 ≡ length (c .keys)) × (path-number c / 256 % 256 ≡ getD (c .keys) 0 0) × (path-number c / 65536 % 256 ≡ getD (c .keys) 1 0) × (path-number c / 16777216 % 256 ≡ getD (c .keys) 2 0) × (path-number c / 4294967296 ≡ c .source)
@@ -65,7 +58,7 @@ path-digits c f =
     let w = path-number c in
     let few = leb→le (length (c .keys)) 3 (p .1) in
     five-digits (w % 256) (w / 256 % 256) (w / 65536 % 256) (w / 16777216 % 256) (w / 4294967296) (length (c .keys)) (getD (c .keys) 0 0) (getD (c .keys) 1 0) (getD (c .keys) 2 0) (c .source)
-    (omega arith) (omega arith) (omega arith) (key-small (c .keys) (p .2) 0) (omega arith) (key-small (c .keys) (p .2) 1) (omega arith) (key-small (c .keys) (p .2) 2) (split w)
+    (omega arith) (omega arith) (omega arith) (key-byte (c .keys) (p .2) 0) (omega arith) (key-byte (c .keys) (p .2) 1) (omega arith) (key-byte (c .keys) (p .2) 2) (split w)
 
 pub path-written : (c : PathReduction) → PathFits 256 c → path-text (path-number c) ≡ path-bytes c
 unfolding path-text

@@ -1,5 +1,5 @@
 pub mod Held
-pub mod Drafts
+pub mod Text
 pub mod Fields
 pub mod Shape
 pub mod Exact

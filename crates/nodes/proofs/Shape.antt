@@ -8,14 +8,15 @@ use lib.ListN.{length, drop, length-append}
 use Rattle.meaning.specs.Limits.{Every, terms}
 use Rattle.meaning.specs.Query.{Term, apply, leaf, literal}
 use Rattle.terms.specs.Terms.{literal-tag}
-use Rattle.terms.specs.Text.{term-bytes}
-use Rattle.terms.proofs.Shape.{Leaves}
-use Rattle.terms.proofs.Steps.{drop-on}
+use Rattle.term_text.specs.Text.{term-bytes}
+use Rattle.term_text.proofs.Shape.{Leaves}
+use Rattle.term_text.proofs.Steps.{drop-on}
 use Rattle.nodes.specs.declared.Node.{Node}
-use Rattle.nodes.specs.Draft.{node-text, nodes-text, term-text, texts}
+use Rattle.draft.specs.Draft.{texts}
+use Rattle.nodes.specs.Text.{node-text, nodes-text, term-text}
 use Rattle.nodes.specs.Nodes.{collected}
 use Rattle.nodes.specs.Tree.{apply-node, literal-node, term-nodes}
-use Rattle.nodes.proofs.Drafts.{text-append}
+use Rattle.draft.proofs.Texts.{text-append}
 use Rattle.nodes.proofs.Fields.{apply-read, apply-text, literal-read, literal-tags, literal-text}
 
 module _ {A : Type 0} (K : Leaves A) (N : A → List Node) (m : ℕ) where

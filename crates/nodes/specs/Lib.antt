@@ -1,3 +1,3 @@
 pub mod Nodes
-pub mod Draft
+pub mod Text
 pub mod Tree

@@ -1,13 +1,13 @@
 // The typed form of terms (document 01, "Layouts"): one after the other in written order, read from bytes and put into a draft.
+use draft::Draft;
 ghost use mathlib.Core.Path.{_≡_};
 ghost use Prim.Native.Nat.{ℕ, _+_, _≤_, _<_, min};
 ghost use lib.ListN.{length, getD, take};
 ghost use mathlib.Core.List.{_∷_, []};
-ghost use Rattle.wire.specs.Wire.{at16, at32, le16, le32, fitted, reply-number, reply-buffer, unless};
-ghost use Rattle.terms.specs.Fields.{path-word, used};
-ghost use Rattle.terms.specs.Text.{header-bytes};
+ghost use Rattle.wire.specs.Wire.{at16, at32, le32};
 ghost use Rattle.nodes.specs.Nodes.{term-at, next-at, nodes-read};
-ghost use Rattle.nodes.specs.Draft.{empty-draft, put-byte, put-list, key-text, path-text, term-text, nodes-text};
+ghost use Rattle.nodes.specs.Text.{key-text, path-text, term-text, nodes-text};
+ghost use Rattle.draft.specs.Draft.{put-list};
 
 // A term without those that it contains, or the reduction byte before an entry of a worksheet; a path reduction is its six bytes in a worksheet as one number.
 pub enum Term {
@@ -25,12 +25,6 @@ pub enum Term {
 
 pub struct Node {
     pub term: Term,
-}
-
-// Bytes to be written: the first `len` of `bytes`.
-pub struct Draft {
-    pub bytes: [u8; 576],
-    pub len: usize,
 }
 
 // The byte at i, or 0 past the end.
@@ -62,33 +56,6 @@ fn word(s: &[u8], i: usize) -> u32
     half(s, i) + 65536 * half(s, i + 2)
 }
 
-fn long(b: u16) -> u64
-    ensures { λ r. ⌜ (r ≡ b) × (r ≤ 65535) ⌝ }
-{
-    b as u64
-}
-
-// Key byte j of a path reduction of n keys, or 0 where there is no such key.
-fn key_at(n: u16, j: u16, b: u16) -> u64
-    ensures { λ r. ⌜ (r ≡ used n j b) × (r ≤ 65535) ⌝ }
-{
-    if j < n { long(b) } else { 0 }
-}
-
-// The path reduction whose key count stands at i, as one number: its six bytes in a worksheet.
-fn path_at(s: &[u8], i: usize) -> u64
-    requires { ⌜ i ≤ length (now s) ⌝ }
-    ensures { λ r. ⌜ r ≡ path-word (now (s .entry)) i ⌝ }
-{
-    let n = terms::byte(s, i);
-    let j = i + 1 + (n as usize);
-    let first = long(n) + 256 * long(terms::byte(s, i + 1));
-    let later = 65536 * key_at(n, 1, terms::byte(s, i + 2))
-        + 16777216 * key_at(n, 2, terms::byte(s, i + 3));
-    let source = long(terms::byte(s, j)) + 256 * long(terms::byte(s, j + 1));
-    first + later + 4294967296 * source
-}
-
 // The term that starts at i, by its tag.
 fn term_of(s: &[u8], i: usize) -> Term
     ensures { λ r. ⌜ r ≡ term-at (now (s .entry)) i ⌝ }
@@ -98,7 +65,7 @@ fn term_of(s: &[u8], i: usize) -> Term
     }
     let tag = s[i];
     if tag == 0x10 {
-        return Term::Path(path_at(s, i + 1));
+        return Term::Path(fields::path_word(s, i + 1));
     }
     if tag == 0x11 {
         return Term::Literal(word(s, i + 1));
@@ -150,20 +117,13 @@ fn next_of(s: &[u8], i: usize) -> usize
     i + 2
 }
 
-// The lesser of two.
-pub fn lesser(a: usize, b: usize) -> usize
-    ensures { λ r. ⌜ (r ≡ min a b) × (r ≤ b) ⌝ }
-{
-    if a <= b { a } else { b }
-}
-
 // The first `count` terms from `at` on, one after the other as written; at most 72 (64 terms, and 8 entries), and empty ones after them.
 pub fn read_nodes(s: &[u8], at: usize, count: usize) -> [Node; 72]
     ensures { λ r. ⌜ r ≡ nodes-read count (now (s .entry)) at ⌝ }
 {
     let empty = Node { term: Term::Empty };
     let mut nodes = [empty; 72];
-    let n = lesser(count, 72);
+    let n = wire::lesser(count, 72);
     let mut place = at;
     let mut i: usize = 0;
     while i < n {
@@ -175,61 +135,11 @@ pub fn read_nodes(s: &[u8], at: usize, count: usize) -> [Node; 72]
     nodes
 }
 
-pub fn empty() -> Draft
-    ensures { λ r. ⌜ r ≡ empty-draft ⌝ }
-{
-    let bytes = [0u8; 576];
-    Draft { bytes, len: 0 }
-}
-
-// One byte more; no change where the draft is full.
-pub fn put(d: Draft, b: u8) -> Draft
-    ensures { λ r. ⌜ r ≡ put-byte d b ⌝ }
-{
-    let n = d.len;
-    if 576 <= n {
-        return d;
-    }
-    let mut r = d;
-    r.bytes[n] = b;
-    r.len = n + 1;
-    r
-}
-
-pub fn put_two(d: Draft, a: u8, b: u8) -> Draft
-    ensures { λ r. ⌜ r ≡ put-list d (a ∷ b ∷ []) ⌝ }
-{
-    put(put(d, a), b)
-}
-
-// The low 16 bits of x, low byte first.
-pub fn put16(d: Draft, x: u64) -> Draft
-    ensures { λ r. ⌜ r ≡ put-list d (le16 x) ⌝ }
-{
-    put_two(d, (x % 256) as u8, (x / 256 % 256) as u8)
-}
-
-// 32 bits, low byte first.
-pub fn put32(d: Draft, x: u32) -> Draft
-    ensures { λ r. ⌜ r ≡ put-list d (le32 x) ⌝ }
-{
-    let wide = x as u64;
-    put16(put16(d, wide), wide / 65536)
-}
-
-// The first five bytes of a question or worksheet.
-pub fn header(letter: u8) -> Draft
-    ensures { λ r. ⌜ r ≡ put-list empty-draft (header-bytes letter) ⌝ }
-{
-    let d = put_two(empty(), 0x4c, 0x50);
-    put(put_two(d, letter, 1), 0)
-}
-
 // Key byte j of a path reduction of n keys.
 fn put_key(d: Draft, n: u64, j: u64, b: u8) -> Draft
     ensures { λ r. ⌜ r ≡ put-list d (key-text n j b) ⌝ }
 {
-    if j < n { put(d, b) } else { d }
+    if j < n { draft::put(d, b) } else { d }
 }
 
 // A path reduction as a question writes it: its key count, as many keys as that says, and its source.
@@ -237,18 +147,18 @@ pub fn put_path(d: Draft, w: u64) -> Draft
     ensures { λ r. ⌜ r ≡ put-list d (path-text w) ⌝ }
 {
     let n = w % 256;
-    let d0 = put(d, n as u8);
+    let d0 = draft::put(d, n as u8);
     let d1 = put_key(d0, n, 0, (w / 256 % 256) as u8);
     let d2 = put_key(d1, n, 1, (w / 65536 % 256) as u8);
     let d3 = put_key(d2, n, 2, (w / 16777216 % 256) as u8);
-    put16(d3, w / 4294967296)
+    draft::put16(d3, w / 4294967296)
 }
 
 // A tag and 32 bits.
 fn put_literal(d: Draft, tag: u8, x: u32) -> Draft
     ensures { λ r. ⌜ r ≡ put-list d (tag ∷ le32 x) ⌝ }
 {
-    put32(put(d, tag), x)
+    draft::put32(draft::put(d, tag), x)
 }
 
 // A term without those that it contains. An empty one is a byte that no term starts with.
@@ -256,16 +166,16 @@ pub fn put_term(d: Draft, t: Term) -> Draft
     ensures { λ r. ⌜ r ≡ put-list d (term-text t) ⌝ }
 {
     match t {
-        Term::Empty => put(d, 0),
-        Term::Path(w) => put_path(put(d, 0x10), w),
+        Term::Empty => draft::put(d, 0),
+        Term::Path(w) => put_path(draft::put(d, 0x10), w),
         Term::Literal(x) => put_literal(d, 0x11, x),
-        Term::Apply(o) => put_two(d, 0x12, o),
-        Term::Reduce(o) => put_two(d, 0x20, o),
+        Term::Apply(o) => draft::put_two(d, 0x12, o),
+        Term::Reduce(o) => draft::put_two(d, 0x20, o),
         Term::ResultLiteral(x) => put_literal(d, 0x21, x),
-        Term::ResultApply(o) => put_two(d, 0x22, o),
-        Term::PathIndex(i) => put_two(d, 0x30, i),
-        Term::EntryIndex(i) => put_two(d, 0x31, i),
-        Term::Entry(b) => put(d, b),
+        Term::ResultApply(o) => draft::put_two(d, 0x22, o),
+        Term::PathIndex(i) => draft::put_two(d, 0x30, i),
+        Term::EntryIndex(i) => draft::put_two(d, 0x31, i),
+        Term::Entry(b) => draft::put(d, b),
     }
 }
 
@@ -273,7 +183,7 @@ pub fn put_term(d: Draft, t: Term) -> Draft
 pub fn put_nodes(d: Draft, nodes: [Node; 72], count: usize) -> Draft
     ensures { λ r. ⌜ (r ≡ put-list d (nodes-text (take count nodes))) × (length (nodes-text (take count nodes)) ≤ 504) ⌝ }
 {
-    let n = lesser(count, 72);
+    let n = wire::lesser(count, 72);
     let mut r = d;
     let mut i: usize = 0;
     while i < n {
@@ -283,15 +193,4 @@ pub fn put_nodes(d: Draft, nodes: [Node; 72], count: usize) -> Draft
         i += 1;
     }
     r
-}
-
-// The end of a writer by draft: refuses by the number that its bytes were judged by, or lays the first `len` of them.
-pub fn deliver(bytes: [u8; 576], len: usize, code: u8, out: &mut [u8]) -> u32
-    ensures { λ r. ⌜ (r ≡ reply-number (unless code (fitted (take len bytes) (length (now (out .entry)))))) × (now (out .exit) ≡ reply-buffer (unless code (fitted (take len bytes) (length (now (out .entry))))) (now (out .entry))) ⌝ }
-{
-    if code != 0 {
-        return 65536 + code as u32;
-    }
-    let n = lesser(len, 576);
-    wire::lay(&bytes[..n], n as u16, out)
 }

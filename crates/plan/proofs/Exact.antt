@@ -12,15 +12,16 @@ use Rattle.meaning.specs.Limits.{BodyLegal, Expression, PlanLegal, entry-terms,
 use Rattle.meaning.specs.Plan.{Body, Plan, each-vertex, one-result}
 use Rattle.meaning.specs.Query.{PathReduction}
 use Rattle.terms.specs.declared.Walk.{Walk}
-use Rattle.terms.specs.Fields.{header-code}
 use Rattle.terms.specs.Terms.{blank, ended, leaf-step, leaf-tag, literal-tag, read, started}
-use Rattle.terms.specs.Text.{expression-bytes, header-bytes}
-use Rattle.terms.proofs.Header.{ended-code, ended-whole, header-accepted, header-found, started-table}
+use Rattle.term_text.specs.Text.{expression-bytes}
+use Rattle.term_text.proofs.Ends.{ended-code, ended-whole, started-table}
 use Rattle.terms.proofs.Laws.{handed-on}
-use Rattle.terms.proofs.Paths.{drop-at, nth, present}
-use Rattle.terms.proofs.Steps.{drop-on, there}
-use Rattle.terms.proofs.Table.{Table}
+use Rattle.term_text.proofs.Paths.{drop-at, nth, present}
+use Rattle.term_text.proofs.Steps.{drop-on, there}
+use Rattle.term_text.proofs.Table.{Table}
+use Rattle.wire.specs.Header.{header-bytes, header-code}
 use Rattle.wire.specs.Wire.{Bytes}
+use Rattle.wire.proofs.Header.{header-accepted, header-found}
 use Rattle.plan.specs.Plan.{body-scan, count-code, entries-scan, entry-scan, final-scan, moved, plan-code, plan-scan, rows-scan}
 use Rattle.plan.specs.Text.{body-bytes, encode, entries-bytes, entry-count, kind-of, rows-bytes}
 use Rattle.plan.proofs.Expressions.{Passed, entries-complete, entries-sound, entry-complete, entry-sound, expr-complete, expr-sound, moved-table}
@@ -91,7 +92,7 @@ module _ (s : List ℕ) where
       })
 
 -- the whole
-plan-walk : (s : List ℕ) (kind count : ℕ) → header-code 0x57 s ≡ 0 → getD s 5 256 ≡ kind → kind ≤ 1 → getD s 6 256 ≡ count → count ≤ 8
+plan-walk : (s : List ℕ) (kind count : ℕ) → header-code 0x57 5 s ≡ 0 → getD s 5 256 ≡ kind → kind ≤ 1 → getD s 6 256 ≡ count → count ≤ 8
     → plan-scan s ≡ ended s (body-scan kind s (rows-scan count s (started 7)))
 unfolding plan-scan
 plan-walk s kind count h k l c m = rw (h, k, le-ltb 255 kind (omega arith), le-ltb 1 kind l, c, le-ltb 255 count (omega arith), le-ltb 8 count m) refl
@@ -113,26 +114,26 @@ read-complete p l =
     let b = body-complete s (p .body) w1 (p .paths) [] (a .code) (a .table) (a .terms) e1 (l .body-legal) (l .few-terms) in
     let len = length-append (rows-bytes (p .paths)) (body-bytes (p .body)) in
     let whole =
-    plan-walk s (kind-of (p .body)) n (header-accepted 0x57 (kind-of (p .body) ∷ n ∷ (rows-bytes (p .paths) ++ body-bytes (p .body)))) refl (kind-small (p .body)) refl (l .few-paths)
+    plan-walk s (kind-of (p .body)) n (header-accepted 0x57 5 (kind-of (p .body) ∷ n ∷ (rows-bytes (p .paths) ++ body-bytes (p .body))) (omega arith)) refl (kind-small (p .body)) refl (l .few-paths)
     ∙ ended-whole s (body-scan (kind-of (p .body)) s w1) (omega (arith, b .at, a .at)) in
     subst (λ (w : Walk). Scanned w p) (sym whole) (record { accepted = b .code; terms = b .terms; reductions = b .reductions; table = b .table })
 
 -- what an accepted text is: header, kind, count, and the rest read to its end
 accepted-parts : (s : List ℕ) → plan-code s ≡ 0
-    → (header-code 0x57 s ≡ 0) × (getD s 5 256 ≤ 1) × (getD s 6 256 ≤ 8) × (ended s (body-scan (getD s 5 256) s (rows-scan (getD s 6 256) s (started 7))) .code ≡ 0)
+    → (header-code 0x57 5 s ≡ 0) × (getD s 5 256 ≤ 1) × (getD s 6 256 ≤ 8) × (ended s (body-scan (getD s 5 256) s (rows-scan (getD s 6 256) s (started 7))) .code ≡ 0)
 unfolding plan-scan blank
 accepted-parts s e =
-    go (eqb (header-code 0x57 s) 0) (ltb 255 (getD s 5 256)) (ltb 1 (getD s 5 256)) (ltb 255 (getD s 6 256)) (ltb 8 (getD s 6 256)) refl refl refl refl refl e
+    go (eqb (header-code 0x57 5 s) 0) (ltb 255 (getD s 5 256)) (ltb 1 (getD s 5 256)) (ltb 255 (getD s 6 256)) (ltb 8 (getD s 6 256)) refl refl refl refl refl e
   where
-    go : (a b c d f : Bool) → eqb (header-code 0x57 s) 0 ≡ a → ltb 255 (getD s 5 256) ≡ b → ltb 1 (getD s 5 256) ≡ c → ltb 255 (getD s 6 256) ≡ d → ltb 8 (getD s 6 256) ≡ f
-        → cond a (cond b (blank 1) (cond c (blank 9) (cond d (blank 1) (cond f (blank 14) (ended s (body-scan (getD s 5 256) s (rows-scan (getD s 6 256) s (started 7)))))))) (blank (header-code 0x57 s)) .code ≡ 0
-        → (header-code 0x57 s ≡ 0) × (getD s 5 256 ≤ 1) × (getD s 6 256 ≤ 8) × (ended s (body-scan (getD s 5 256) s (rows-scan (getD s 6 256) s (started 7))) .code ≡ 0)
-    go false b c d f p q r t u z = absurd (eqb-false (header-code 0x57 s) 0 p z)
+    go : (a b c d f : Bool) → eqb (header-code 0x57 5 s) 0 ≡ a → ltb 255 (getD s 5 256) ≡ b → ltb 1 (getD s 5 256) ≡ c → ltb 255 (getD s 6 256) ≡ d → ltb 8 (getD s 6 256) ≡ f
+        → cond a (cond b (blank 1) (cond c (blank 9) (cond d (blank 1) (cond f (blank 14) (ended s (body-scan (getD s 5 256) s (rows-scan (getD s 6 256) s (started 7)))))))) (blank (header-code 0x57 5 s)) .code ≡ 0
+        → (header-code 0x57 5 s ≡ 0) × (getD s 5 256 ≤ 1) × (getD s 6 256 ≤ 8) × (ended s (body-scan (getD s 5 256) s (rows-scan (getD s 6 256) s (started 7))) .code ≡ 0)
+    go false b c d f p q r t u z = absurd (eqb-false (header-code 0x57 5 s) 0 p z)
     go true true c d f p q r t u z = absurd (omega arith)
     go true false true d f p q r t u z = absurd (omega arith)
     go true false false true f p q r t u z = absurd (omega arith)
     go true false false false true p q r t u z = absurd (omega arith)
-    go true false false false false p q r t u z = (eqb-true (header-code 0x57 s) 0 p, ltb-false 1 (getD s 5 256) r, ltb-false 8 (getD s 6 256) u, z)
+    go true false false false false p q r t u z = (eqb-true (header-code 0x57 5 s) 0 p, ltb-false 1 (getD s 5 256) r, ltb-false 8 (getD s 6 256) u, z)
 
 -- a refused state is handed on
 body-handed : (kind : ℕ) (s : List ℕ) (w : Walk) → (w .code ≡ 0 → ⊥) → body-scan kind s w ≡ w
@@ -251,7 +252,7 @@ read-sound s bytes e =
     let none : b .1 ≡ [] = no-rest (b .1) (omega (arith, length-drop 7 s, ap length (f .4), ap length rest, z .1, c .at, a .at)) in (
       record { paths = f .0; body = b .0 },
       record { few-paths = omega (arith, f .2, p .2); paths-legal = f .3; body-legal = b .4; few-terms = b .5 },
-      sym (header-found 0x57 s (p .0)
+      sym (header-found 0x57 5 s (p .0)
           ∙ ap (λ (t : List ℕ). header-bytes 0x57 ++ t) (drop-at s 5 (present s 5 (omega (arith, p .1)))
           ∙ ap₂ (λ (x : ℕ) (t : List ℕ). x ∷ t) (sym (b .2)) (drop-at s 6 (present s 6 (omega (arith, p .2)))
           ∙ ap₂ (λ (x : ℕ) (t : List ℕ). x ∷ t) (sym (f .2)) (f .4

@@ -13,12 +13,12 @@ use Rattle.meaning.specs.Plan.{put-all}
 use Rattle.meaning.specs.Query.{PathReduction, Term, VertexReduction}
 use Rattle.terms.specs.declared.Walk.{Walk}
 use Rattle.terms.specs.Terms.{blank, index-step, leaf-step, leaf-tag, literal-tag, read}
-use Rattle.terms.specs.Text.{expression-bytes}
-use Rattle.terms.proofs.Exact.{expression-complete, expression-sound, index-count, index-leaves, index-paths}
-use Rattle.terms.proofs.Paths.{code-range, code-zero, drop-at, nth}
-use Rattle.terms.proofs.Shape.{term-paths}
-use Rattle.terms.proofs.Steps.{drop-on, there}
-use Rattle.terms.proofs.Table.{Table}
+use Rattle.term_text.specs.Text.{expression-bytes}
+use Rattle.term_text.proofs.Exact.{expression-complete, expression-sound, index-count, index-leaves, index-paths}
+use Rattle.term_text.proofs.Paths.{code-range, code-zero, drop-at, nth}
+use Rattle.term_text.proofs.Shape.{term-paths}
+use Rattle.term_text.proofs.Steps.{drop-on, there}
+use Rattle.term_text.proofs.Table.{Table}
 use Rattle.walks.specs.Lists.{All}
 use Rattle.wire.specs.Wire.{Bytes}
 use Rattle.plan.specs.Plan.{entries-scan, entry-scan, moved, reduction-code}

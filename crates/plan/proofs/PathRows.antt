@@ -1,7 +1,6 @@
 -- A plan's path reductions: the bytes of legal ones are accepted and held in the table, and accepted bytes are those of legal ones. Assumes nothing.
 use Prim.Native.Nat.{ℕ, zero, suc, _+_, _*_, _/_, _%_, _≤_, _<_}
 use mathlib.Core.Path.{_≡_, refl, sym, ap, _∙_, subst}
-use mathlib.Core.Logic.{_⊎_, inl, inr}
 use mathlib.Core.Bool.{Bool, true, false, cond, _&&_}
 use mathlib.Core.List.{List, [], _∷_, _++_, map, append-assoc, append-nil}
 use native.Mathlib.Omega.{arith}
@@ -14,17 +13,19 @@ use Rattle.meaning.specs.Limits.{PathFits}
 use Rattle.meaning.specs.Query.{PathReduction}
 use Rattle.meaning.proofs.Lists.{all-append, map-append}
 use Rattle.terms.specs.declared.Walk.{Walk}
-use Rattle.terms.specs.Fields.{code-of, key-code, source-code, then}
+use Rattle.fields.specs.Fields.{code-of, key-code, source-code}
 use Rattle.terms.specs.Terms.{blank}
-use Rattle.terms.specs.Text.{path-number}
-use Rattle.terms.proofs.Laws.{getD-any}
-use Rattle.terms.proofs.Paths.{code-range, code-zero, drop-at, key-known, key-zero, legal-parts, nth, present, source-range, source-zero, then-both, then-zero, two-bytes}
-use Rattle.terms.proofs.Steps.{drop-on, there}
-use Rattle.terms.proofs.Table.{Table}
+use Rattle.term_text.specs.Text.{path-number}
+use Rattle.fields.proofs.Laws.{getD-any}
+use Rattle.term_text.proofs.Paths.{code-range, code-zero, drop-at, key-known, key-zero, legal-parts, nth, present, source-range, source-small, source-zero, two-bytes}
+use Rattle.term_text.proofs.Steps.{drop-on, there}
+use Rattle.term_text.proofs.Table.{Table}
 use Rattle.walks.specs.Keys.{all-known, early, in-order, known, legal-keys}
 use Rattle.walks.specs.Lists.{All}
 use Rattle.walks.proofs.Tests.{and-both, and-left, and-right}
+use Rattle.wire.specs.Header.{then}
 use Rattle.wire.specs.Wire.{Bytes}
+use Rattle.wire.proofs.Codes.{then-both, then-zero}
 use Rattle.plan.specs.Plan.{filler-code, row-code, row-step, row-word, rows-scan, slot-code}
 use Rattle.plan.specs.Text.{row-bytes, rows-bytes}
 
@@ -117,11 +118,7 @@ module _ (s : List ℕ) where
     unfolding row-word
     row-numbered =
         rw (at 0 i (length (c .keys)) (omega arith) refl, at 1 (i + 1) (getD (c .keys) 0 0) refl refl, at 2 (i + 2) (getD (c .keys) 1 0) refl refl, at 3 (i + 3) (getD (c .keys) 2 0) refl refl, at 4 (i + 4) (c .source % 256) refl refl, at 5 (i + 5) (c .source / 256 % 256) refl refl)
-        (omega (arith, small (fits .1)))
-      where
-        small : (c .source < 256) ⊎ (c .source ≡ 65535) → c .source < 65536
-        small (inl h) = omega arith
-        small (inr h) = omega arith
+        (omega (arith, source-small c fits))
 
   next-byte : (i j : ℕ) → i < length s → i + 1 ≡ j → drop i s ≡ getD s i 256 ∷ drop j s
   next-byte i j l e = drop-at s i l ∙ ap (λ (m : ℕ). getD s i 256 ∷ drop m s) e

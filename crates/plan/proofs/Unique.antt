@@ -9,12 +9,13 @@ use Rattle.meaning.specs.Limits.{BodyLegal, EntryLegal, Expression, PathFits, P
 use Rattle.meaning.specs.Plan.{Body, Plan, each-vertex, one-result}
 use Rattle.meaning.specs.Query.{PathReduction, Term, VertexReduction}
 use Rattle.terms.specs.Terms.{leaf-tag, literal-tag}
-use Rattle.terms.specs.Text.{expression-bytes, header-bytes, path-number}
-use Rattle.terms.proofs.Paths.{number-same}
-use Rattle.terms.proofs.Unique.{expression-split, le16-same, same-head, same-split, source-small}
+use Rattle.term_text.specs.Text.{expression-bytes, path-number}
+use Rattle.term_text.proofs.Paths.{number-same, source-small}
+use Rattle.term_text.proofs.Unique.{expression-split, le16-same, same-head, same-split}
 use Rattle.value.specs.Value.{number}
 use Rattle.walks.specs.Lists.{All}
 use Rattle.walks.specs.Rounds.{same}
+use Rattle.wire.specs.Header.{header-bytes}
 use Rattle.wire.specs.Wire.{le16}
 use Rattle.plan.specs.Text.{body-bytes, encode, entries-bytes, kind-of, row-bytes, rows-bytes}
 

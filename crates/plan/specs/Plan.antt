@@ -1,12 +1,13 @@
 -- How the bytes of a plan (document 01: worksheet `LPW`) are read, left to right.
-use Prim.Native.Nat.{ℕ, zero, suc, _+_, _*_}
+use Prim.Native.Nat.{ℕ, zero, suc, _+_}
 use mathlib.Core.Bool.{cond}
 use mathlib.Core.List.{List}
 use lib.Dec.{leb, ltb, eqb}
 use lib.ListN.{length, getD, set}
 use Rattle.terms.specs.declared.Walk.{Walk}
-use Rattle.terms.specs.Fields.{code-of, header-code, key-code, source-code, then}
+use Rattle.fields.specs.Fields.{code-of, key-code, packed, source-code}
 use Rattle.terms.specs.Terms.{blank, ended, read, started}
+use Rattle.wire.specs.Header.{header-code, then}
 
 -- "an illegal .. filler byte": an unused key byte, or the reduction byte of kind 0, is 0
 abbrev pub filler-code : ℕ → ℕ
@@ -28,8 +29,7 @@ row-code s i =
 -- its six bytes as one number
 unfoldable pub row-word : List ℕ → ℕ → ℕ
 row-word s i =
-    getD s i 256 + 256 * getD s (i + 1) 256 + 65536 * getD s (i + 2) 256 + 16777216 * getD s (i + 3) 256
-    + 4294967296 * (getD s (i + 4) 256 + 256 * getD s (i + 5) 256)
+    packed (getD s i 256) (getD s (i + 1) 256) (getD s (i + 2) 256) (getD s (i + 3) 256) (getD s (i + 4) 256) (getD s (i + 5) 256)
 
 -- one chain more (equal chains stay apart: they are legal here)
 unfoldable pub row-step : List ℕ → Walk → Walk
@@ -92,11 +92,11 @@ unfoldable pub plan-scan : List ℕ → Walk
 plan-scan s =
     let kind = getD s 5 256 in
     let count = getD s 6 256 in
-    cond (eqb (header-code 0x57 s) 0)
+    cond (eqb (header-code 0x57 5 s) 0)
     (cond (ltb 255 kind) (blank 1)
     (cond (ltb 1 kind) (blank 9)
     (cond (ltb 255 count) (blank 1) (cond (ltb 8 count) (blank 14) (ended s (body-scan kind s (rows-scan count s (started 7))))))))
-    (blank (header-code 0x57 s))
+    (blank (header-code 0x57 5 s))
 
 -- the number of the first refusal, 0 where the bytes are accepted
 abbrev pub plan-code : List ℕ → ℕ

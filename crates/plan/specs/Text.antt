@@ -4,7 +4,8 @@ use mathlib.Core.List.{List, [], _∷_, _++_}
 use lib.ListN.{length, getD}
 use Rattle.meaning.specs.Plan.{Body, Plan, each-vertex, one-result}
 use Rattle.meaning.specs.Query.{PathReduction, VertexReduction}
-use Rattle.terms.specs.Text.{expression-bytes, header-bytes}
+use Rattle.term_text.specs.Text.{expression-bytes}
+use Rattle.wire.specs.Header.{header-bytes}
 use Rattle.wire.specs.Wire.{le16}
 
 -- "key count, three key bytes with unused ones 0, 16-bit start"

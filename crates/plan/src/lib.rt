@@ -24,7 +24,7 @@ fn slot_code_of(n: u16, j: u16, b: u16) -> u8
     ensures { λ r. ⌜ r ≡ slot-code n j b ⌝ }
 {
     if j < n {
-        return terms::key_code(b, j + 1 == n);
+        return fields::key_code(b, j + 1 == n);
     }
     filler_code_of(b)
 }
@@ -34,30 +34,24 @@ fn row_code_of(s: &[u8], at: usize) -> u8
     requires { ⌜ at ≤ length (now s) ⌝ }
     ensures { λ r. ⌜ r ≡ row-code (now (s .entry)) at ⌝ }
 {
-    let n = terms::byte(s, at);
-    let c = terms::code_of(n, 3);
+    let n = fields::byte(s, at);
+    let c = fields::code_of(n, 3);
     if c != 0 {
         return c;
     }
-    let k1 = slot_code_of(n, 0, terms::byte(s, at + 1));
+    let k1 = slot_code_of(n, 0, fields::byte(s, at + 1));
     if k1 != 0 {
         return k1;
     }
-    let k2 = slot_code_of(n, 1, terms::byte(s, at + 2));
+    let k2 = slot_code_of(n, 1, fields::byte(s, at + 2));
     if k2 != 0 {
         return k2;
     }
-    let k3 = slot_code_of(n, 2, terms::byte(s, at + 3));
+    let k3 = slot_code_of(n, 2, fields::byte(s, at + 3));
     if k3 != 0 {
         return k3;
     }
-    terms::source_code(terms::byte(s, at + 4), terms::byte(s, at + 5))
-}
-
-fn wide(b: u16) -> u64
-    ensures { λ r. ⌜ (r ≡ b) × (r ≤ 65535) ⌝ }
-{
-    b as u64
+    fields::source_code(fields::byte(s, at + 4), fields::byte(s, at + 5))
 }
 
 // The six bytes as one number.
@@ -65,12 +59,17 @@ fn row_word_of(s: &[u8], at: usize) -> u64
     requires { ⌜ at ≤ length (now s) ⌝ }
     ensures { λ r. ⌜ r ≡ row-word (now (s .entry)) at ⌝ }
 {
-    let keys = wide(terms::byte(s, at))
-        + 256 * wide(terms::byte(s, at + 1))
-        + 65536 * wide(terms::byte(s, at + 2));
-    let last = 16777216 * wide(terms::byte(s, at + 3));
-    let source = wide(terms::byte(s, at + 4)) + 256 * wide(terms::byte(s, at + 5));
-    keys + last + 4294967296 * source
+    let first = fields::byte(s, at + 1);
+    let second = fields::byte(s, at + 2);
+    let third = fields::byte(s, at + 3);
+    fields::pack(
+        fields::byte(s, at),
+        first,
+        second,
+        third,
+        fields::byte(s, at + 4),
+        fields::byte(s, at + 5),
+    )
 }
 
 // One path reduction more.
@@ -119,7 +118,7 @@ fn reduction_code_of(kind: u16, b: u16) -> u8
     if kind == 0 {
         return filler_code_of(b);
     }
-    terms::code_of(b, 5)
+    fields::code_of(b, 5)
 }
 
 // An entry: its reduction byte and its expression.
@@ -130,7 +129,7 @@ fn entry(s: &[u8], w: Walk, kind: u16) -> Walk
     if s.len() <= at {
         return terms::blank_of(1);
     }
-    let c = reduction_code_of(kind, terms::byte(s, at));
+    let c = reduction_code_of(kind, fields::byte(s, at));
     if c != 0 {
         return terms::blank_of(c);
     }
@@ -191,7 +190,7 @@ fn body(s: &[u8], w: Walk, kind: u16) -> Walk
         return w;
     }
     let at = w.at;
-    let e = terms::byte(s, at);
+    let e = fields::byte(s, at);
     let c = count_code_of(kind, e);
     if c != 0 {
         return terms::blank_of(c);
@@ -209,18 +208,18 @@ fn body(s: &[u8], w: Walk, kind: u16) -> Walk
 pub fn scan(s: &[u8]) -> Walk
     ensures { λ r. ⌜ r ≡ plan-scan (now (s .entry)) ⌝ }
 {
-    let h = terms::judge_header(s, 0x57);
+    let h = wire::judge_header(s, 0x57, 5);
     if h != 0 {
         return terms::blank_of(h);
     }
-    let kind = terms::byte(s, 5);
+    let kind = fields::byte(s, 5);
     if 255 < kind {
         return terms::blank_of(1);
     }
     if 1 < kind {
         return terms::blank_of(9);
     }
-    let count = terms::byte(s, 6);
+    let count = fields::byte(s, 6);
     if 255 < count {
         return terms::blank_of(1);
     }

@@ -11,19 +11,21 @@ use Rattle.meaning.specs.Plan.{Body, Plan, each-vertex, one-result}
 use Rattle.meaning.specs.Query.{PathReduction, Term, VertexReduction}
 use Rattle.nodes.specs.declared.Node.{Node}
 use Rattle.nodes.specs.declared.Term.the-variants.{Entry}
-use Rattle.nodes.specs.Draft.{node-text, nodes-text, term-text, texts}
+use Rattle.draft.specs.Draft.{texts}
+use Rattle.nodes.specs.Text.{node-text, nodes-text, term-text}
 use Rattle.nodes.specs.Nodes.{collected, node, nodes-read, padded}
 use Rattle.nodes.specs.Tree.{entry-nodes, final-nodes}
-use Rattle.nodes.proofs.Drafts.{text-append}
+use Rattle.draft.proofs.Texts.{text-append}
 use Rattle.nodes.proofs.Exact.{entry-collected, entry-size, entry-text, final-collected, final-size, final-text}
 use Rattle.nodes.proofs.Fields.{entry-read, path-digits}
 use Rattle.nodes.proofs.Held.{first-nodes, read-whole}
 use Rattle.plan.specs.Plan.{plan-code, plan-scan}
 use Rattle.plan.specs.Text.{body-bytes, encode, entries-bytes, entry-count, kind-of, row-bytes, rows-bytes}
 use Rattle.plan.proofs.Exact.{read-complete, read-sound}
-use Rattle.terms.specs.Text.{expression-bytes, header-bytes, path-number}
+use Rattle.term_text.specs.Text.{expression-bytes, path-number}
+use Rattle.wire.specs.Header.{header-bytes}
 use Rattle.terms.specs.declared.Walk.{Walk}
-use Rattle.terms.proofs.Steps.{drop-on}
+use Rattle.term_text.proofs.Steps.{drop-on}
 use Rattle.walks.specs.Lists.{All}
 use Rattle.wire.specs.Wire.{Bytes, done, le16}
 use Rattle.plan_form.specs.declared.Form.{Form}

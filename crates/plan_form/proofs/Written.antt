@@ -4,7 +4,7 @@ use mathlib.Core.Path.{_≡_}
 use mathlib.Core.List.{List}
 use native.Mathlib.Omega.{arith}
 use lib.ListN.{length, take, length-take}
-use Rattle.nodes.proofs.Drafts.{texts-short}
+use Rattle.draft.proofs.Texts.{texts-short}
 use Rattle.plan_form.specs.Form.{row-text, rows-text}
 
 row-short : (w : ℕ) → length (row-text w) ≤ 6

@@ -10,12 +10,14 @@ use Rattle.meaning.specs.Plan.{Body, Plan, each-vertex, one-result}
 use Rattle.meaning.specs.Query.{VertexReduction}
 use Rattle.nodes.specs.declared.Node.{Node}
 use Rattle.nodes.specs.declared.Term.the-variants.{Empty, Entry}
-use Rattle.nodes.specs.Draft.{nodes-text, texts}
+use Rattle.draft.specs.Draft.{texts}
+use Rattle.nodes.specs.Text.{nodes-text}
 use Rattle.nodes.specs.Nodes.{node, nodes-read, padded}
 use Rattle.nodes.specs.Tree.{entry-nodes, final-nodes}
 use Rattle.plan.specs.Plan.{plan-code, plan-scan}
 use Rattle.plan.specs.Text.{entry-count, kind-of}
-use Rattle.terms.specs.Text.{header-bytes, path-number}
+use Rattle.term_text.specs.Text.{path-number}
+use Rattle.wire.specs.Header.{header-bytes}
 use Rattle.terms.specs.declared.Walk.{Walk}
 use Rattle.wire.specs.Wire.{Reply, fitted, le16, unless}
 use Rattle.plan_form.specs.declared.Form.{Form}

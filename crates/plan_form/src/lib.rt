@@ -1,11 +1,11 @@
 // Plans in their typed form (document 01, worksheet `LPW`): read from bytes as a run needs them, and written to a lent buffer.
-use nodes::Draft;
+use draft::Draft;
 use nodes::Node;
 use nodes::Term;
 ghost use mathlib.Core.Path.{_≡_};
 ghost use Prim.Native.Nat.{_≤_};
 ghost use lib.ListN.{length, take};
-ghost use Rattle.nodes.specs.Draft.{put-list};
+ghost use Rattle.draft.specs.Draft.{put-list};
 ghost use Rattle.wire.specs.Wire.{reply-number, reply-buffer};
 ghost use Rattle.plan_form.specs.Form.{row-text, rows-text, form-bytes, write-reply, blank-reading, plan-reading};
 
@@ -54,9 +54,9 @@ pub fn read(s: &[u8]) -> Reading
     if code != 0 {
         return blank(code);
     }
-    let paths = nodes::lesser(w.paths, 8);
-    let entries = nodes::lesser(w.reductions, 8);
-    let count = nodes::lesser(w.terms, 64) + entries;
+    let paths = wire::lesser(w.paths, 8);
+    let entries = wire::lesser(w.reductions, 8);
+    let count = wire::lesser(w.terms, 64) + entries;
     let list = nodes::read_nodes(s, 8 + 6 * paths, count);
     let kind = nodes::byte(s, 5);
     let table = w.table;
@@ -77,14 +77,14 @@ pub fn read(s: &[u8]) -> Reading
 fn put_row(d: Draft, w: u64) -> Draft
     ensures { λ r. ⌜ r ≡ put-list d (row-text w) ⌝ }
 {
-    nodes::put16(nodes::put16(nodes::put16(d, w), w / 65536), w / 4294967296)
+    draft::put16(draft::put16(draft::put16(d, w), w / 65536), w / 4294967296)
 }
 
 // The first `paths` path reductions, at most 8.
 fn put_rows(d: Draft, table: [u64; 8], paths: u8) -> Draft
     ensures { λ r. ⌜ (r ≡ put-list d (rows-text (take paths table))) × (length (rows-text (take paths table)) ≤ 48) ⌝ }
 {
-    let n = nodes::lesser(paths as usize, 8);
+    let n = wire::lesser(paths as usize, 8);
     let mut r = d;
     let mut i: usize = 0;
     while i < n {
@@ -101,9 +101,9 @@ fn draft_of(form: Form) -> Draft
 {
     let table = form.table;
     let list = form.nodes;
-    let start = nodes::put_two(nodes::header(0x57), form.kind, form.paths);
+    let start = draft::put_two(draft::header(0x57), form.kind, form.paths);
     let rows = put_rows(start, table, form.paths);
-    nodes::put_nodes(nodes::put(rows, form.entries), list, form.count)
+    nodes::put_nodes(draft::put(rows, form.entries), list, form.count)
 }
 
 // The writer of worksheets: what it is handed is judged by the reader of its bytes, then 15.
@@ -114,5 +114,5 @@ pub fn write(form: Form, out: &mut [u8]) -> u32
     let bytes = d.bytes;
     let n = d.len;
     let code = plan::judge(&bytes[..n]);
-    nodes::deliver(bytes, n, code, out)
+    draft::deliver(bytes, n, code, out)
 }

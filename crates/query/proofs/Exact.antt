@@ -12,14 +12,15 @@ use Rattle.meaning.specs.Limits.{QueryLegal, query-reductions, query-terms}
 use Rattle.meaning.specs.Plan.{put-all}
 use Rattle.meaning.specs.Query.{PathReduction, Query, each, single, written-paths}
 use Rattle.terms.specs.declared.Walk.{Walk}
-use Rattle.terms.specs.Fields.{header-code}
 use Rattle.terms.specs.Terms.{blank, ended, read, started}
-use Rattle.terms.specs.Text.{header-bytes, place-bytes, result-bytes}
-use Rattle.terms.proofs.Exact.{place-complete, place-count, place-paths, place-sound, result-complete, result-count, result-paths, result-sound}
-use Rattle.terms.proofs.Header.{ended-code, ended-whole, header-accepted, header-found, started-table}
-use Rattle.terms.proofs.Paths.{drop-at, present}
-use Rattle.terms.proofs.Table.{Table}
+use Rattle.term_text.specs.Text.{place-bytes, result-bytes}
+use Rattle.term_text.proofs.Exact.{place-complete, place-count, place-paths, place-sound, result-complete, result-count, result-paths, result-sound}
+use Rattle.term_text.proofs.Ends.{ended-code, ended-whole, started-table}
+use Rattle.term_text.proofs.Paths.{drop-at, present}
+use Rattle.term_text.proofs.Table.{Table}
+use Rattle.wire.specs.Header.{header-bytes, header-code}
 use Rattle.wire.specs.Wire.{Bytes}
+use Rattle.wire.proofs.Header.{header-accepted, header-found}
 use Rattle.query.specs.Query.{encode, query-code, query-scan}
 
 -- what the reader knows of an accepted query: its table of different path reductions in order of first writing, its terms and its reductions
@@ -30,7 +31,7 @@ pub record Scanned (w : Walk) (q : Query) : Type 0 where
   pub table : Table w (put-all [] (written-paths q))
 
 -- a whole text: header, kind, body
-scan-is : (s : List ℕ) (kind : ℕ) → header-code 0x51 s ≡ 0 → getD s 5 256 ≡ kind → kind ≤ 1 → query-scan s ≡ ended s (read kind 16 s (started 6))
+scan-is : (s : List ℕ) (kind : ℕ) → header-code 0x51 5 s ≡ 0 → getD s 5 256 ≡ kind → kind ≤ 1 → query-scan s ≡ ended s (read kind 16 s (started 6))
 unfolding query-scan
 scan-is s kind h k l = rw (h, k, le-ltb 255 kind (omega arith), le-ltb 1 kind l) refl
 
@@ -49,7 +50,7 @@ read-complete (each t) l =
       paths = omega (arith, l .few-paths, ap length paths);
       reductions = omega (arith, count);
     }) in
-    let whole = scan-is s 0 (header-accepted 0x51 (0 ∷ place-bytes t)) refl (omega arith) ∙ ended-whole s (read 0 16 s (started 6)) (omega (arith, a .at)) in
+    let whole = scan-is s 0 (header-accepted 0x51 5 (0 ∷ place-bytes t) (omega arith)) refl (omega arith) ∙ ended-whole s (read 0 16 s (started 6)) (omega (arith, a .at)) in
     subst (λ (w : Walk). Scanned w (each t)) (sym whole)
     (record {
       accepted = a .code;
@@ -69,7 +70,7 @@ read-complete (single t) l =
       paths = omega (arith, l .few-paths, ap length paths);
       reductions = omega (arith, count, l .few-reductions);
     }) in
-    let whole = scan-is s 1 (header-accepted 0x51 (1 ∷ result-bytes t)) refl (omega arith) ∙ ended-whole s (read 1 16 s (started 6)) (omega (arith, a .at)) in
+    let whole = scan-is s 1 (header-accepted 0x51 5 (1 ∷ result-bytes t) (omega arith)) refl (omega arith) ∙ ended-whole s (read 1 16 s (started 6)) (omega (arith, a .at)) in
     subst (λ (w : Walk). Scanned w (single t)) (sym whole)
     (record {
       accepted = a .code;
@@ -79,20 +80,20 @@ read-complete (single t) l =
     })
 
 -- what an accepted text is: its header, a kind, a term and nothing after it
-accepted-parts : (s : List ℕ) → query-code s ≡ 0 → (header-code 0x51 s ≡ 0) × (getD s 5 256 ≤ 1) × (ended s (read (getD s 5 256) 16 s (started 6)) .code ≡ 0)
+accepted-parts : (s : List ℕ) → query-code s ≡ 0 → (header-code 0x51 5 s ≡ 0) × (getD s 5 256 ≤ 1) × (ended s (read (getD s 5 256) 16 s (started 6)) .code ≡ 0)
 unfolding query-scan blank
-accepted-parts s e = go (eqb (header-code 0x51 s) 0) (ltb 255 (getD s 5 256)) (ltb 1 (getD s 5 256)) refl refl refl e
+accepted-parts s e = go (eqb (header-code 0x51 5 s) 0) (ltb 255 (getD s 5 256)) (ltb 1 (getD s 5 256)) refl refl refl e
   where
     w : Walk
     w = ended s (read (getD s 5 256) 16 s (started 6))
 
-    go : (a b c : Bool) → eqb (header-code 0x51 s) 0 ≡ a → ltb 255 (getD s 5 256) ≡ b → ltb 1 (getD s 5 256) ≡ c
-        → cond a (cond b (blank 1) (cond c (blank 9) (ended s (read (getD s 5 256) 16 s (started 6))))) (blank (header-code 0x51 s)) .code ≡ 0
-        → (header-code 0x51 s ≡ 0) × (getD s 5 256 ≤ 1) × (ended s (read (getD s 5 256) 16 s (started 6)) .code ≡ 0)
-    go false b c p q r z = absurd (eqb-false (header-code 0x51 s) 0 p z)
+    go : (a b c : Bool) → eqb (header-code 0x51 5 s) 0 ≡ a → ltb 255 (getD s 5 256) ≡ b → ltb 1 (getD s 5 256) ≡ c
+        → cond a (cond b (blank 1) (cond c (blank 9) (ended s (read (getD s 5 256) 16 s (started 6))))) (blank (header-code 0x51 5 s)) .code ≡ 0
+        → (header-code 0x51 5 s ≡ 0) × (getD s 5 256 ≤ 1) × (ended s (read (getD s 5 256) 16 s (started 6)) .code ≡ 0)
+    go false b c p q r z = absurd (eqb-false (header-code 0x51 5 s) 0 p z)
     go true true c p q r z = absurd (omega arith)
     go true false true p q r z = absurd (omega arith)
-    go true false false p q r z = (eqb-true (header-code 0x51 s) 0 p, ltb-false 1 (getD s 5 256) r, z)
+    go true false false p q r z = (eqb-true (header-code 0x51 5 s) 0 p, ltb-false 1 (getD s 5 256) r, z)
 
 -- ACCEPTED BYTES ARE THE ENCODING OF A LEGAL QUERY
 pub read-sound : (s : List ℕ) → Bytes s → query-code s ≡ 0 → (q : Query) × QueryLegal 256 q × (encode q ≡ s)
@@ -100,17 +101,17 @@ unfolding started
 read-sound s bytes e = by-kind (getD s 5 256) refl (accepted-parts s e)
   where
     -- the text from its parts
-    joined : (kind : ℕ) (l rest : List ℕ) → getD s 5 256 ≡ kind → kind ≤ 1 → header-code 0x51 s ≡ 0 → drop 6 s ≡ l ++ rest → length s ≤ 6 + length l → header-bytes 0x51 ++ (kind ∷ l) ≡ s
+    joined : (kind : ℕ) (l rest : List ℕ) → getD s 5 256 ≡ kind → kind ≤ 1 → header-code 0x51 5 s ≡ 0 → drop 6 s ≡ l ++ rest → length s ≤ 6 + length l → header-bytes 0x51 ++ (kind ∷ l) ≡ s
     joined kind l rest k h c d n =
         let p = present s 5 (omega arith) in
         let none : rest ≡ [] = no-rest rest (omega (arith, length-drop 6 s, ap length d, length-append l rest)) in
-        sym (header-found 0x51 s c ∙ ap (λ (t : List ℕ). header-bytes 0x51 ++ t) (drop-at s 5 p ∙ ap₂ (λ (x : ℕ) (t : List ℕ). x ∷ t) k (d ∙ ap (λ (t : List ℕ). l ++ t) none ∙ append-nil l)))
+        sym (header-found 0x51 5 s c ∙ ap (λ (t : List ℕ). header-bytes 0x51 ++ t) (drop-at s 5 p ∙ ap₂ (λ (x : ℕ) (t : List ℕ). x ∷ t) k (d ∙ ap (λ (t : List ℕ). l ++ t) none ∙ append-nil l)))
       where
         no-rest : (r : List ℕ) → length r ≡ 0 → r ≡ []
         no-rest [] z = refl
         no-rest (x ∷ r) z = absurd (omega arith)
 
-    by-kind : (kind : ℕ) → getD s 5 256 ≡ kind → (header-code 0x51 s ≡ 0) × (getD s 5 256 ≤ 1) × (ended s (read (getD s 5 256) 16 s (started 6)) .code ≡ 0)
+    by-kind : (kind : ℕ) → getD s 5 256 ≡ kind → (header-code 0x51 5 s ≡ 0) × (getD s 5 256 ≤ 1) × (ended s (read (getD s 5 256) 16 s (started 6)) .code ≡ 0)
         → (q : Query) × QueryLegal 256 q × (encode q ≡ s)
     by-kind zero k p =
         let z = ended-code s (read 0 16 s (started 6)) (subst (λ (n : ℕ). ended s (read n 16 s (started 6)) .code ≡ 0) k (p .2)) in

@@ -4,8 +4,9 @@ use mathlib.Core.List.{[], append-nil}
 use native.Mathlib.Omega.{arith}
 use Rattle.meaning.specs.Limits.{QueryLegal}
 use Rattle.meaning.specs.Query.{Query, each, single}
-use Rattle.terms.specs.Text.{header-bytes, place-bytes, result-bytes}
-use Rattle.terms.proofs.Unique.{place-split, result-split, same-head, same-split}
+use Rattle.term_text.specs.Text.{place-bytes, result-bytes}
+use Rattle.term_text.proofs.Unique.{place-split, result-split, same-head, same-split}
+use Rattle.wire.specs.Header.{header-bytes}
 use Rattle.query.specs.Query.{body-bytes, encode}
 
 body-same : (q r : Query) → QueryLegal 256 q → QueryLegal 256 r → body-bytes q ≡ body-bytes r → q ≡ r

@@ -7,11 +7,11 @@ ghost use Rattle.query.specs.Query.{query-scan, query-code};
 pub fn scan(s: &[u8]) -> Walk
     ensures { λ r. ⌜ r ≡ query-scan (now (s .entry)) ⌝ }
 {
-    let h = terms::judge_header(s, 0x51);
+    let h = wire::judge_header(s, 0x51, 5);
     if h != 0 {
         return terms::blank_of(h);
     }
-    let kind = terms::byte(s, 5);
+    let kind = fields::byte(s, 5);
     if 255 < kind {
         return terms::blank_of(1);
     }

@@ -9,14 +9,15 @@ use Rattle.meaning.specs.Limits.{QueryLegal, query-reductions, query-terms}
 use Rattle.meaning.specs.Plan.{put-all}
 use Rattle.meaning.specs.Query.{Query, each, single, written-paths}
 use Rattle.nodes.specs.declared.Node.{Node}
-use Rattle.nodes.specs.Draft.{nodes-text}
+use Rattle.nodes.specs.Text.{nodes-text}
 use Rattle.nodes.specs.Nodes.{nodes-read, padded}
 use Rattle.nodes.specs.Tree.{place-nodes, result-nodes}
 use Rattle.nodes.proofs.Exact.{place-collected, place-size, place-text, result-collected, result-size, result-text}
 use Rattle.nodes.proofs.Held.{first-nodes, read-whole}
 use Rattle.query.specs.Query.{encode, query-code, query-scan}
 use Rattle.query.proofs.Exact.{read-complete, read-sound}
-use Rattle.terms.specs.Text.{header-bytes, path-number, place-bytes, result-bytes}
+use Rattle.term_text.specs.Text.{path-number, place-bytes, result-bytes}
+use Rattle.wire.specs.Header.{header-bytes}
 use Rattle.wire.specs.Wire.{Bytes, done}
 use Rattle.query_form.specs.declared.Form.{Form}
 use Rattle.query_form.specs.declared.Reading.{Reading}

@@ -7,12 +7,12 @@ use lib.ListN.{getD, take, replicate}
 use Rattle.meaning.specs.Limits.{query-terms}
 use Rattle.meaning.specs.Query.{Query, each, single}
 use Rattle.nodes.specs.declared.Term.the-variants.{Empty}
-use Rattle.nodes.specs.Draft.{nodes-text}
+use Rattle.nodes.specs.Text.{nodes-text}
 use Rattle.nodes.specs.Nodes.{node, nodes-read, padded}
 use Rattle.nodes.specs.Tree.{place-nodes, result-nodes}
 use Rattle.query.specs.Query.{query-code, query-scan}
-use Rattle.terms.specs.Text.{header-bytes}
 use Rattle.terms.specs.declared.Walk.{Walk}
+use Rattle.wire.specs.Header.{header-bytes}
 use Rattle.wire.specs.Wire.{Reply, fitted, unless}
 use Rattle.query_form.specs.declared.Form.{Form}
 use Rattle.query_form.specs.declared.Reading.{Reading}

@@ -1,5 +1,5 @@
 // Queries in their typed form (document 01, question `LPQ`): read from bytes, and written to a lent buffer.
-use nodes::Draft;
+use draft::Draft;
 use nodes::Node;
 use nodes::Term;
 ghost use mathlib.Core.Path.{_≡_};
@@ -74,7 +74,7 @@ fn draft_of(form: Form) -> Draft
     ensures { λ r. ⌜ (take (r .len) (r .bytes) ≡ form-bytes form) × (r .len ≡ length (form-bytes form)) × (r .len ≤ 576) × (length (r .bytes) ≡ 576) ⌝ }
 {
     let list = form.nodes;
-    let start = nodes::put(nodes::header(0x51), form.kind);
+    let start = draft::put(draft::header(0x51), form.kind);
     nodes::put_nodes(start, list, form.count)
 }
 
@@ -86,5 +86,5 @@ pub fn write(form: Form, out: &mut [u8]) -> u32
     let bytes = d.bytes;
     let n = d.len;
     let code = query::judge(&bytes[..n]);
-    nodes::deliver(bytes, n, code, out)
+    draft::deliver(bytes, n, code, out)
 }

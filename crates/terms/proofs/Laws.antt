@@ -1,32 +1,16 @@
 -- What the code's proofs cite. Assumes nothing.
-use Prim.Native.Nat.{ℕ, zero, suc, _+_, _-_, _≤_, _<_}
-use mathlib.Core.Path.{_≡_, refl, sym, ap, ap₂}
+use Prim.Native.Nat.{ℕ, zero, suc, _+_, _-_, _<_}
+use mathlib.Core.Path.{_≡_, refl, ap}
 use mathlib.Core.Bool.{Bool, true, false, cond}
-use mathlib.Core.List.{List, [], _∷_}
+use mathlib.Core.List.{List}
 use native.Mathlib.Omega.{arith}
-use native.Mathlib.Nat.{not-suc-le-zero, le-of-suc-le-suc}
+use native.Mathlib.Nat.{not-suc-le-zero}
 use borrow.Author.Tests.{ne-eqb}
-use lib.Dec.{leb, eqb, eqb·suc-suc}
-use lib.ListN.{length, getD, List·getD-eq-default}
+use lib.Dec.{leb, eqb}
+use lib.ListN.{getD}
 use Rattle.terms.specs.declared.Step.{Step}
 use Rattle.terms.specs.declared.Walk.{Walk}
-use Rattle.terms.specs.Fields.{key-code, keys-code, then}
 use Rattle.terms.specs.Terms.{read, slot-of, term-step}
-
--- past the end, and only there, the default shows
-pub getD-any : (s : List ℕ) (i a b : ℕ) → i < length s → getD s i a ≡ getD s i b
-getD-any [] i a b h = absurd (not-suc-le-zero h)
-getD-any (x ∷ s) zero a b h = refl
-getD-any (x ∷ s) (suc i) a b h = getD-any s i a b (le-of-suc-le-suc h)
-
-pub getD-past : (s : List ℕ) (i a : ℕ) → length s ≤ i → a ≡ getD s i a
-getD-past s i a h = sym (List·getD-eq-default s a {n = i} h)
-
--- one key more
-pub keys-next : (n : ℕ) (s : List ℕ) (i : ℕ) → 0 < n → keys-code n s i ≡ then (key-code (getD s i 256) (eqb n 1)) (keys-code (n - 1) s (i + 1))
-unfolding keys-code
-keys-next zero s i h = absurd (not-suc-le-zero h)
-keys-next (suc n) s i h = ap₂ (λ (b : Bool) (m : ℕ). then (key-code (getD s i 256) b) (keys-code m s (i + 1))) (sym (eqb·suc-suc n 0)) (let e : n ≡ suc n - 1 = omega arith in e)
 
 -- one place of the table more
 pub slot-next : (k paths : ℕ) (table : List ℕ) (word i : ℕ) → 0 < k

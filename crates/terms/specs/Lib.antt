@@ -1,3 +1,1 @@
-pub mod Fields
 pub mod Terms
-pub mod Text

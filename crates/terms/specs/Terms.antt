@@ -6,7 +6,7 @@ use lib.Dec.{leb, ltb, eqb}
 use lib.ListN.{length, getD, set, replicate}
 use Rattle.terms.specs.declared.Step.{Step}
 use Rattle.terms.specs.declared.Walk.{Walk}
-use Rattle.terms.specs.Fields.{code-of, path-code, path-word}
+use Rattle.fields.specs.Fields.{code-of, path-code, path-word}
 
 -- the state after a refusal
 unfoldable pub blank : ℕ → Walk

@@ -1,10 +1,9 @@
 // The reader of terms, of questions and worksheets alike (document 01, "Layouts"): bytes judged left to right, each term by the
 // numbers 1, 12, 11, 9 and then its fields. The result is how far the reading has come, or one blank state with the refusal.
 ghost use mathlib.Core.Path.{_≡_};
-ghost use Prim.Native.Nat.{ℕ, _+_, _*_, _≤_, _<_, max};
-ghost use lib.ListN.{length, getD};
+ghost use Prim.Native.Nat.{ℕ, _+_, _≤_, _<_, max};
+ghost use lib.ListN.{length};
 ghost use Rattle.terms.specs.Terms.{blank, stopped, slot-of, kept-path, advanced, path-step, reduce-step, index-step, leaf-step, literal-step, apply-step, leaf-tag, literal-tag, term-step, read, started, ended};
-ghost use Rattle.terms.specs.Fields.{header-code, code-of, key-code, keys-code, source-code, path-code, path-word, used};
 
 // How far a reading has come. `code` is 0, or the number of the refusal; `paths` and `reductions` count what has been met, or, in a
 // worksheet, what there is; `table` holds the different path reductions, each as its six worksheet bytes in one number.
@@ -30,153 +29,6 @@ pub const RESULT: u8 = 1;
 pub const ENTRY: u8 = 2;
 
 pub const FINAL: u8 = 3;
-
-// The byte at i, or 256 past the end.
-pub fn byte(s: &[u8], i: usize) -> u16
-    ensures { λ r. ⌜ (r ≡ getD (now (s .entry)) i 256) × (r ≤ 256) ⌝ }
-{
-    if i < s.len() { s[i] as u16 } else { 256 }
-}
-
-// The refusal of the first five bytes of a question or worksheet, or 0.
-pub fn judge_header(s: &[u8], letter: u8) -> u8
-    ensures { λ r. ⌜ r ≡ header-code letter (now (s .entry)) ⌝ }
-{
-    if s.len() < 5 {
-        return 1;
-    }
-    if s[0] != 0x4c {
-        return 2;
-    }
-    if s[1] != 0x50 {
-        return 2;
-    }
-    if s[2] != letter {
-        return 2;
-    }
-    if s[3] != 1 {
-        return 3;
-    }
-    if s[4] != 0 {
-        return 3;
-    }
-    0
-}
-
-// A byte from 1 to `most`: 1 missing, 9 another.
-pub fn code_of(b: u16, most: u16) -> u8
-    ensures { λ r. ⌜ r ≡ code-of b most ⌝ }
-{
-    if 255 < b {
-        return 1;
-    }
-    if b == 0 {
-        return 9;
-    }
-    if most < b {
-        return 9;
-    }
-    0
-}
-
-// A key: 1 missing, 9 no such key, 10 where it may stand last only and does not.
-pub fn key_code(b: u16, last: bool) -> u8
-    ensures { λ r. ⌜ r ≡ key-code b last ⌝ }
-{
-    if 255 < b {
-        return 1;
-    }
-    let key = b as u8;
-    if walks::known_key(key) {
-        if last {
-            return 0;
-        }
-        let row = walks::key_row(key);
-        if row.early {
-            return 0;
-        }
-        return 10;
-    }
-    9
-}
-
-// The first refusal of n keys from `at` on, or 0.
-fn keys_code(s: &[u8], at: usize, n: usize) -> u8
-    requires { ⌜ at + n ≤ length (now s) + 300 ⌝ }
-    ensures { λ r. ⌜ r ≡ keys-code n (now (s .entry)) at ⌝ }
-{
-    let mut i = at;
-    let mut left = n;
-    while 0 < left {
-        let c = key_code(byte(s, i), left == 1);
-        if c != 0 {
-            return c;
-        }
-        i += 1;
-        left -= 1;
-    }
-    0
-}
-
-// A start: 1 missing, 13 for 256 to 65,534.
-pub fn source_code(low: u16, high: u16) -> u8
-    ensures { λ r. ⌜ r ≡ source-code low high ⌝ }
-{
-    if 255 < high {
-        return 1;
-    }
-    let v = (low as u32) + 256 * (high as u32);
-    if v < 256 {
-        return 0;
-    }
-    if v == 65535 {
-        return 0;
-    }
-    13
-}
-
-// The first refusal of a path reduction whose key count stands at `at`, or 0.
-fn path_code(s: &[u8], at: usize) -> u8
-    requires { ⌜ at ≤ length (now s) ⌝ }
-    ensures { λ r. ⌜ r ≡ path-code (now (s .entry)) at ⌝ }
-{
-    let n = byte(s, at);
-    let c = code_of(n, 3);
-    if c != 0 {
-        return c;
-    }
-    let k = keys_code(s, at + 1, n as usize);
-    if k != 0 {
-        return k;
-    }
-    let i = at + 1 + (n as usize);
-    source_code(byte(s, i), byte(s, i + 1))
-}
-
-fn wide(b: u16) -> u64
-    ensures { λ r. ⌜ (r ≡ b) × (r ≤ 65535) ⌝ }
-{
-    b as u64
-}
-
-fn used_of(n: u16, j: u16, b: u16) -> u64
-    ensures { λ r. ⌜ (r ≡ used n j b) × (r ≤ 65535) ⌝ }
-{
-    if j < n { wide(b) } else { 0 }
-}
-
-// The path reduction whose key count stands at `at`, as one number: its six bytes in a worksheet.
-fn path_word_of(s: &[u8], at: usize) -> u64
-    requires { ⌜ at ≤ length (now s) ⌝ }
-    ensures { λ r. ⌜ r ≡ path-word (now (s .entry)) at ⌝ }
-{
-    let n = byte(s, at);
-    let i = at + 1 + (n as usize);
-    let first = wide(n) + 256 * wide(byte(s, at + 1));
-    let later = 65536 * used_of(n, 1, byte(s, at + 2)) + 16777216 * used_of(n, 2, byte(s, at + 3));
-    let source = wide(byte(s, i)) + 256 * wide(byte(s, i + 1));
-    first + later + 4294967296 * source
-}
 
 // The first of the eight places of the table that is free or holds the path reduction; 8 where there is none.
 fn slot(table: [u64; 8], paths: usize, word: u64) -> usize
@@ -256,12 +108,12 @@ fn path_step_of(s: &[u8], w: Walk) -> Step
     ensures { λ r. ⌜ r ≡ path-step (now (s .entry)) w ⌝ }
 {
     let at = w.at + 1;
-    let c = path_code(s, at);
+    let c = fields::path_code(s, at);
     if c != 0 {
         return stop(c);
     }
-    let n = byte(s, at);
-    let word = path_word_of(s, at);
+    let n = fields::byte(s, at);
+    let word = fields::path_word(s, at);
     Step {
         walk: keep_path(advance(w, at + 3 + (n as usize)), word),
         follow: 0,
@@ -273,7 +125,7 @@ fn reduce_step_of(s: &[u8], w: Walk) -> Step
     ensures { λ r. ⌜ r ≡ reduce-step (now (s .entry)) w ⌝ }
 {
     let at = w.at + 1;
-    let c = code_of(byte(s, at), 5);
+    let c = fields::code_of(fields::byte(s, at), 5);
     if c != 0 {
         return stop(c);
     }
@@ -294,7 +146,7 @@ fn index_step_of(s: &[u8], w: Walk, count: usize) -> Step
     ensures { λ r. ⌜ r ≡ index-step (now (s .entry)) w count ⌝ }
 {
     let at = w.at + 1;
-    let b = byte(s, at);
+    let b = fields::byte(s, at);
     if 255 < b {
         return stop(1);
     }
@@ -312,7 +164,7 @@ fn literal_step_of(s: &[u8], w: Walk) -> Step
     ensures { λ r. ⌜ r ≡ literal-step (now (s .entry)) w ⌝ }
 {
     let last = w.at + 4;
-    if 255 < byte(s, last) {
+    if 255 < fields::byte(s, last) {
         return stop(1);
     }
     Step {
@@ -326,7 +178,7 @@ fn apply_step_of(s: &[u8], w: Walk) -> Step
     ensures { λ r. ⌜ r ≡ apply-step (now (s .entry)) w ⌝ }
 {
     let at = w.at + 1;
-    let c = code_of(byte(s, at), 11);
+    let c = fields::code_of(fields::byte(s, at), 11);
     if c != 0 {
         return stop(c);
     }

@@ -3,12 +3,13 @@ use mathlib.Core.Path.{_≡_, refl}
 use mathlib.Core.List.{map}
 use Rattle.meaning.specs.Run.{pull, push, run, stopped}
 use Rattle.query.specs.Query.{query-code, query-scan}
-use Rattle.terms.specs.Fields.{header-code, keys-code, path-code, path-word}
+use Rattle.fields.specs.Fields.{keys-code, path-code, path-word}
 use Rattle.terms.specs.Terms.{advanced, blank, ended, kept-path, leaf-step, leaf-tag, literal-tag, path-step, read, slot-of, started, term-step}
 use Rattle.value.specs.declared.Value.{Value}
 use Rattle.value.specs.Value.{combine, compute}
 use Rattle.walks.specs.Keys.{row}
 use Rattle.walks.specs.Rounds.{best, first, gather, marked, rounds, state}
+use Rattle.wire.specs.Header.{header-code}
 use Rattle.trials.specs.Samples.{samples}
 use Rattle.trials.specs.Trials.{Reading, Trial, found, readings, trials}
 

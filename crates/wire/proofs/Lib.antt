@@ -1,1 +1,3 @@
 pub mod Laid
+pub mod Codes
+pub mod Header

@@ -3,30 +3,30 @@ use mathlib.Core.Path.{sym, _∙_}
 use native.Mathlib.Omega.{arith}
 use borrow.Author.Tests.{eq-eqb, ne-eqb}
 use borrow.Author.Needs.{needs}
+use Rattle.wire.proofs.Header.{header-long}
 use Rattle.graph.specs.Graph.{graph-code}
-use Rattle.graph.proofs.Accepted.{header}
 use Rattle.graph.proofs.judge.Statement.{statement}
 use Rattle.graph.proofs.judge.Tie as tie
 
-header-code-requires : tie.Need-header-code-requires
-header-code-requires c κs = search needs
+judge-header-requires : tie.Need-judge-header-requires
+judge-header-requires c κs = search needs
 
 returns : tie.Need-returns
 unfolding graph-code
-returns c = rw (← c .before .header-code .ensures, ne-eqb _ _ (c .if1 .taken))
+returns c = rw (← c .before .judge-header .ensures, ne-eqb _ _ (c .if1 .taken))
 
 read16-requires : tie.Need-read16-requires
-read16-requires c κs = let h = header _ (sym (c .before .header-code .ensures) ∙ c .if1 .left) in omega (arith, h .long)
+read16-requires c κs = omega (arith, header-long 0x4d 9 _ (sym (c .before .judge-header .ensures) ∙ c .if1 .left))
 
 read16-requires-2 : tie.Need-read16-requires-2
-read16-requires-2 c κs = let h = header _ (sym (c .before .before .header-code .ensures) ∙ c .before .if1 .left) in omega (arith, h .long)
+read16-requires-2 c κs = omega (arith, header-long 0x4d 9 _ (sym (c .before .before .judge-header .ensures) ∙ c .before .if1 .left))
 
 counts-code-requires : tie.Need-counts-code-requires
 counts-code-requires c κs = search needs
 
 returns-2 : tie.Need-returns-2
 unfolding graph-code
-returns-2 c = rw (← c .before .before .before .before .before .header-code .ensures, eq-eqb _ _ (c .before .before .before .before .if1 .left), ← c .before .before .before .read16 .ensures, ← c .before .before .read162 .ensures, ← c .before .counts-code .ensures, ne-eqb _ _ (c .if2 .taken))
+returns-2 c = rw (← c .before .before .before .before .before .judge-header .ensures, eq-eqb _ _ (c .before .before .before .before .if1 .left), ← c .before .before .before .read16 .ensures, ← c .before .before .read162 .ensures, ← c .before .counts-code .ensures, ne-eqb _ _ (c .if2 .taken))
 
 cast-count : tie.Need-cast-count
 cast-count c = search needs
@@ -39,16 +39,16 @@ add-if3 c = search needs
 
 returns-3 : tie.Need-returns-3
 unfolding graph-code
-returns-3 c = rw (← c .before .before .before .before .before .before .header-code .ensures, eq-eqb _ _ (c .before .before .before .before .before .if1 .left), ← c .before .before .before .before .read16 .ensures, ← c .before .before .before .read162 .ensures, ← c .before .before .counts-code .ensures, eq-eqb _ _ (c .before .if2 .left), ne-eqb _ _ (c .if3 .taken))
+returns-3 c = rw (← c .before .before .before .before .before .before .judge-header .ensures, eq-eqb _ _ (c .before .before .before .before .before .if1 .left), ← c .before .before .before .before .read16 .ensures, ← c .before .before .before .read162 .ensures, ← c .before .before .counts-code .ensures, eq-eqb _ _ (c .before .if2 .left), ne-eqb _ _ (c .if3 .taken))
 
 bytes-code-requires : tie.Need-bytes-code-requires
 bytes-code-requires c κs = search needs
 
 returns-4 : tie.Need-returns-4
 unfolding graph-code
-returns-4 c = rw (← c .before .before .before .before .before .before .before .header-code .ensures, eq-eqb _ _ (c .before .before .before .before .before .before .if1 .left), ← c .before .before .before .before .before .read16 .ensures, ← c .before .before .before .before .read162 .ensures, ← c .before .before .before .counts-code .ensures, eq-eqb _ _ (c .before .before .if2 .left), eq-eqb _ _ (c .before .if3 .left)) (c .bytes-code .ensures)
+returns-4 c = rw (← c .before .before .before .before .before .before .before .judge-header .ensures, eq-eqb _ _ (c .before .before .before .before .before .before .if1 .left), ← c .before .before .before .before .before .read16 .ensures, ← c .before .before .before .before .read162 .ensures, ← c .before .before .before .counts-code .ensures, eq-eqb _ _ (c .before .before .if2 .left), eq-eqb _ _ (c .before .if3 .left)) (c .bytes-code .ensures)
 
 pub judge-spec : {M : Type 1} → statement M
 judge-spec =
     tie.close
-    (tie.spec header-code-requires returns read16-requires read16-requires-2 counts-code-requires returns-2 cast-count mul-if3 add-if3 returns-3 bytes-code-requires returns-4)
+    (tie.spec judge-header-requires returns read16-requires read16-requires-2 counts-code-requires returns-2 cast-count mul-if3 add-if3 returns-3 bytes-code-requires returns-4)

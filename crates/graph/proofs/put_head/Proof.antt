@@ -5,8 +5,8 @@ use Rattle.graph.specs.Encode.{head-bytes}
 use Rattle.graph.proofs.put_head.Statement.{statement}
 use Rattle.graph.proofs.put_head.Tie as tie
 
-put-letters-requires : tie.Need-put-letters-requires
-put-letters-requires c κs = search needs
+put-header-requires : tie.Need-put-header-requires
+put-header-requires c κs = search needs
 
 put16-requires : tie.Need-put16-requires
 put16-requires c κs = search needs
@@ -14,19 +14,16 @@ put16-requires c κs = search needs
 put16-requires-2 : tie.Need-put16-requires-2
 put16-requires-2 c κs = search needs
 
-put16-requires-3 : tie.Need-put16-requires-3
-put16-requires-3 c κs = search needs
-
 same-length : tie.Need-same-length
 same-length c = search needs
 
 returns : tie.Need-returns
 returns c =
-    let a = c .before .before .before .before .before .before .before .before .before .before .before .before .before .before .before .before .before .args in
-    rw (c .before .before .put163 .ensures, c .before .before .before .before .before .before .put162 .ensures, c .before .before .before .before .before .before .before .before .before .before .put16 .ensures, c .before .before .before .before .before .before .before .before .before .before .before .before .before .before .put-letters .ensures)
-    (sets-eq (head-bytes (a .n) (a .m)) (a .out .now) 0 (c .before .before .before .before .before .before .before .before .before .before .before .before .before .before .before .before .before .pre))
+    let a = c .before .before .before .before .before .before .before .before .before .before .before .before .before .args in
+    rw (c .before .before .put162 .ensures, c .before .before .before .before .before .before .put16 .ensures, c .before .before .before .before .before .before .before .before .before .before .put-header .ensures)
+    (sets-eq (head-bytes (a .n) (a .m)) (a .out .now) 0 (c .before .before .before .before .before .before .before .before .before .before .before .before .before .pre))
 
 pub put-head-spec : {M : Type 1} → statement M
 put-head-spec =
     tie.close
-    (tie.spec put-letters-requires put16-requires put16-requires-2 put16-requires-3 same-length returns)
+    (tie.spec put-header-requires put16-requires put16-requires-2 same-length returns)

@@ -1,6 +1,6 @@
 -- `nodes::byte` meets its contract. Assumes nothing.
 use borrow.Author.Needs.{needs}
-use Rattle.terms.proofs.Laws.{getD-past}
+use Rattle.fields.proofs.Laws.{getD-past}
 use Rattle.nodes.proofs.byte.Statement.{statement}
 use Rattle.nodes.proofs.byte.Tie as tie
 

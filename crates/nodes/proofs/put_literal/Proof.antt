@@ -1,6 +1,6 @@
 -- `nodes::put_literal` meets its contract. Assumes nothing.
 use borrow.Author.Needs.{needs}
-use Rattle.nodes.specs.Draft.{put-list}
+use Rattle.draft.specs.Draft.{put-list}
 use Rattle.nodes.proofs.put_literal.Statement.{statement}
 use Rattle.nodes.proofs.put_literal.Tie as tie
 

@@ -6,11 +6,13 @@ use native.Mathlib.Omega.{arith}
 use native.Mathlib.Nat.{sub-zero}
 use borrow.Author.Needs.{needs}
 use lib.ListN.{take}
-use Rattle.nodes.specs.Draft.{put-list, node-text, nodes-text}
+use Rattle.draft.specs.Draft.{put-list}
+use Rattle.draft.proofs.Texts.{left, put-more, put-done, take-least}
 use Rattle.nodes.specs.declared.Node.{Node}
 use Rattle.nodes.specs.declared.Term.the-variants.{Empty}
 use Rattle.nodes.specs.Nodes.{node}
-use Rattle.nodes.proofs.Drafts.{left, put-more, put-done, take-least, nodes-short}
+use Rattle.nodes.specs.Text.{node-text, nodes-text}
+use Rattle.nodes.proofs.Text.{nodes-short}
 use Rattle.nodes.proofs.put_nodes.Statement.{statement}
 use Rattle.nodes.proofs.put_nodes.Tie as tie
 

@@ -14,15 +14,15 @@ returns c = rw (le-leb _ _ (c .if1 .taken))
 shared-slice-read-tag : tie.Need-shared-slice-read-tag
 shared-slice-read-tag c = search needs
 
-add-path-at : tie.Need-add-path-at
-add-path-at c = search needs
+add-path-word : tie.Need-add-path-word
+add-path-word c = search needs
 
-path-at-requires : tie.Need-path-at-requires
-path-at-requires c κs = search needs
+path-word-requires : tie.Need-path-word-requires
+path-word-requires c κs = search needs
 
 returns-2 : tie.Need-returns-2
 unfolding term-at
-returns-2 c = rw (lt-leb _ _ (c .before .before .before .if1 .left), eq-eqb _ _ (c .before .if2 .taken)) (ap Path (c .path-at .ensures))
+returns-2 c = rw (lt-leb _ _ (c .before .before .before .if1 .left), eq-eqb _ _ (c .before .if2 .taken)) (ap Path (c .path-word .ensures))
 
 add-word : tie.Need-add-word
 add-word c = search needs
@@ -108,8 +108,8 @@ term-of-spec =
     (tie.spec
     returns
     shared-slice-read-tag
-    add-path-at
-    path-at-requires
+    add-path-word
+    path-word-requires
     returns-2
     add-word
     word-requires

@@ -4,9 +4,10 @@ use mathlib.Core.List.{_∷_, []}
 use native.Mathlib.Omega.{arith}
 use borrow.Author.Needs.{needs}
 use lib.ListN.{take, length-append}
-use Rattle.nodes.specs.Draft.{empty-draft, nodes-text, put-list}
-use Rattle.nodes.proofs.Drafts.{drafted-as, put-append}
-use Rattle.terms.specs.Text.{header-bytes}
+use Rattle.draft.specs.Draft.{empty-draft, put-list}
+use Rattle.nodes.specs.Text.{nodes-text}
+use Rattle.draft.proofs.Drafts.{drafted-as, put-append}
+use Rattle.wire.specs.Header.{header-bytes}
 use Rattle.plan_form.specs.Form.{form-bytes, rows-text}
 use Rattle.plan_form.proofs.draft_of.Statement.{statement}
 use Rattle.plan_form.proofs.draft_of.Tie as tie

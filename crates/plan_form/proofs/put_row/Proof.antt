@@ -3,7 +3,7 @@ use Prim.Native.Nat.{_/_}
 use mathlib.Core.Path.{sym}
 use borrow.Author.Needs.{needs}
 use Rattle.wire.specs.Wire.{le16}
-use Rattle.nodes.proofs.Drafts.{put-three}
+use Rattle.draft.proofs.Drafts.{put-three}
 use Rattle.plan_form.specs.Form.{row-text}
 use Rattle.plan_form.proofs.put_row.Statement.{statement}
 use Rattle.plan_form.proofs.put_row.Tie as tie

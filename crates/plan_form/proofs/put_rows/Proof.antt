@@ -6,8 +6,8 @@ use native.Mathlib.Omega.{arith}
 use native.Mathlib.Nat.{sub-zero}
 use borrow.Author.Needs.{needs}
 use lib.ListN.{take}
-use Rattle.nodes.specs.Draft.{put-list}
-use Rattle.nodes.proofs.Drafts.{left, put-more, put-done, take-least}
+use Rattle.draft.specs.Draft.{put-list}
+use Rattle.draft.proofs.Texts.{left, put-more, put-done, take-least}
 use Rattle.plan_form.specs.Form.{row-text, rows-text}
 use Rattle.plan_form.proofs.Written.{rows-short}
 use Rattle.plan_form.proofs.put_rows.Statement.{statement}

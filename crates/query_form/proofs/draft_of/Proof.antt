@@ -2,8 +2,8 @@
 use mathlib.Core.Path.{_≡_, refl, _∙_}
 use native.Mathlib.Omega.{arith}
 use borrow.Author.Needs.{needs}
-use Rattle.nodes.specs.Draft.{empty-draft, put-list}
-use Rattle.nodes.proofs.Drafts.{drafted-as}
+use Rattle.draft.specs.Draft.{empty-draft, put-list}
+use Rattle.draft.proofs.Drafts.{drafted-as}
 use Rattle.query_form.specs.Form.{form-bytes}
 use Rattle.query_form.proofs.draft_of.Statement.{statement}
 use Rattle.query_form.proofs.draft_of.Tie as tie

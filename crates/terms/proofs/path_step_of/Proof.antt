@@ -23,8 +23,8 @@ returns c = rw (← c .before .before .path-code .ensures, ne-eqb _ _ (c .before
 byte-requires : tie.Need-byte-requires
 byte-requires c κs = search needs
 
-path-word-of-requires : tie.Need-path-word-of-requires
-path-word-of-requires c κs = search needs
+path-word-requires : tie.Need-path-word-requires
+path-word-requires c κs = search needs
 
 add-advance : tie.Need-add-advance
 add-advance c = search needs
@@ -43,7 +43,7 @@ keep-path-requires c κs = search needs
 
 returns-2 : tie.Need-returns-2
 unfolding path-step
-returns-2 c = rw (← c .before .before .before .before .before .path-code .ensures, eq-eqb _ _ (c .before .before .before .before .if1 .left), ← c .before .before .before .byte .ensures .0, ← c .before .before .path-word-of .ensures, ← c .before .advance .ensures, c .keep-path .ensures) refl
+returns-2 c = rw (← c .before .before .before .before .before .path-code .ensures, eq-eqb _ _ (c .before .before .before .before .if1 .left), ← c .before .before .before .byte .ensures .0, ← c .before .before .path-word .ensures, ← c .before .advance .ensures, c .keep-path .ensures) refl
 
 pub path-step-of-spec : {M : Type 1} → statement M
 path-step-of-spec =
@@ -54,7 +54,7 @@ path-step-of-spec =
     stop-requires
     returns
     byte-requires
-    path-word-of-requires
+    path-word-requires
     add-advance
     cast-advance
     add-advance-2

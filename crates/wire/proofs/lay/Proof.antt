@@ -12,18 +12,18 @@ lesser-requires c κs = search needs
 returns : tie.Need-returns
 returns c =
     let a = c .before .before .before .before .args in
-    let e = laid-short (a .src .now) (a .n) (c .before .lesser .result) (c .before .lesser .ensures) (a .out .now) (c .if1 .taken) in
+    let e = laid-short (a .src .now) (a .n) (c .before .lesser .result) (c .before .lesser .ensures .0) (a .out .now) (c .if1 .taken) in
     (rw e refl, rw e refl)
 
 slice-aggregate-copy : tie.Need-slice-aggregate-copy
 slice-aggregate-copy c =
     let a = c .before .before .before .before .before .args in
-    sym (front-length (a .src .now) (a .n) (c .before .before .lesser .result) (c .before .before .lesser .ensures))
+    sym (front-length (a .src .now) (a .n) (c .before .before .lesser .result) (c .before .before .lesser .ensures .0))
 
 copy-requires : tie.Need-copy-requires
 copy-requires c κs =
     let a = c .before .before .before .before .before .before .args in
-    omega (arith, front-length (a .src .now) (a .n) (c .before .before .before .lesser .result) (c .before .before .before .lesser .ensures))
+    omega (arith, front-length (a .src .now) (a .n) (c .before .before .before .lesser .result) (c .before .before .before .lesser .ensures .0))
 
 cast-result : tie.Need-cast-result
 cast-result c = search needs
@@ -36,7 +36,7 @@ returns-2 c =
     let a = c .before .before .before .before .before .before .before .before .before .args in
     let l = c .before .before .before .before .before .before .lesser in
     let h = c .before .before .before .before .before .if1 .left in
-    (laid-number (a .src .now) (a .n) (l .result) (l .ensures) (a .out .now) h, c .before .before .copy .ensures .1 ∙ laid-buffer (a .src .now) (a .n) (l .result) (l .ensures) (a .out .now) h)
+    (laid-number (a .src .now) (a .n) (l .result) (l .ensures .0) (a .out .now) h, c .before .before .copy .ensures .1 ∙ laid-buffer (a .src .now) (a .n) (l .result) (l .ensures .0) (a .out .now) h)
 
 pub lay-spec : {M : Type 1} → statement M
 lay-spec = tie.close (tie.spec lesser-requires returns slice-aggregate-copy copy-requires cast-result same-length returns-2)

@@ -1,0 +1,56 @@
+-- Things put one after the other, each by its text. Assumes nothing.
+use Prim.Native.Nat.{ℕ, suc, _+_, _-_, _*_, _≤_, _<_, min}
+use mathlib.Core.Path.{_≡_, refl, sym, ap, _∙_}
+use mathlib.Core.List.{List, [], _∷_, _++_, append-assoc}
+use native.Mathlib.Numerals.{add-one}
+use native.Mathlib.Omega.{arith}
+use native.Mathlib.Decide.{decLe}
+use lib.ListN.{length, getD, take, drop, length-append, length-take}
+use lib.Seq.{take-all, drop-cons}
+use Rattle.wire.specs.Wire.{fitted, unless}
+use Rattle.draft.specs.declared.Draft.{Draft}
+use Rattle.draft.specs.Draft.{put-list, texts}
+use Rattle.draft.proofs.Drafts.{put-append}
+
+-- texts of at most so many bytes each
+module _ {A : Type 0} (text : A → List ℕ) where
+  pub texts-short : (most : ℕ) → ((a : A) → length (text a) ≤ most) → (l : List A) → length (texts text l) ≤ most * length l
+  unfolding texts
+  texts-short most f [] = omega arith
+  texts-short most f (a ∷ l) = omega (arith, f a, texts-short most f l, length-append (text a) (texts text l))
+
+  pub text-append : (l k : List A) → texts text (l ++ k) ≡ texts text l ++ texts text k
+  unfolding texts
+  text-append [] k = refl
+  text-append (a ∷ l) k = ap (λ (t : List ℕ). text a ++ t) (text-append l k) ∙ sym (append-assoc (text a) (texts text l) (texts text k))
+
+  -- what is left of the text of n of them from the i-th on
+  abbrev pub left : List A → ℕ → ℕ → List ℕ
+  left l n i = texts text (take (n - i) (drop i l))
+
+  -- one more is put, of those that are left
+  module _ (d : Draft) (l : List A) (n i : ℕ) where
+    pub put-more : (z : A) → i < n → n ≤ length l → put-list d (left l n i) ≡ put-list (put-list d (text (getD l i z))) (left l n (i + 1))
+    unfolding texts
+    put-more z h k =
+        let e : n - i ≡ suc (n - (i + 1)) = omega arith in
+        ap (put-list d) (rw (e, drop-cons l i z (omega arith), ← add-one i) refl)
+        ∙ put-append (text (getD l i z)) (left l n (i + 1)) d
+
+    pub put-done : n ≤ i → put-list d (left l n i) ≡ d
+    unfolding texts put-list
+    put-done h = let e : n - i ≡ 0 = omega arith in rw e refl
+
+-- the first of them, where the count is cut to what there is
+pub take-least : {A : Type 0} (count most n : ℕ) (l : List A) → length l ≡ most → n ≡ min count most → take n l ≡ take count l
+take-least {A} count most n l h e = go (decLe count most)
+  where
+    go : Dec (count ≤ most) → take n l ≡ take count l
+    go (yes k) = ap (λ (j : ℕ). take j l) (let p : n ≡ count = omega arith in p)
+    go (no k) = take-all n l (omega arith) ∙ sym (take-all count l (omega arith))
+
+-- what is laid of the draft is all that it holds
+pub delivered : (b : List ℕ) (len n code room : ℕ) → length b ≡ 576 → n ≡ min len 576 → code ≡ 0 → unless code (fitted (take len b) room) ≡ fitted (take n (take n b)) room
+delivered b len n code room h e z =
+    let p : take n (take n b) ≡ take len b = take-all n (take n b) (omega (arith, length-take n b)) ∙ take-least len 576 n b h e in
+    rw (z, p) refl

@@ -1,0 +1,18 @@
+-- `draft::put_two` meets its contract. Assumes nothing.
+use borrow.Author.Needs.{needs}
+use Rattle.draft.specs.Draft.{put-list}
+use Rattle.draft.proofs.put_two.Statement.{statement}
+use Rattle.draft.proofs.put_two.Tie as tie
+
+put-requires : tie.Need-put-requires
+put-requires c κs = search needs
+
+put-requires-2 : tie.Need-put-requires-2
+put-requires-2 c κs = search needs
+
+returns : tie.Need-returns
+unfolding put-list
+returns c = rw (← c .before .put .ensures) (c .put2 .ensures)
+
+pub put-two-spec : {M : Type 1} → statement M
+put-two-spec = tie.close (tie.spec put-requires put-requires-2 returns)

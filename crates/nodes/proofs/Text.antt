@@ -1,0 +1,47 @@
+-- How long the text of terms is. Assumes nothing.
+use Prim.Native.Nat.{ℕ, _*_, _/_, _%_, _≤_}
+use mathlib.Core.Path.{_≡_}
+use mathlib.Core.Bool.{Bool, true, false, cond}
+use mathlib.Core.List.{List, [], _∷_, _++_}
+use native.Mathlib.Omega.{arith}
+use lib.Dec.{ltb}
+use lib.ListN.{length, take, length-append, length-take}
+use Rattle.draft.proofs.Texts.{texts-short}
+use Rattle.nodes.specs.declared.Node.{Node}
+use Rattle.nodes.specs.declared.Term.{Term}
+use Rattle.nodes.specs.declared.Term.the-variants.{Apply, Empty, Entry, EntryIndex, Literal, Path, PathIndex, Reduce, ResultApply, ResultLiteral}
+use Rattle.nodes.specs.Text.{key-text, node-text, nodes-text, path-text, term-text}
+
+-- a term takes at most seven bytes
+key-short : (n j b : ℕ) → length (key-text n j b) ≤ 1
+key-short n j b = go (ltb j n)
+  where
+    go : (t : Bool) → length (cond t (b ∷ []) []) ≤ 1
+    go true = omega arith
+    go false = omega arith
+
+path-short : (w : ℕ) → length (path-text w) ≤ 6
+unfolding path-text
+path-short w =
+    let n = w % 256 in
+    let a = key-text n 0 (w / 256 % 256) in
+    let b = key-text n 1 (w / 65536 % 256) in
+    let c = key-text n 2 (w / 16777216 % 256) in
+    let e = w / 4294967296 % 256 ∷ w / 4294967296 / 256 % 256 ∷ [] in
+    omega (arith, key-short n 0 (w / 256 % 256), key-short n 1 (w / 65536 % 256), key-short n 2 (w / 16777216 % 256), length-append a (b ++ (c ++ e)), length-append b (c ++ e), length-append c e)
+
+term-short : (t : Term) → length (term-text t) ≤ 7
+unfolding term-text
+term-short Empty = omega arith
+term-short (Path w) = omega (arith, path-short w)
+term-short (Literal k) = omega arith
+term-short (Apply o) = omega arith
+term-short (Reduce o) = omega arith
+term-short (ResultLiteral k) = omega arith
+term-short (ResultApply o) = omega arith
+term-short (PathIndex i) = omega arith
+term-short (EntryIndex i) = omega arith
+term-short (Entry r) = omega arith
+
+pub nodes-short : (count : ℕ) (l : List Node) → length l ≡ 72 → length (nodes-text (take count l)) ≤ 504
+nodes-short count l h = omega (arith, texts-short node-text 7 (λ n. term-short (n .term)) (take count l), length-take count l)

@@ -1,0 +1,171 @@
+-- The table of different path reductions, in order of first writing: what the reader keeps is what `put` says. Assumes nothing.
+use Prim.Native.Nat.{ℕ, zero, suc, _+_, _≤_, _<_, max}
+use mathlib.Core.Path.{_≡_, refl, sym, ap, _∙_, subst, subst₂}
+use mathlib.Core.Bool.{Bool, true, false, cond, _||_}
+use mathlib.Core.List.{List, [], _∷_, _++_, map}
+use native.Mathlib.Omega.{arith}
+use native.Mathlib.Nat.{zero-add}
+use borrow.Author.Tests.{leb-false, le-leb, lt-leb, eq-eqb, ne-eqb}
+use lib.Dec.{T, leb, eqb}
+use lib.ListN.{length, getD, set, length-set, length-append, length-map, List·getD-append}
+use lib.Seq.{set-getD, set-at, append-snoc, getD-append-seam}
+use Rattle.meaning.specs.Limits.{PathFits}
+use Rattle.meaning.specs.Plan.{among, position, put, same-path}
+use Rattle.meaning.specs.Query.{PathReduction}
+use Rattle.meaning.proofs.Lists.{all-append, map-append}
+use Rattle.meaning.proofs.Paths.{path-refl, path-same, position-at, position-below}
+use Rattle.walks.specs.Lists.{All}
+use Rattle.walks.proofs.Tests.{T-of}
+use Rattle.terms.specs.declared.Walk.{Walk}
+use Rattle.terms.specs.Terms.{blank, kept-path, slot-of}
+use Rattle.term_text.specs.Text.{path-number}
+use Rattle.term_text.proofs.Paths.{number-same}
+
+-- the state w holds the path reductions cs, and has met at most eight reductions
+pub record Table (w : Walk) (cs : List PathReduction) : Type 0 where
+  pub legal : All (PathFits 256) cs
+  pub count : w .paths ≡ length cs
+  pub few : length cs ≤ 8
+  pub rest : List ℕ
+  pub holds : w .table ≡ map path-number cs ++ rest
+  pub size : length (w .table) ≡ 8
+  pub few-reductions : w .reductions ≤ 8
+
+-- equal numbers are equal path reductions
+same-number : (c d : PathReduction) → PathFits 256 c → PathFits 256 d → eqb (path-number d) (path-number c) ≡ same-path c d
+same-number c d f g = go (same-path c d) refl
+  where
+    go : (b : Bool) → same-path c d ≡ b → eqb (path-number d) (path-number c) ≡ b
+    go true e = eq-eqb (path-number d) (path-number c) (ap path-number (sym (path-same c d (T-of e))))
+    go false e = ne-eqb (path-number d) (path-number c) (λ p. subst T e (subst (λ (x : PathReduction). T (same-path c x)) (number-same c d f g (sym p)) (path-refl c)))
+
+module _ (c : PathReduction) (f : PathFits 256 c) (table : List ℕ) where
+  abbrev At : ℕ → List PathReduction → ℕ → ℕ → Type 0
+  At k ds p i = slot-of k p table (path-number c) i ≡ i + position c ds
+
+  slot-position : (ds : List PathReduction) → All (PathFits 256) ds → (pre rest : List ℕ) → table ≡ pre ++ (map path-number ds ++ rest)
+      → length pre + length ds ≤ 8 → (k : ℕ) → k + length pre ≡ 8
+      → At k ds (length pre + length ds) (length pre)
+  unfolding slot-of
+  slot-position [] a pre rest e l zero h = omega arith
+  slot-position [] a pre rest e l (suc k) h = rw (le-leb (length pre + 0) (length pre) (omega arith)) (omega arith)
+  slot-position (d ∷ ds) a pre rest e l zero h = absurd (omega arith)
+  slot-position (d ∷ ds) a pre rest e l (suc k) h =
+      rw (lt-leb (length pre + suc (length ds)) (length pre) (omega arith), here, same-number c d f (a .0))
+      (go (same-path c d) (next (slot-position ds (a .1) (pre ++ (path-number d ∷ [])) rest (e ∙ sym (append-snoc pre (path-number d) (map path-number ds ++ rest)))
+      (omega (arith, longer)) k (omega (arith, longer)))))
+    where
+      longer : length (pre ++ (path-number d ∷ [])) ≡ length pre + 1
+      longer = length-append pre (path-number d ∷ [])
+
+      here : getD table (length pre) 0 ≡ path-number d
+      here = rw e (getD-append-seam pre (path-number d) (map path-number ds ++ rest) 0)
+
+      next : At k ds (length (pre ++ (path-number d ∷ [])) + length ds) (length (pre ++ (path-number d ∷ []))) → At k ds (length pre + suc (length ds)) (length pre + 1)
+      next h = subst₂ (At k ds) (let q : length (pre ++ (path-number d ∷ [])) + length ds ≡ length pre + suc (length ds) = omega (arith, longer) in q) longer h
+
+      go : (b : Bool) → At k ds (length pre + suc (length ds)) (length pre + 1)
+          → cond b (length pre) (slot-of k (length pre + suc (length ds)) table (path-number c) (length pre + 1)) ≡ length pre + cond b zero (suc (position c ds))
+      go true n = omega arith
+      go false n = omega arith
+
+position-none : (c : PathReduction) (cs : List PathReduction) → among c cs ≡ false → position c cs ≡ length cs
+position-none c [] e = refl
+position-none c (d ∷ cs) e = go (same-path c d) (position-none c cs) e
+  where
+    go : (b : Bool) → (among c cs ≡ false → position c cs ≡ length cs) → (b || among c cs) ≡ false → cond b zero (suc (position c cs)) ≡ suc (length cs)
+    go true f e = absurd (subst T e tt)
+    go false f e = ap suc (f e)
+
+-- one path reduction more: the other fields stay
+pub record Put (w w′ : Walk) (cs : List PathReduction) : Type 0 where
+  pub code : w′ .code ≡ w .code
+  pub at : w′ .at ≡ w .at
+  pub terms : w′ .terms ≡ w .terms
+  pub reductions : w′ .reductions ≡ w .reductions
+  pub table : Table w′ cs
+
+module _ (w : Walk) (cs : List PathReduction) (t : Table w cs) (c : PathReduction) (f : PathFits 256 c) where
+  slot-is : slot-of 8 (w .paths) (w .table) (path-number c) 0 ≡ position c cs
+  slot-is =
+      subst (λ (p : ℕ). slot-of 8 p (w .table) (path-number c) 0 ≡ 0 + position c cs) (zero-add (length cs) ∙ sym (t .count))
+      (slot-position c f (w .table) cs (t .legal) [] (t .rest) (t .holds) (omega (arith, t .few)) 8 refl)
+      ∙ zero-add (position c cs)
+
+  -- the state with the path reduction at the place i
+  abbrev stored : ℕ → Walk
+  stored i = record { code = w .code; at = w .at; terms = w .terms; paths = max (w .paths) (i + 1); reductions = w .reductions; table = set (w .table) i (path-number c) }
+
+  kept-is : kept-path w (path-number c) ≡ cond (leb 8 (position c cs)) (blank 14) (stored (position c cs))
+  unfolding kept-path
+  kept-is = rw slot-is refl
+
+  old : among c cs ≡ true → Table (stored (position c cs)) cs
+  old e = record {
+    legal = t .legal;
+    count = omega (arith, t .count, below);
+    few = t .few;
+    rest = t .rest;
+    holds = ap (set (w .table) (position c cs)) (sym there) ∙ set-getD (w .table) (position c cs) 0 ∙ t .holds;
+    size = length-set (w .table) (position c cs) (path-number c) ∙ t .size;
+    few-reductions = t .few-reductions;
+  }
+    where
+      below : position c cs < length cs
+      below = position-below c cs (T-of e)
+
+      there : getD (w .table) (position c cs) 0 ≡ path-number c
+      there = rw (t .holds) (List·getD-append (map path-number cs) (t .rest) 0 (position c cs) (omega (arith, length-map cs path-number, below)) ∙ position-at path-number 0 c cs (T-of e))
+
+  new : among c cs ≡ false → suc (length cs) ≤ 8 → Table (stored (position c cs)) (cs ++ (c ∷ []))
+  new e l = go (t .rest) (t .holds)
+    where
+      at : position c cs ≡ length cs
+      at = position-none c cs e
+
+      go : (rest : List ℕ) → w .table ≡ map path-number cs ++ rest → Table (stored (position c cs)) (cs ++ (c ∷ []))
+      go [] h = absurd (omega (arith, t .size, ap length h, length-append (map path-number cs) [], length-map cs path-number))
+      go (x ∷ rest) h = record {
+        legal = all-append (PathFits 256) cs (c ∷ []) (t .legal) (f, tt);
+        count = omega (arith, t .count, length-append cs (c ∷ []), at);
+        few = omega (arith, length-append cs (c ∷ []));
+        rest = rest;
+        holds =
+            ap (λ (l : List ℕ). set l (position c cs) (path-number c)) h
+            ∙ set-at (map path-number cs) x rest (path-number c) (position c cs) (length-map cs path-number ∙ sym at)
+            ∙ sym (append-snoc (map path-number cs) (path-number c) rest)
+            ∙ ap (λ (l : List ℕ). l ++ rest) (sym (map-append path-number cs (c ∷ [])));
+        size = length-set (w .table) (position c cs) (path-number c) ∙ t .size;
+        few-reductions = t .few-reductions;
+      }
+
+  -- A LEGAL PATH REDUCTION IS PUT WHERE `put` PUTS IT, while there is room
+  pub kept-room : length (put cs c) ≤ 8 → Put w (kept-path w (path-number c)) (put cs c)
+  kept-room l = go (among c cs) refl l
+    where
+      made : (ds : List PathReduction) → position c cs < 8 → Table (stored (position c cs)) ds → Put w (kept-path w (path-number c)) ds
+      made ds h s =
+          subst (λ (v : Walk). Put w v ds) (sym (kept-is ∙ rw (lt-leb 8 (position c cs) h) refl))
+          (record { code = refl; at = refl; terms = refl; reductions = refl; table = s })
+
+      go : (b : Bool) → among c cs ≡ b → length (cond b cs (cs ++ (c ∷ []))) ≤ 8 → Put w (kept-path w (path-number c)) (cond b cs (cs ++ (c ∷ [])))
+      go true e l = made cs (omega (arith, position-below c cs (T-of e))) (old e)
+      go false e l =
+          let n = length-append cs (c ∷ []) in
+          made (cs ++ (c ∷ [])) (omega (arith, position-none c cs e)) (new e (omega arith))
+
+  full : leb 8 (position c cs) ≡ true → kept-path w (path-number c) ≡ blank 14
+  full p = kept-is ∙ rw p refl
+
+  -- and a ninth is refused
+  pub kept-few : kept-path w (path-number c) .code ≡ 0 → length (put cs c) ≤ 8
+  unfolding blank
+  kept-few z = go (among c cs) refl
+    where
+      go : (b : Bool) → among c cs ≡ b → length (cond b cs (cs ++ (c ∷ []))) ≤ 8
+      go true e = t .few
+      go false e = room (leb 8 (position c cs)) refl
+        where
+          room : (b : Bool) → leb 8 (position c cs) ≡ b → length (cs ++ (c ∷ [])) ≤ 8
+          room true p = absurd (let y : _≡_ {A = ℕ} 14 0 = sym (ap (λ (v : Walk). v .code) (full p)) ∙ z in omega arith)
+          room false p = omega (arith, leb-false 8 (position c cs) p, position-none c cs e, length-append cs (c ∷ []))

@@ -1,0 +1,34 @@
+-- THE BYTES OF TERMS (document 01, "Layouts").
+use Prim.Native.Nat.{ℕ, _+_, _*_}
+use mathlib.Core.List.{List, [], _∷_, _++_}
+use lib.ListN.{length, getD}
+use Rattle.meaning.specs.Query.{PathReduction, ResultTerm, Term, VertexTerm, apply, leaf, literal}
+use Rattle.wire.specs.Wire.{le16, le32}
+use Rattle.terms.specs.Terms.{leaf-tag, literal-tag}
+
+-- "key count 1 to 3, the keys, a 16-bit start"
+abbrev pub path-bytes : PathReduction → List ℕ
+path-bytes c = length (c .keys) ∷ (c .keys ++ le16 (c .source))
+
+-- a term written operator first, over the bytes of its leaves
+abbrev pub term-bytes : {A : Type 0} → ℕ → (A → List ℕ) → Term A → List ℕ
+term-bytes mode L (leaf a) = L a
+term-bytes mode L (literal k) = literal-tag mode ∷ le32 k
+term-bytes mode L (apply o s t) = (literal-tag mode + 1) ∷ o ∷ (term-bytes mode L s ++ term-bytes mode L t)
+
+-- "Place terms: 0x10, key count .. ; 0x11 and a 32-bit literal; 0x12, operator, two place terms."
+abbrev pub place-bytes : VertexTerm → List ℕ
+place-bytes = term-bytes 0 (λ c. 0x10 ∷ path-bytes c)
+
+-- "Result terms: 0x20, reduction, a place term; 0x21 and a 32-bit literal; 0x22, operator, two result terms."
+abbrev pub result-bytes : ResultTerm → List ℕ
+result-bytes = term-bytes 1 (λ e. 0x20 ∷ e .reduction ∷ place-bytes (e .body))
+
+-- "Worksheet expressions use 0x30 and a chain's index for a chain, 0x31 and an entry's index for a reduction; operators and literals keep their bytes."
+abbrev pub expression-bytes : ℕ → Term ℕ → List ℕ
+expression-bytes mode = term-bytes mode (λ i. leaf-tag mode ∷ i ∷ [])
+
+-- a path reduction as its six bytes in a worksheet, one number
+abbrev pub path-number : PathReduction → ℕ
+path-number c =
+    length (c .keys) + 256 * getD (c .keys) 0 0 + 65536 * getD (c .keys) 1 0 + 16777216 * getD (c .keys) 2 0 + 4294967296 * c .source

@@ -1,0 +1,69 @@
+-- `rounds::step_at` meets its contract. Assumes nothing.
+use Rattle.rounds.proofs.Parts.{step-put, step-said}
+use borrow.Author.Needs.{needs}
+use Rattle.rounds.proofs.step_at.Statement.{statement}
+use Rattle.rounds.proofs.step_at.Tie as tie
+
+vertices-requires : tie.Need-vertices-requires
+vertices-requires c κs = search needs
+
+mul-a : tie.Need-mul-a
+mul-a c = search needs
+
+mul-e : tie.Need-mul-e
+mul-e c = search needs
+
+add-e : tie.Need-add-e
+add-e c = search needs
+
+path-keys-requires : tie.Need-path-keys-requires
+path-keys-requires c κs = search needs
+
+mul-step : tie.Need-mul-step
+mul-step c = search needs
+
+sub-step : tie.Need-sub-step
+sub-step c = search needs
+
+part-step-start : tie.Need-part-step-start
+part-step-start c = search needs
+
+part-step-end : tie.Need-part-step-end
+part-step-end c = search needs
+
+step-requires : tie.Need-step-requires
+step-requires c κs = search needs
+
+same-length : tie.Need-same-length
+same-length c = search needs
+
+same-length-2 : tie.Need-same-length-2
+same-length-2 c = search needs
+
+returns : tie.Need-returns
+returns c =
+    let a = c .before .before .before .before .before .before .before .before .before .before .before .before .args in
+    let n = c .before .before .before .before .before .before .before .before .vertices in
+    let k = c .before .before .before .before .before .before .before .path-keys in
+    let t = c .before .before .before .before .step in (
+      step-said (a .map .now) (a .figures .now) (a .figures .now) (a .j) (n .result) (n .ensures .0) (a .word) (k .result) (k .ensures) (a .since) (a .stamp) (t .result) (t .ensures .0),
+      step-put (a .map .now) (a .figures .now) _ (a .j) (n .result) (n .ensures .0) (a .word) (k .result) (k .ensures) (a .since) (a .stamp) (t .ensures .1),
+    )
+
+pub step-at-spec : {M : Type 1} → statement M
+step-at-spec =
+    tie.close
+    (tie.spec
+    vertices-requires
+    mul-a
+    mul-e
+    add-e
+    path-keys-requires
+    mul-step
+    sub-step
+    part-step-start
+    part-step-end
+    step-requires
+    same-length
+    same-length-2
+    returns)

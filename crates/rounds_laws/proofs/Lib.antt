@@ -1,0 +1,4 @@
+pub mod Order
+pub mod Pad
+pub mod Cells
+pub mod Edges

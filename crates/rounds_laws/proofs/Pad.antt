@@ -1,0 +1,173 @@
+-- A path reduction of fewer than three keys with its last key again: every figure of the added keys is that of the last, and nothing is decided otherwise. Assumes nothing.
+use Prim.Native.Nat.{ℕ, zero, suc, _≤_}
+use mathlib.Core.Path.{_≡_, refl, sym, ap, ap₂, _∙_, subst}
+use mathlib.Core.Bool.{Bool, true, false, cond, _&&_}
+use mathlib.Core.List.{List, [], _∷_}
+use mathlib.Core.Option.{Option, none, some}
+use native.Mathlib.Omega.{arith}
+use lib.Dec.{eqb}
+use lib.ListN.{length, getD}
+use Rattle.value.specs.declared.Value.{Value}
+use Rattle.walks.specs.Keys.{good?, kept}
+use Rattle.walks.specs.Meaning.{value}
+use Rattle.walks.specs.Rounds.{State, bases, best, brings, extend-all, gather, initial, precedes, through}
+use Rattle.walks.specs.Walks.{Edge, Network}
+
+abbrev pub pad : List ℕ → List ℕ
+pad [] = []
+pad (x ∷ []) = x ∷ x ∷ x ∷ []
+pad (x ∷ (y ∷ [])) = x ∷ y ∷ y ∷ []
+pad (x ∷ (y ∷ (z ∷ l))) = x ∷ y ∷ z ∷ []
+
+abbrev pub padded : Option (List ℕ) → Option (List ℕ)
+padded none = none
+padded (some xs) = some (pad xs)
+
+-- one to three keys; figures for each key
+abbrev pub Few : List ℕ → Type 0
+Few [] = ⊥
+Few (x ∷ []) = Unit {0}
+Few (x ∷ (y ∷ [])) = Unit {0}
+Few (x ∷ (y ∷ (z ∷ []))) = Unit {0}
+Few (x ∷ (y ∷ (z ∷ (t ∷ l)))) = ⊥
+
+abbrev pub Sized : List ℕ → Option (List ℕ) → Type 0
+Sized ks none = Unit {0}
+Sized ks (some xs) = length xs ≡ length ks
+
+-- lists of one, two and three
+none-left : (xs : List ℕ) → length xs ≡ 0 → xs ≡ []
+none-left [] e = refl
+none-left (x ∷ xs) e = absurd (omega arith)
+
+one : (xs : List ℕ) → length xs ≡ 1 → xs ≡ getD xs 0 0 ∷ []
+one [] e = absurd (omega arith)
+one (x ∷ xs) e = ap (λ (l : List ℕ). x ∷ l) (none-left xs (omega arith))
+
+two : (xs : List ℕ) → length xs ≡ 2 → xs ≡ getD xs 0 0 ∷ getD xs 1 0 ∷ []
+two [] e = absurd (omega arith)
+two (x ∷ xs) e = ap (λ (l : List ℕ). x ∷ l) (one xs (omega arith))
+
+three : (xs : List ℕ) → length xs ≡ 3 → xs ≡ getD xs 0 0 ∷ getD xs 1 0 ∷ getD xs 2 0 ∷ []
+three [] e = absurd (omega arith)
+three (x ∷ xs) e = ap (λ (l : List ℕ). x ∷ l) (two xs (omega arith))
+
+-- the order
+twice : (b g : Bool) → cond b (cond b true g) g ≡ cond b true g
+twice true g = refl
+twice false g = refl
+
+thrice : (b g : Bool) → cond b (cond b (cond b true g) g) g ≡ cond b true g
+thrice true g = refl
+thrice false g = refl
+
+pub precedes-pad : (ks xs ys : List ℕ) → Few ks → length xs ≡ length ks → length ys ≡ length ks → precedes (pad ks) (pad xs) (pad ys) ≡ precedes ks xs ys
+precedes-pad [] xs ys f e g = absurd f
+precedes-pad (k ∷ []) xs ys f e g = rw (one xs e, one ys g) (thrice (eqb (getD xs 0 0) (getD ys 0 0)) (good? (kept k) (getD xs 0 0) (getD ys 0 0)))
+precedes-pad (k ∷ (j ∷ [])) xs ys f e g =
+    rw (two xs e, two ys g)
+    (ap (λ (b : Bool). cond (eqb (getD xs 0 0) (getD ys 0 0)) b (good? (kept k) (getD xs 0 0) (getD ys 0 0)))
+    (twice (eqb (getD xs 1 0) (getD ys 1 0)) (good? (kept j) (getD xs 1 0) (getD ys 1 0))))
+precedes-pad (k ∷ (j ∷ (i ∷ []))) xs ys f e g = rw (three xs e, three ys g)
+precedes-pad (k ∷ (j ∷ (i ∷ (h ∷ ks)))) xs ys f e g = absurd f
+
+pub best-pad : (ks : List ℕ) → Few ks → (a b : Option (List ℕ)) → Sized ks a → Sized ks b → padded (best ks a b) ≡ best (pad ks) (padded a) (padded b)
+unfolding best
+best-pad ks f none b s t = refl
+best-pad ks f (some xs) none s t = refl
+best-pad ks f (some xs) (some ys) s t = rw (precedes-pad ks xs ys f s t) (go (precedes ks xs ys))
+  where
+    go : (c : Bool) → padded (cond c (some xs) (some ys)) ≡ cond c (some (pad xs)) (some (pad ys))
+    go true = refl
+    go false = refl
+
+pub best-sized : (ks : List ℕ) (a b : Option (List ℕ)) → Sized ks a → Sized ks b → Sized ks (best ks a b)
+unfolding best
+best-sized ks none b s t = t
+best-sized ks (some xs) none s t = s
+best-sized ks (some xs) (some ys) s t = go (precedes ks xs ys)
+  where
+    go : (c : Bool) → Sized ks (cond c (some xs) (some ys))
+    go true = s
+    go false = t
+
+-- extension by an edge
+extend-pad : (ks : List ℕ) (e : Edge) (xs : List ℕ) → Few ks → length xs ≡ length ks → pad (extend-all ks e xs) ≡ extend-all (pad ks) e (pad xs)
+extend-pad [] e xs f s = absurd f
+extend-pad (k ∷ []) e xs f s = rw (one xs s)
+extend-pad (k ∷ (j ∷ [])) e xs f s = rw (two xs s)
+extend-pad (k ∷ (j ∷ (i ∷ []))) e xs f s = rw (three xs s)
+extend-pad (k ∷ (j ∷ (i ∷ (h ∷ ks)))) e xs f s = absurd f
+
+extend-length : (ks : List ℕ) (e : Edge) (xs : List ℕ) → length xs ≡ length ks → length (extend-all ks e xs) ≡ length ks
+extend-length [] e xs s = refl
+extend-length (k ∷ ks) e [] s = absurd (omega arith)
+extend-length (k ∷ ks) e (x ∷ xs) s = ap suc (extend-length ks e xs (omega arith))
+
+pub through-pad : (ks : List ℕ) → Few ks → (e : Edge) (o : Option (List ℕ)) → Sized ks o → padded (through ks e o) ≡ through (pad ks) e (padded o)
+through-pad ks f e none s = refl
+through-pad ks f e (some xs) s = ap some (extend-pad ks e xs f s)
+
+pub through-sized : (ks : List ℕ) (e : Edge) (o : Option (List ℕ)) → Sized ks o → Sized ks (through ks e o)
+through-sized ks e none s = tt
+through-sized ks e (some xs) s = extend-length ks e xs s
+
+-- start values
+pub initial-pad : (b : Bool) (ks : List ℕ) → Few ks → (v : ℕ) → padded (initial b ks v) ≡ initial b (pad ks) v
+initial-pad false ks f v = refl
+initial-pad true [] f v = absurd f
+initial-pad true (k ∷ []) f v = refl
+initial-pad true (k ∷ (j ∷ [])) f v = refl
+initial-pad true (k ∷ (j ∷ (i ∷ []))) f v = refl
+initial-pad true (k ∷ (j ∷ (i ∷ (h ∷ ks)))) f v = absurd f
+
+-- equal padded figures are equal
+pad-same : (ks xs ys : List ℕ) → Few ks → length xs ≡ length ks → length ys ≡ length ks → pad xs ≡ pad ys → xs ≡ ys
+pad-same [] xs ys f e g p = absurd f
+pad-same (k ∷ []) xs ys f e g p = one xs e ∙ heads (rw (one xs e, one ys g) at p) ∙ sym (one ys g)
+  where
+    heads : {x y : ℕ} → x ∷ x ∷ x ∷ [] ≡ y ∷ y ∷ y ∷ [] → x ∷ [] ≡ y ∷ []
+    heads q = cc
+pad-same (k ∷ (j ∷ [])) xs ys f e g p = two xs e ∙ heads (rw (two xs e, two ys g) at p) ∙ sym (two ys g)
+  where
+    heads : {x y a b : ℕ} → x ∷ a ∷ a ∷ [] ≡ y ∷ b ∷ b ∷ [] → x ∷ a ∷ [] ≡ y ∷ b ∷ []
+    heads q = cc
+pad-same (k ∷ (j ∷ (i ∷ []))) xs ys f e g p = three xs e ∙ (rw (three xs e, three ys g) at p) ∙ sym (three ys g)
+pad-same (k ∷ (j ∷ (i ∷ (h ∷ ks)))) xs ys f e g p = absurd f
+
+pub padded-same : (ks : List ℕ) → Few ks → (a b : Option (List ℕ)) → Sized ks a → Sized ks b → padded a ≡ padded b → a ≡ b
+padded-same ks f none none s t p = refl
+padded-same ks f none (some ys) s t p = absurd (let z : _≡_ {A = ℕ} 0 1 = cc in omega arith)
+padded-same ks f (some xs) none s t p = absurd (let z : _≡_ {A = ℕ} 0 1 = cc in omega arith)
+padded-same ks f (some xs) (some ys) s t p = ap some (pad-same ks xs ys f s t (cc))
+
+-- the last figure is the value
+pub value-pad : (ks : List ℕ) → Few ks → (o : Option (List ℕ)) → Sized ks o → value (padded o) ≡ value o
+value-pad ks f none s = refl
+value-pad [] f (some xs) s = absurd f
+value-pad (k ∷ []) f (some xs) s = rw (one xs s)
+value-pad (k ∷ (j ∷ [])) f (some xs) s = rw (two xs s)
+value-pad (k ∷ (j ∷ (i ∷ []))) f (some xs) s = rw (three xs s)
+value-pad (k ∷ (j ∷ (i ∷ (h ∷ ks)))) f (some xs) s = absurd f
+
+-- a round edge by edge
+module _ (N : Network) (ks : List ℕ) (f : Few ks) (live : ℕ → Bool) (S : State) (sized : (u : ℕ) → Sized ks (S u)) where
+  brings-pad : (b : Bool) (e : Edge) → padded (brings b ks e S) ≡ brings b (pad ks) e (λ u. padded (S u))
+  brings-pad true e = through-pad ks f e (S (e .from)) (sized (e .from))
+  brings-pad false e = refl
+
+  brings-sized : (b : Bool) (e : Edge) → Sized ks (brings b ks e S)
+  brings-sized true e = through-sized ks e (S (e .from)) (sized (e .from))
+  brings-sized false e = tt
+
+  pub gather-sized : (v i : ℕ) → Sized ks (gather N ks live S v i)
+  unfolding gather
+  gather-sized v zero = sized v
+  gather-sized v (suc i) = best-sized ks (gather N ks live S v i) _ (gather-sized v i) (brings-sized (live i && eqb (N .edge i .to) v) (N .edge i))
+
+  pub gather-pad : (v i : ℕ) → padded (gather N ks live S v i) ≡ gather N (pad ks) live (λ u. padded (S u)) v i
+  unfolding gather
+  gather-pad v zero = refl
+  gather-pad v (suc i) =
+      best-pad ks f (gather N ks live S v i) _ (gather-sized v i) (brings-sized (live i && eqb (N .edge i .to) v) (N .edge i))
+      ∙ ap₂ (best (pad ks)) (gather-pad v i) (brings-pad (live i && eqb (N .edge i .to) v) (N .edge i))

@@ -1,0 +1,16 @@
+-- What the cells of a path reduction's part of the table say: a vertex is absent where the stamp is 0, else it has the figures of three keys.
+use Prim.Native.Nat.{ℕ, _+_, _*_}
+use mathlib.Core.Bool.{cond}
+use mathlib.Core.List.{List, [], _∷_}
+use mathlib.Core.Option.{Option, none, some}
+use lib.Dec.{eqb}
+use lib.ListN.{getD}
+
+abbrev pub stamp-at : List ℕ → ℕ → ℕ
+stamp-at l v = getD l (4 * v + 3) 0
+
+abbrev pub numbers-at : List ℕ → ℕ → List ℕ
+numbers-at l v = getD l (4 * v) 0 ∷ getD l (4 * v + 1) 0 ∷ getD l (4 * v + 2) 0 ∷ []
+
+unfoldable pub figures-at : List ℕ → ℕ → Option (List ℕ)
+figures-at l v = cond (eqb (stamp-at l v) 0) none (some (numbers-at l v))

@@ -1,0 +1,1 @@
+// That the rounds in code (crate rounds) are those of the theory. Laws only: specs/ and proofs/.

@@ -522,7 +522,9 @@ fn rounds(
     r
 }
 
-fn run(
+// A run: rounds until one changes nothing, at most `limit`, by push over the edges from vertices that changed in the round before, by pull over all. How many
+// rounds; the figures reached are left in the table.
+pub fn run(
     push: bool,
     map: &[u8],
     paths: usize,
@@ -547,22 +549,6 @@ fn run(
         figures,
         &mut buffer[..w],
     )
-}
-
-// The run by pull: rounds over all edges until one changes nothing, at most `limit`. How many rounds; the figures reached are left in the table.
-pub fn pull(map: &[u8], paths: usize, table: [u64; 8], limit: u16, figures: &mut [u32]) -> u16
-    requires { ⌜ (graph-code (now map) ≡ 0) × (paths ≤ 8) × (length (now figures) ≡ 8192) ⌝ }
-    ensures { λ r. ⌜ (r ≡ ran false (now (map .entry)) paths table limit (now (figures .entry)) .count) × (now (figures .exit) ≡ ran false (now (map .entry)) paths table limit (now (figures .entry)) .figures) ⌝ }
-{
-    run(false, map, paths, table, limit, figures)
-}
-
-// The same by push: over edges from vertices that changed in the round before.
-pub fn push(map: &[u8], paths: usize, table: [u64; 8], limit: u16, figures: &mut [u32]) -> u16
-    requires { ⌜ (graph-code (now map) ≡ 0) × (paths ≤ 8) × (length (now figures) ≡ 8192) ⌝ }
-    ensures { λ r. ⌜ (r ≡ ran true (now (map .entry)) paths table limit (now (figures .entry)) .count) × (now (figures .exit) ≡ ran true (now (map .entry)) paths table limit (now (figures .entry)) .figures) ⌝ }
-{
-    run(true, map, paths, table, limit, figures)
 }
 
 // The value of path reduction j at vertex v; absent outside the table.

@@ -1,0 +1,16 @@
+-- `engine::source_code` meets its contract. Assumes nothing.
+use Rattle.engine.proofs.source_code.Statement.{statement}
+use borrow.Author.Tests.{eq-eqb, le-ltb, lt-ltb, ne-eqb}
+use Rattle.engine.proofs.source_code.Tie as tie
+
+returns : tie.Need-returns
+returns c = rw (eq-eqb _ _ (c .if1 .taken))
+
+returns-2 : tie.Need-returns-2
+returns-2 c = rw (ne-eqb _ _ (c .before .if1 .left), lt-ltb _ _ (c .if2 .taken))
+
+returns-3 : tie.Need-returns-3
+returns-3 c = rw (ne-eqb _ _ (c .before .if1 .left), le-ltb _ _ (c .if2 .left))
+
+pub source-code-spec : {M : Type 1} → statement M
+source-code-spec = tie.close (tie.spec returns returns-2 returns-3)

@@ -2,3 +2,5 @@ pub mod Order
 pub mod Pad
 pub mod Cells
 pub mod Edges
+pub mod Words
+pub mod Path

@@ -4,3 +4,5 @@ pub mod Cells
 pub mod Edges
 pub mod Words
 pub mod Path
+pub mod Start
+pub mod Parts

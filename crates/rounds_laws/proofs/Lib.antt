@@ -6,3 +6,5 @@ pub mod Words
 pub mod Path
 pub mod Start
 pub mod Parts
+pub mod Turn
+pub mod Joint

@@ -43,11 +43,11 @@ use Rattle.rounds_laws.proofs.Words.{few-keys, word-keys, word-rows, wo
 
 -- ---- tests
 
-T-true : (b : Bool) → T b → b ≡ true
+pub T-true : (b : Bool) → T b → b ≡ true
 T-true true t = refl
 T-true false t = absurd t
 
-not-T : (b : Bool) → (T b → ⊥) → b ≡ false
+pub not-T : (b : Bool) → (T b → ⊥) → b ≡ false
 not-T true f = absurd (f tt)
 not-T false f = refl
 

@@ -8,3 +8,5 @@ pub mod Start
 pub mod Parts
 pub mod Turn
 pub mod Joint
+pub mod Run
+pub mod Main

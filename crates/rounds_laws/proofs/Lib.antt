@@ -2,3 +2,11 @@ pub mod Order
 pub mod Pad
 pub mod Cells
 pub mod Edges
+pub mod Words
+pub mod Path
+pub mod Start
+pub mod Parts
+pub mod Turn
+pub mod Joint
+pub mod Run
+pub mod Main

@@ -1,0 +1,69 @@
+-- Parts of the table: one put back changed is there, and the others are as they were. Assumes nothing.
+use Prim.Native.Nat.{ℕ, zero, suc, _+_, _-_, _*_, _≤_, _<_}
+use mathlib.Core.Path.{_≡_, refl, sym, ap, _∙_}
+use mathlib.Core.List.{List, [], _∷_, _++_, append-assoc}
+use native.Mathlib.Omega.{arith}
+use native.Mathlib.Decide.{decLt}
+use lib.ListN.{length, getD, take, drop, length-append, length-take, length-drop}
+use lib.Seq.{drop-at, drop-drop, getD-drop, getD-take, length-take-le, take-at, take-take}
+use Rattle.rounds.specs.Run.{part, width, with-part}
+
+prefix : (m n a : ℕ) (l : List ℕ) → m + n ≤ a → take n (drop m (take a l)) ≡ take n (drop m l)
+prefix zero n a l h = take-take n a l (omega arith)
+prefix (suc m) n zero l h = absurd (let z : ⊥ = omega arith in z)
+prefix (suc m) n (suc a) [] h = refl
+prefix (suc m) n (suc a) (x ∷ l) h = prefix m n a l (omega arith)
+
+suffix : (m e : ℕ) (l : List ℕ) → e ≤ m → drop m l ≡ drop (m - e) (drop e l)
+suffix m e l h = ap (λ (n : ℕ). drop n l) (let q : m ≡ e + (m - e) = omega arith in q) ∙ sym (drop-drop (m - e) e l)
+
+module _ (s l : List ℕ) (j : ℕ) (h : j < 8) (room : width s ≤ 1024) (long : length l ≡ 8192) where
+  pub part-length : length (part s j l) ≡ width s
+  unfolding part
+  part-length = simp (length-take, length-drop) (omega arith)
+
+  pub part-number : (x : ℕ) → x < width s → getD (part s j l) x 0 ≡ getD l (1024 * j + x) 0
+  unfolding part
+  part-number x k = getD-take (width s) (drop (1024 * j) l) x 0 k ∙ getD-drop (1024 * j) l x 0
+
+  module _ (p : List ℕ) (size : length p ≡ width s) where
+    front : length (take (1024 * j) l) ≡ 1024 * j
+    front = length-take-le (1024 * j) l (omega arith)
+
+    pub with-length : length (with-part s j l p) ≡ 8192
+    unfolding with-part
+    with-length = simp (length-append, length-drop) (omega (arith, front))
+
+    pub part-here : part s j (with-part s j l p) ≡ p
+    unfolding part with-part
+    part-here =
+        ap (take (width s)) (drop-at (take (1024 * j) l) (p ++ drop (1024 * j + width s) l) (1024 * j) front)
+        ∙ take-at p (drop (1024 * j + width s) l) (width s) size
+
+    same-front : take (1024 * j) (with-part s j l p) ≡ take (1024 * j) l
+    unfolding with-part
+    same-front = take-at (take (1024 * j) l) (p ++ drop (1024 * j + width s) l) (1024 * j) front
+
+    same-back : drop (1024 * j + width s) (with-part s j l p) ≡ drop (1024 * j + width s) l
+    unfolding with-part
+    same-back =
+        ap (drop (1024 * j + width s)) (sym (append-assoc (take (1024 * j) l) p (drop (1024 * j + width s) l)))
+        ∙ drop-at (take (1024 * j) l ++ p) (drop (1024 * j + width s) l) (1024 * j + width s)
+        (length-append (take (1024 * j) l) p ∙ omega (arith, front))
+
+    pub part-other : (i : ℕ) → (i ≡ j → ⊥) → part s i (with-part s j l p) ≡ part s i l
+    unfolding part
+    part-other i n = go (decLt i j)
+      where
+        go : Dec (i < j) → take (width s) (drop (1024 * i) (with-part s j l p)) ≡ take (width s) (drop (1024 * i) l)
+        go (yes k) =
+            sym (prefix (1024 * i) (width s) (1024 * j) (with-part s j l p) (omega arith))
+            ∙ ap (λ (t : List ℕ). take (width s) (drop (1024 * i) t)) same-front
+            ∙ prefix (1024 * i) (width s) (1024 * j) l (omega arith)
+        go (no k) =
+            let b : ¬ (i ≡ j) = n in
+            let q : 1024 * j + width s ≤ 1024 * i = omega arith in
+            ap (take (width s))
+            (suffix (1024 * i) (1024 * j + width s) (with-part s j l p) q
+            ∙ ap (drop (1024 * i - (1024 * j + width s))) same-back
+            ∙ sym (suffix (1024 * i) (1024 * j + width s) l q))

@@ -1,0 +1,133 @@
+-- Start values in code are the state before any round. Assumes nothing.
+use Prim.Native.Nat.{ℕ, zero, suc, _*_, _≤_, _<_}
+use mathlib.Core.Path.{_≡_, refl, sym, ap, _∙_, subst}
+use mathlib.Core.Bool.{Bool, true, false, cond}
+use mathlib.Core.List.{List, [], _∷_}
+use mathlib.Core.Option.{Option, none, some}
+use native.Mathlib.Omega.{arith}
+use native.Mathlib.Decide.{ℕ-discrete}
+use native.Mathlib.Nat.{not-suc-le-zero}
+use borrow.Author.Tests.{lt-ltb}
+use lib.Dec.{leb, ltb, eqb}
+use lib.ListN.{length}
+use lib.Seq.{length-sets}
+use Rattle.walks.specs.Keys.{measure}
+use Rattle.walks.specs.Rounds.{initial, reached, state}
+use Rattle.walks.specs.Walks.{base}
+use Rattle.walks.proofs.Push.{fresh}
+use Rattle.meaning.specs.Query.{PathReduction, network-of, starts}
+use Rattle.meaning.specs.Run.{pull}
+use Rattle.wire.specs.Wire.{at16}
+use Rattle.graph.specs.Graph.{graph-of}
+use Rattle.terms.specs.Text.{path-number}
+use Rattle.rounds.specs.Cells.{key1, key2, key3, keys-of, numbers, source-of, start-cell, started, starts-here}
+use Rattle.rounds.specs.declared.Cell.{Cell}
+use Rattle.rounds.specs.declared.PathKeys.{PathKeys}
+use Rattle.rounds_laws.specs.Cells.{figures-at, stamp-at}
+use Rattle.rounds_laws.proofs.Cells.{Keys3, figures-here, figures-other, put-other, rows3, stamp-here}
+use Rattle.rounds_laws.proofs.Pad.{initial-pad, pad, padded}
+use Rattle.rounds_laws.proofs.Path.{Given, Shows, path-few}
+use Rattle.rounds_laws.proofs.Words.{word-keys, word-rows, word-source}
+
+-- the figures of a cell
+abbrev cell-figures : Cell → Option (List ℕ)
+cell-figures c = cond (eqb (c .stamp) 0) none (some (c .first ∷ c .second ∷ c .third ∷ []))
+
+-- each vertex passed has its start cell
+module _ (P : PathKeys) (source : ℕ) (l : List ℕ) (n : ℕ) (long : length l ≡ 4 * n) where
+  started-long : (i : ℕ) → length (started P source l i) ≡ 4 * n
+  unfolding started
+  started-long zero = long
+  started-long (suc i) = length-sets (started P source l i) (4 * i) (numbers (start-cell P source i)) ∙ started-long i
+
+  abbrev Right : ℕ → ℕ → Type 0
+  Right i v = (figures-at (started P source l i) v ≡ cell-figures (start-cell P source v)) × (stamp-at (started P source l i) v ≡ start-cell P source v .stamp)
+
+  started-right : (i : ℕ) → i ≤ n → (v : ℕ) → v < i → Right i v
+  unfolding started
+  started-right zero h v k = absurd (not-suc-le-zero k)
+  started-right (suc i) h v k = go (ℕ-discrete v i) (started-right i (omega arith) v)
+    where
+      go : Dec (v ≡ i) → (v < i → Right i v) → Right (suc i) v
+      go (yes e) f =
+          subst (Right (suc i)) (sym e) (
+            figures-here (started P source l i) i (start-cell P source i) n (started-long i) (omega arith),
+            stamp-here (started P source l i) i (start-cell P source i) n (started-long i) (omega arith),
+          )
+      go (no e) f =
+          let b = f (omega arith) in (
+            figures-other (started P source l i) i (start-cell P source i) v e ∙ b .0,
+            put-other (started P source l i) i (start-cell P source i) v 3 e (omega arith) ∙ b .1,
+          )
+
+-- a start cell
+module _ (k1 k2 k3 source v : ℕ) where
+  cell-initial : cell-figures (start-cell (rows3 k1 k2 k3) source v) ≡ initial (starts-here source v) (Keys3 k1 k2 k3) v
+  unfolding start-cell
+  cell-initial = go (starts-here source v)
+    where
+      go : (b : Bool) → cell-figures (cond b
+          (record { first = base (measure k1) v; second = base (measure k2) v; third = base (measure k3) v; stamp = 1 })
+          (record { first = 0; second = 0; third = 0; stamp = 0 })) ≡ initial b (Keys3 k1 k2 k3) v
+      go true = refl
+      go false = refl
+
+  cell-stamp : start-cell (rows3 k1 k2 k3) source v .stamp ≡ cond (starts-here source v) 1 0
+  unfolding start-cell
+  cell-stamp = go (starts-here source v)
+    where
+      go : (b : Bool) → cond {A = Cell} b
+          (record { first = base (measure k1) v; second = base (measure k2) v; third = base (measure k3) v; stamp = 1 })
+          (record { first = 0; second = 0; third = 0; stamp = 0 }) .stamp ≡ cond b 1 0
+      go true = refl
+      go false = refl
+
+starts-is : (n source v : ℕ) → v < n → starts-here source v ≡ starts n source v
+starts-is n source v h = go (eqb source 65535)
+  where
+    go : (b : Bool) → cond b true (eqb source v) ≡ cond b (ltb v n) (eqb source v)
+    go true = sym (lt-ltb v n h)
+    go false = refl
+
+stamp-low : (b : Bool) → cond b 1 0 ≤ 1
+stamp-low true = omega arith
+stamp-low false = omega arith
+
+stamp-reached : (b : Bool) (ks : List ℕ) (v : ℕ) → leb 1 (cond b 1 0) ≡ reached (initial b ks v)
+stamp-reached true ks v = refl
+stamp-reached false ks v = refl
+
+-- THE START VALUES OF A PATH REDUCTION, a source or anywhere
+module _ (s : List ℕ) (c : PathReduction) (g : Given s c) (l : List ℕ) (long : length l ≡ 4 * at16 s 5) where
+  abbrev w : ℕ
+  w = path-number c
+
+  right : (v : ℕ) → v < at16 s 5 → Right (rows3 (key1 w) (key2 w) (key3 w)) (c .source) l (at16 s 5) long (at16 s 5) v
+  right v h = started-right (rows3 (key1 w) (key2 w) (key3 w)) (c .source) l (at16 s 5) long (at16 s 5) (omega arith) v h
+
+  start-figures : (v : ℕ) → v < at16 s 5 → figures-at (started (rows3 (key1 w) (key2 w) (key3 w)) (c .source) l (at16 s 5)) v ≡ padded (pull (graph-of s) c 0 v)
+  unfolding state
+  start-figures v h =
+      right v h .0
+      ∙ cell-initial (key1 w) (key2 w) (key3 w) (c .source) v
+      ∙ ap (λ (b : Bool). initial b (Keys3 (key1 w) (key2 w) (key3 w)) v) (starts-is (at16 s 5) (c .source) v h)
+      ∙ ap (λ (ks : List ℕ). initial (starts (at16 s 5) (c .source) v) ks v) (word-keys c (g .fits .0))
+      ∙ sym (initial-pad (starts (at16 s 5) (c .source) v) (c .keys) (path-few s c g) v)
+
+  start-stamp : (v : ℕ) → v < at16 s 5 → stamp-at (started (rows3 (key1 w) (key2 w) (key3 w)) (c .source) l (at16 s 5)) v ≡ cond (starts (at16 s 5) (c .source) v) 1 0
+  start-stamp v h =
+      right v h .1
+      ∙ cell-stamp (key1 w) (key2 w) (key3 w) (c .source) v
+      ∙ ap (λ (b : Bool). cond {A = ℕ} b 1 0) (starts-is (at16 s 5) (c .source) v h)
+
+  here : Shows s c 0 (started (rows3 (key1 w) (key2 w) (key3 w)) (c .source) l (at16 s 5))
+  unfolding fresh state
+  here = record {
+    long = started-long (rows3 (key1 w) (key2 w) (key3 w)) (c .source) l (at16 s 5) long (at16 s 5);
+    figures = start-figures;
+    low = λ v h. omega (arith, start-stamp v h, stamp-low (starts (at16 s 5) (c .source) v));
+    recent = λ v h. ap (leb 1) (start-stamp v h) ∙ stamp-reached (starts (at16 s 5) (c .source) v) (c .keys) v;
+  }
+
+  pub start-shows : Shows s c 0 (started (keys-of (path-number c)) (source-of (path-number c)) l (at16 s 5))
+  start-shows = rw (word-rows c (g .fits .0), word-source c (g .fits .0)) here

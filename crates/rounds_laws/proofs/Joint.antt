@@ -20,7 +20,7 @@ use Rattle.meaning.specs.Run.{pull}
 use Rattle.meaning.proofs.Lists.{all-at, all-mapped, all-unmapped}
 use Rattle.wire.specs.Wire.{at16}
 use Rattle.graph.specs.Graph.{graph-of}
-use Rattle.terms.specs.Text.{path-number}
+use Rattle.term_text.specs.Text.{path-number}
 use Rattle.rounds.specs.Run.{Ran, Turn, and-then, part, round-after, rounds-from, since-of, turned, turned-upto}
 use Rattle.rounds_laws.specs.Cells.{figures-at}
 use Rattle.rounds_laws.proofs.Order.{never}

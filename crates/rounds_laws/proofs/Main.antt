@@ -31,7 +31,7 @@ use Rattle.wire.specs.Wire.{Bytes, at16}
 use Rattle.graph.specs.Graph.{graph-code, graph-of}
 use Rattle.graph.proofs.Accepted.{accepted}
 use Rattle.graph.proofs.Exact.{read-sound}
-use Rattle.terms.specs.Text.{path-number}
+use Rattle.term_text.specs.Text.{path-number}
 use Rattle.rounds.specs.Run.{Ran, part, ran, value-in}
 use Rattle.rounds_laws.specs.Cells.{figures-at}
 use Rattle.rounds_laws.specs.Ways.{way}
@@ -82,10 +82,10 @@ module _ (s : List ℕ) (p : Plan) (paths : ℕ) (table : List ℕ) (ready : Rea
   ways true = all-weaken (p .paths) (λ c f. push-state (network-of g c) (c .keys) (path-in-order (at16 s 5) c f)) (ready .legal)
   ways false = all-weaken (p .paths) (λ c f. refl) (ready .legal)
 
-  rounds-way : (b : Bool) → run-rounds (way b g) (at16 s 5) p ≡ run-rounds (pull g) (at16 s 5) p
+  pub rounds-way : (b : Bool) → run-rounds (way b g) (at16 s 5) p ≡ run-rounds (pull g) (at16 s 5) p
   rounds-way b = ap (rounds (at16 s 5)) (map-same (way b g) (pull g) (p .paths) (ways b))
 
-  values-way : (b : Bool) (r v : ℕ) → values-at (way b g) (p .paths) r v ≡ values-at (pull g) (p .paths) r v
+  pub values-way : (b : Bool) (r v : ℕ) → values-at (way b g) (p .paths) r v ≡ values-at (pull g) (p .paths) r v
   values-way b r v =
       map-same (λ c. value (way b g c r v)) (λ c. value (pull g c r v)) (p .paths)
       (all-weaken (p .paths) (λ c e. ap (λ (f : ℕ → State). value (f r v)) e) (ways b))

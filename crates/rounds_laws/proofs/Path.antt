@@ -30,7 +30,7 @@ use Rattle.wire.specs.Wire.{Bytes, at16}
 use Rattle.graph.specs.Graph.{edge-in, edges-in, graph-code, graph-of}
 use Rattle.graph.proofs.Exact.{read-sound}
 use Rattle.graph.proofs.Rows.{edge-there, edges-count}
-use Rattle.terms.specs.Text.{path-number}
+use Rattle.term_text.specs.Text.{path-number}
 use Rattle.rounds.specs.Cells.{key1, key2, key3, keys-of, numbers, relaxed-upto, source-of, start-cell, started, starts-here, taken-upto}
 use Rattle.rounds.specs.Run.{since-of}
 use Rattle.rounds.specs.declared.Cell.{Cell}

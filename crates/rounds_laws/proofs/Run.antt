@@ -17,7 +17,7 @@ use Rattle.meaning.specs.Query.{PathReduction}
 use Rattle.wire.specs.Wire.{at16}
 use Rattle.graph.proofs.Accepted.{accepted}
 use Rattle.graph.specs.Graph.{graph-code}
-use Rattle.terms.specs.Text.{path-number}
+use Rattle.term_text.specs.Text.{path-number}
 use Rattle.rounds.specs.Cells.{keys-of, source-of, started}
 use Rattle.rounds.specs.Run.{part, ran, started-at, started-upto, value-in, width, with-part}
 use Rattle.rounds_laws.specs.Cells.{figures-at, numbers-at, stamp-at}

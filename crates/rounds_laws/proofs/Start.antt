@@ -19,7 +19,7 @@ use Rattle.meaning.specs.Query.{PathReduction, network-of, starts}
 use Rattle.meaning.specs.Run.{pull}
 use Rattle.wire.specs.Wire.{at16}
 use Rattle.graph.specs.Graph.{graph-of}
-use Rattle.terms.specs.Text.{path-number}
+use Rattle.term_text.specs.Text.{path-number}
 use Rattle.rounds.specs.Cells.{key1, key2, key3, keys-of, numbers, source-of, start-cell, started, starts-here}
 use Rattle.rounds.specs.declared.Cell.{Cell}
 use Rattle.rounds.specs.declared.PathKeys.{PathKeys}

@@ -17,7 +17,7 @@ use Rattle.meaning.specs.Run.{pull}
 use Rattle.wire.specs.Wire.{at16}
 use Rattle.graph.specs.Graph.{graph-of}
 use Rattle.graph.proofs.Accepted.{accepted}
-use Rattle.terms.specs.Text.{path-number}
+use Rattle.term_text.specs.Text.{path-number}
 use Rattle.rounds.specs.Cells.{keys-of, relaxed-upto, taken-upto}
 use Rattle.rounds.specs.Run.{Turn, part, since-of, step-takes, stepped, turn, turned, width, with-part}
 use Rattle.rounds_laws.specs.Cells.{figures-at}

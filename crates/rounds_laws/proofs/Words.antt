@@ -10,7 +10,7 @@ use Rattle.walks.specs.Keys.{all-known, in-order, known, legal-keys}
 use Rattle.walks.proofs.Tests.{and-left, and-right}
 use Rattle.meaning.specs.Limits.{PathFits}
 use Rattle.meaning.specs.Query.{PathReduction}
-use Rattle.terms.specs.Text.{path-number}
+use Rattle.term_text.specs.Text.{path-number}
 use Rattle.rounds.specs.Cells.{key1, key2, key3, keys-of, source-of}
 use Rattle.rounds_laws.proofs.Cells.{Keys3, rows3}
 use Rattle.rounds_laws.proofs.Pad.{Few, pad}

@@ -1,12 +1,14 @@
 // Runs (document 01): a worksheet on a map, bytes to bytes, by pull and by push, to the first quiet round or for a given number of rounds.
 use terms::Walk;
 ghost use mathlib.Core.Path.{_≡_};
-ghost use Prim.Native.Nat.{_≤_};
-ghost use lib.ListN.{take};
-ghost use Rattle.wire.specs.Wire.{at16};
 ghost use mathlib.Core.List.{map};
-ghost use Rattle.engine.specs.Run.{path-of, source-code, sources-code};
-ghost use Rattle.engine.specs.Steps.{run-code, limit-of, count-of};
+ghost use mathlib.Core.Option.{none, some};
+ghost use Prim.Native.Nat.{_≤_};
+ghost use lib.ListN.{length, take};
+ghost use Rattle.graph.specs.Graph.{graph-code};
+ghost use Rattle.wire.specs.Wire.{at16, reply-number, reply-buffer};
+ghost use Rattle.engine.specs.Run.{path-of, source-code, sources-code, run-reply};
+ghost use Rattle.engine.specs.Steps.{run-code, limit-of, count-of, finished, meant};
 
 // How many rounds: to the first quiet one, or a given number.
 pub struct Limit {
@@ -57,9 +59,9 @@ fn sources_code(table: [u64; 8], paths: usize, n: u64) -> u8
     0
 }
 
-// "A run judges the worksheet, the map, starts in chain order, then 15."
-fn judge(w: Walk, map: &[u8], kind: u8, room: usize) -> u8
-    ensures { λ r. ⌜ r ≡ run-code w (now (map .entry)) kind room ⌝ }
+// "A run judges the worksheet, the map, starts in chain order": the first refusal, or 0.
+fn judge(w: Walk, map: &[u8]) -> u8
+    ensures { λ r. ⌜ r ≡ run-code w (now (map .entry)) ⌝ }
 {
     let c = w.code;
     if c != 0 {
@@ -71,11 +73,7 @@ fn judge(w: Walk, map: &[u8], kind: u8, room: usize) -> u8
     }
     let n = vertices(map);
     let table = w.table;
-    let k = sources_code(table, w.paths, n as u64);
-    if k != 0 {
-        return k;
-    }
-    answer::judge(n, kind, room)
+    sources_code(table, w.paths, n as u64)
 }
 
 // At most so many rounds are done.
@@ -97,4 +95,98 @@ fn reported(limit: Limit, count: u16) -> u16
         return limit.rounds;
     }
     count
+}
+
+// 15, the rounds, the rows, the answer.
+fn finish(push: bool, limit: Limit, plan: &[u8], w: Walk, map: &[u8], out: &mut [u8]) -> u32
+    requires { ⌜ graph-code (now map) ≡ 0 ⌝ }
+    ensures { λ r. ⌜ (r ≡ reply-number (finished push limit (now (plan .entry)) w (now (map .entry)) (length (now (out .entry))))) × (now (out .exit) ≡ reply-buffer (finished push limit (now (plan .entry)) w (now (map .entry)) (length (now (out .entry)))) (now (out .entry))) ⌝ }
+{
+    let n = vertices(map);
+    let kind = nodes::byte(plan, 5);
+    let k = answer::judge(n, kind, out.len());
+    if k != 0 {
+        return 65536 + k as u32;
+    }
+    let paths = wire::lesser(w.paths, 8);
+    let table = w.table;
+    let mut figures = [0u32; 8192];
+    let count = rounds::run(push, map, paths, table, most(limit, n), &mut figures);
+    let list = rows::body_rows(plan, &figures, paths, n as usize);
+    answer::write(n, reported(limit, count), kind, list, out)
+}
+
+fn run(push: bool, limit: Limit, plan: &[u8], map: &[u8], out: &mut [u8]) -> u32
+    ensures { λ r. ⌜ (r ≡ reply-number (run-reply (meant limit) (now (plan .entry)) (now (map .entry)) (length (now (out .entry))))) × (now (out .exit) ≡ reply-buffer (run-reply (meant limit) (now (plan .entry)) (now (map .entry)) (length (now (out .entry)))) (now (out .entry))) ⌝ }
+{
+    let w = plan::scan(plan);
+    let code = judge(w, map);
+    if code != 0 {
+        return 65536 + code as u32;
+    }
+    finish(push, limit, plan, w, map, out)
+}
+
+// The run by pull, to the first quiet round.
+pub fn pull(plan: &[u8], map: &[u8], out: &mut [u8]) -> u32
+    ensures { λ r. ⌜ (r ≡ reply-number (run-reply none (now (plan .entry)) (now (map .entry)) (length (now (out .entry))))) × (now (out .exit) ≡ reply-buffer (run-reply none (now (plan .entry)) (now (map .entry)) (length (now (out .entry)))) (now (out .entry))) ⌝ }
+{
+    run(
+        false,
+        Limit {
+            given: false,
+            rounds: 0,
+        },
+        plan,
+        map,
+        out,
+    )
+}
+
+// The run by push: the same.
+pub fn push(plan: &[u8], map: &[u8], out: &mut [u8]) -> u32
+    ensures { λ r. ⌜ (r ≡ reply-number (run-reply none (now (plan .entry)) (now (map .entry)) (length (now (out .entry))))) × (now (out .exit) ≡ reply-buffer (run-reply none (now (plan .entry)) (now (map .entry)) (length (now (out .entry)))) (now (out .entry))) ⌝ }
+{
+    run(
+        true,
+        Limit {
+            given: false,
+            rounds: 0,
+        },
+        plan,
+        map,
+        out,
+    )
+}
+
+// The run by pull of a given number of rounds.
+pub fn pull_rounds(plan: &[u8], map: &[u8], rounds: u16, out: &mut [u8]) -> u32
+    ensures { λ r. ⌜ (r ≡ reply-number (run-reply (some rounds) (now (plan .entry)) (now (map .entry)) (length (now (out .entry))))) × (now (out .exit) ≡ reply-buffer (run-reply (some rounds) (now (plan .entry)) (now (map .entry)) (length (now (out .entry)))) (now (out .entry))) ⌝ }
+{
+    run(
+        false,
+        Limit {
+            given: true,
+            rounds,
+        },
+        plan,
+        map,
+        out,
+    )
+}
+
+// The run by push of a given number of rounds: the same.
+pub fn push_rounds(plan: &[u8], map: &[u8], rounds: u16, out: &mut [u8]) -> u32
+    ensures { λ r. ⌜ (r ≡ reply-number (run-reply (some rounds) (now (plan .entry)) (now (map .entry)) (length (now (out .entry))))) × (now (out .exit) ≡ reply-buffer (run-reply (some rounds) (now (plan .entry)) (now (map .entry)) (length (now (out .entry)))) (now (out .entry))) ⌝ }
+{
+    run(
+        true,
+        Limit {
+            given: true,
+            rounds,
+        },
+        plan,
+        map,
+        out,
+    )
 }

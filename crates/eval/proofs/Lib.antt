@@ -2,3 +2,4 @@ pub mod Laws
 pub mod Tree
 pub mod Body
 pub mod Fill
+pub mod Ends

@@ -1,0 +1,86 @@
+-- What the code's proofs cite: the rows as arrays that a loop fills from the front. Assumes nothing.
+use Prim.Native.Nat.{ℕ, zero, suc, _+_, _-_, min}
+use mathlib.Core.Path.{_≡_, refl, sym, ap, ap₂, _∙_}
+use mathlib.Core.List.{List, [], _∷_, _++_, map}
+use borrow.Author.Tests.{eq-eqb, ne-eqb}
+use lib.ListN.{getD, replicate, take}
+use Rattle.meaning.specs.Run.{tabulate}
+use Rattle.meaning.proofs.Lists.{tabulate-length}
+use Rattle.value.specs.declared.Row.{Row}
+use Rattle.value.specs.declared.Value.{Value}
+use Rattle.value.specs.declared.Value.the-variants.{Absent}
+use Rattle.value.specs.Value.{reduce, values}
+use Rattle.eval.specs.Eval.{evaluated}
+use Rattle.eval.specs.Body.{count-place, eight, entries-end, entry-rows, expression-end, results, row}
+use Rattle.eval.proofs.Fill.{filled, fill-front}
+use Rattle.rounds.specs.Run.{value-in}
+use Rattle.rows.specs.Rows.{body-read, final-found, many, rows-at}
+
+rows-of : (g : ℕ → Value) (k i : ℕ) → map row (tabulate k i g) ≡ tabulate k i (λ j. row (g j))
+rows-of g zero i = refl
+rows-of g (suc k) i = ap (λ (l : List Row). row (g i) ∷ l) (rows-of g k (suc i))
+
+pub eight-filled : (g : ℕ → Value) (k : ℕ) → eight (tabulate k zero g) ≡ filled 8 (λ j. row (g j)) (row Absent) k
+eight-filled g k = ap₂ (λ (l : List Row) (c : ℕ). l ++ replicate (8 - c) (row Absent)) (rows-of g k zero) (tabulate-length k zero g)
+
+pub many-filled : (f : ℕ → Row) (n : ℕ) → many (tabulate n zero f) ≡ filled 256 f (row Absent) n
+many-filled f n = ap (λ (c : ℕ). tabulate n zero f ++ replicate (256 - c) (row Absent)) (tabulate-length n zero f)
+
+-- the values at a vertex
+abbrev pub value-row : List ℕ → ℕ → ℕ → Row
+value-row figures v j = row (value-in figures j v)
+
+pub rows-at-filled : (figures : List ℕ) (paths v : ℕ) → rows-at figures paths v ≡ filled 8 (value-row figures v) (row Absent) (min paths 8)
+unfolding rows-at
+rows-at-filled figures paths v = eight-filled (λ j. value-in figures j v) (min paths 8)
+
+-- an entry at the vertices
+abbrev pub entry-row : List ℕ → (ℕ → List Row) → ℕ → ℕ → Row
+entry-row s F at v = row (evaluated 16 s (F v) at .value)
+
+-- where entry k starts, the first at `at`
+module _ (s : List ℕ) where
+  pub place-none : (at : ℕ) → at ≡ entries-end 0 s at
+  unfolding entries-end
+  place-none at = refl
+
+  pub place-next : (k at : ℕ) → expression-end s (entries-end k s at + 1) ≡ entries-end (suc k) s at
+  unfolding entries-end
+  place-next zero at = refl
+  place-next (suc k) at = place-next k (expression-end s (at + 1))
+
+module _ (s : List ℕ) (F : ℕ → List Row) (n : ℕ) where
+  pub entry-filled : (at : ℕ) → many (entry-rows s at F n) ≡ filled 256 (entry-row s F at) (row Absent) n
+  unfolding entry-rows
+  entry-filled at = many-filled (entry-row s F at) n
+
+  pub entry-taken : (at : ℕ) → take n (many (entry-rows s at F n)) ≡ entry-rows s at F n
+  unfolding entry-rows
+  entry-taken at = ap (take n) (many-filled (entry-row s F at) n) ∙ fill-front 256 (entry-row s F at) (row Absent) n
+
+  -- the result of the entry at a place, and of entry k
+  abbrev pub result-at : ℕ → Value
+  result-at at = reduce (getD s at 0) (values (entry-rows s (at + 1) F n))
+
+  abbrev pub result-row : ℕ → ℕ → Row
+  result-row at k = row (result-at (entries-end k s at))
+
+  results-from : (at k i : ℕ) → results k s (entries-end i s at) F n ≡ tabulate k i (λ j. result-at (entries-end j s at))
+  unfolding results
+  results-from at zero i = refl
+  results-from at (suc k) i =
+      ap (λ (l : List Value). result-at (entries-end i s at) ∷ l) (ap (λ (c : ℕ). results k s c F n) (place-next s i at) ∙ results-from at k (suc i))
+
+  pub results-filled : (at k : ℕ) → eight (results k s at F n) ≡ filled 8 (result-row at) (row Absent) k
+  results-filled at k =
+      ap eight (ap (λ (c : ℕ). results k s c F n) (place-none s at) ∙ results-from at k zero)
+      ∙ eight-filled (λ j. result-at (entries-end j s at)) k
+
+  -- the body by its kind
+  pub body-each : getD s 5 0 ≡ 0 → body-read s F n ≡ entry-rows s (count-place s + 2) F n
+  unfolding body-read
+  body-each e = rw (eq-eqb (getD s 5 0) 0 e) refl
+
+  pub body-one : (getD s 5 0 ≡ 0 → ⊥) → body-read s F n ≡ row (final-found (min (getD s (count-place s) 0) 8) s (count-place s + 1) F n) ∷ []
+  unfolding body-read
+  body-one h = rw (ne-eqb (getD s 5 0) 0 h) refl

@@ -1,0 +1,71 @@
+-- `rows::entry_rows` meets its contract: the rows of the first v vertices are filled. Assumes nothing.
+use Prim.Native.Nat.{ℕ, _≤_, _-_}
+use mathlib.Core.Path.{_≡_, sym, ap, ap₂, _∙_}
+use mathlib.Core.List.{List}
+use native.Mathlib.Omega.{arith}
+use borrow.Author.Needs.{needs}
+use lib.ListN.{set}
+use Rattle.value.specs.declared.Row.{Row}
+use Rattle.value.specs.declared.Value.{Value}
+use Rattle.value.specs.declared.Value.the-variants.{Absent}
+use Rattle.eval.specs.declared.Found.{Found}
+use Rattle.eval.specs.Body.{row}
+use Rattle.eval.specs.Eval.{evaluated}
+use Rattle.eval.proofs.Fill.{filled, fill-next, fill-none}
+use Rattle.rows.specs.Rows.{rows-at}
+use Rattle.rows.proofs.Laws.{entry-filled, entry-row}
+use Rattle.rows.proofs.entry_rows.Statement.{statement}
+use Rattle.rows.proofs.entry_rows.Tie as tie
+
+abbrev Inv-loop : tie.InvT-loop
+Inv-loop plan at figures paths n rows₀ v₀ rows v = (v ≤ n) × (rows ≡ filled 256 (entry-row plan (rows-at figures paths) at) (row Absent) v)
+
+abbrev μ-loop : tie.MeasureT-loop
+μ-loop plan at figures paths n rows₀ v₀ rows v = n - v
+
+loop-holds : tie.Need-loop-holds Inv-loop μ-loop
+loop-holds c =
+    let a = c .before .before .args in
+    (omega arith, sym (fill-none 256 (entry-row (a .plan .now) (rows-at (a .figures .now) (a .paths)) (a .at)) (row Absent)))
+
+values-at-requires : tie.Need-values-at-requires Inv-loop μ-loop
+values-at-requires c κs = search needs
+
+evaluate-requires : tie.Need-evaluate-requires Inv-loop μ-loop
+evaluate-requires c κs = search needs
+
+mul-rows : tie.Need-mul-rows Inv-loop μ-loop
+mul-rows c = omega (arith, c .before .before .before .before .before .before .pre)
+
+array-set-from-rows : tie.Need-array-set-from-rows Inv-loop μ-loop
+array-set-from-rows c = omega (arith, c .before .before .before .before .before .before .pre)
+
+add-v : tie.Need-add-v Inv-loop μ-loop
+add-v c = search needs
+
+loop-less : tie.Need-loop-less Inv-loop μ-loop
+loop-less c = search needs
+
+loop-again : tie.Need-loop-again Inv-loop μ-loop
+loop-again c =
+    let s = c .before .before .before .before .before .before in
+    let a = s .args in
+    let l = c .before .before .before .loop in
+    let F : ℕ → List Row = rows-at (a .figures .now) (a .paths) in
+    let one = c .evaluate .ensures ∙ ap (λ (rows : List Row). evaluated 16 (a .plan .now) rows (a .at)) (c .before .values-at .ensures) in (
+      omega arith,
+      ap₂ (λ (rows : List Row) (value : Value). set rows (l .v) (row value)) (l .inv .1) (ap (λ (f : Found). f .value) one) ∙ fill-next 256 (entry-row (a .plan .now) F (a .at)) (row Absent) (l .v) (omega (arith, s .pre)),
+    )
+
+returns : tie.Need-returns Inv-loop μ-loop
+returns c =
+    let a = c .before .before .before .before .args in
+    let l = c .before .loop in
+    let F : ℕ → List Row = rows-at (a .figures .now) (a .paths) in
+    let e : l .v ≡ a .n = omega arith in
+    l .inv .1 ∙ ap (filled 256 (entry-row (a .plan .now) F (a .at)) (row Absent)) e ∙ sym (entry-filled (a .plan .now) F (a .n) (a .at))
+
+pub entry-rows-spec : {M : Type 1} → statement M
+entry-rows-spec =
+    tie.close
+    (tie.spec Inv-loop μ-loop loop-holds values-at-requires evaluate-requires mul-rows array-set-from-rows add-v loop-less loop-again returns)

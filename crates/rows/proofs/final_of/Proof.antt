@@ -1,0 +1,27 @@
+-- `rows::final_of` meets its contract. Assumes nothing.
+use Prim.Native.Nat.{ℕ}
+use mathlib.Core.Path.{_≡_, ap, ap₂, _∙_}
+use mathlib.Core.List.{List}
+use borrow.Author.Needs.{needs}
+use Rattle.value.specs.declared.Row.{Row}
+use Rattle.eval.specs.declared.Found.{Found}
+use Rattle.eval.specs.Eval.{evaluated}
+use Rattle.rows.specs.Rows.{final-found}
+use Rattle.rows.proofs.final_of.Statement.{statement}
+use Rattle.rows.proofs.final_of.Tie as tie
+
+results-of-requires : tie.Need-results-of-requires
+results-of-requires c κs = search needs
+
+evaluate-requires : tie.Need-evaluate-requires
+evaluate-requires c κs = search needs
+
+returns : tie.Need-returns
+unfolding final-found
+returns c =
+    let a = c .before .before .before .before .before .args in
+    let entries = c .before .before .results-of .ensures in
+    ap (λ (f : Found). f .value) (c .evaluate .ensures ∙ ap₂ (evaluated 16 (a .plan .now)) (entries .0) (entries .1))
+
+pub final-of-spec : {M : Type 1} → statement M
+final-of-spec = tie.close (tie.spec results-of-requires evaluate-requires returns)

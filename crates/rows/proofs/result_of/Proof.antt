@@ -1,0 +1,33 @@
+-- `rows::result_of` meets its contract. Assumes nothing.
+use Prim.Native.Nat.{ℕ, _+_}
+use mathlib.Core.Path.{_≡_, ap, ap₂, _∙_}
+use mathlib.Core.List.{List}
+use borrow.Author.Needs.{needs}
+use lib.ListN.{take}
+use Rattle.value.specs.declared.Row.{Row}
+use Rattle.value.specs.Value.{reduce, values}
+use Rattle.rows.specs.Rows.{rows-at}
+use Rattle.rows.proofs.Laws.{entry-taken}
+use Rattle.rows.proofs.result_of.Statement.{statement}
+use Rattle.rows.proofs.result_of.Tie as tie
+
+add-entry-rows : tie.Need-add-entry-rows
+add-entry-rows c = search needs
+
+entry-rows-requires : tie.Need-entry-rows-requires
+entry-rows-requires c κs = search needs
+
+byte-requires : tie.Need-byte-requires
+byte-requires c κs = search needs
+
+reduce-rows-requires : tie.Need-reduce-rows-requires
+reduce-rows-requires c κs = search needs
+
+returns : tie.Need-returns
+returns c =
+    let a = c .before .before .before .before .before .args in
+    let rows = ap (take (a .n)) (c .before .before .entry-rows .ensures) ∙ entry-taken (a .plan .now) (rows-at (a .figures .now) (a .paths)) (a .n) (a .at + 1) in
+    c .reduce-rows .ensures ∙ ap₂ (λ (reduction : ℕ) (l : List Row). reduce reduction (values l)) (c .before .byte .ensures) rows
+
+pub result-of-spec : {M : Type 1} → statement M
+result-of-spec = tie.close (tie.spec add-entry-rows entry-rows-requires byte-requires reduce-rows-requires returns)

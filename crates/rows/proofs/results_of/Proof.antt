@@ -1,0 +1,101 @@
+-- `rows::results_of` meets its contract: the results of the first k entries are filled, and the next one starts at `place`. Assumes nothing.
+use Prim.Native.Nat.{ℕ, _≤_, _+_, _-_}
+use mathlib.Core.Path.{_≡_, sym, ap, ap₂, _∙_}
+use mathlib.Core.List.{List}
+use native.Mathlib.Numerals.{add-one}
+use native.Mathlib.Omega.{arith}
+use borrow.Author.Needs.{needs}
+use lib.ListN.{length, set}
+use Rattle.value.specs.declared.Row.{Row}
+use Rattle.value.specs.declared.Value.{Value}
+use Rattle.value.specs.declared.Value.the-variants.{Absent}
+use Rattle.eval.specs.Body.{entries-end, expression-end, row}
+use Rattle.eval.proofs.Ends.{end-within}
+use Rattle.eval.proofs.Fill.{filled, fill-next, fill-none}
+use Rattle.rows.specs.Rows.{rows-at}
+use Rattle.rows.proofs.Laws.{place-next, place-none, result-at, result-row, results-filled}
+use Rattle.rows.proofs.results_of.Statement.{statement}
+use Rattle.rows.proofs.results_of.Tie as tie
+
+abbrev Inv-loop : tie.InvT-loop
+Inv-loop plan at figures paths n e rows₀ place₀ k₀ rows place k =
+    (k ≤ e) × (place ≤ length plan + 2048 + k) × (place ≡ entries-end k plan at) × (rows ≡ filled 8 (result-row plan (rows-at figures paths) n at) (row Absent) k)
+
+abbrev μ-loop : tie.MeasureT-loop
+μ-loop plan at figures paths n e rows₀ place₀ k₀ rows place k = e - k
+
+loop-holds : tie.Need-loop-holds Inv-loop μ-loop
+loop-holds c =
+    let s = c .before .before in
+    let a = s .args in (
+      omega arith,
+      omega (arith, s .pre .1),
+      place-none (a .plan .now) (a .at),
+      sym (fill-none 8 (result-row (a .plan .now) (rows-at (a .figures .now) (a .paths)) (a .n) (a .at)) (row Absent)),
+    )
+
+result-of-requires : tie.Need-result-of-requires Inv-loop μ-loop
+result-of-requires c κs = let s = c .before .before .before .before in (s .pre .0, omega (arith, s .pre .2))
+
+mul-rows : tie.Need-mul-rows Inv-loop μ-loop
+mul-rows c = omega (arith, c .before .before .before .before .before .pre .2)
+
+array-set-from-rows : tie.Need-array-set-from-rows Inv-loop μ-loop
+array-set-from-rows c = omega (arith, c .before .before .before .before .before .pre .2)
+
+add-expression-end : tie.Need-add-expression-end Inv-loop μ-loop
+add-expression-end c = omega (arith, c .before .before .before .before .before .pre .2)
+
+expression-end-requires : tie.Need-expression-end-requires Inv-loop μ-loop
+expression-end-requires c κs = tt
+
+add-k : tie.Need-add-k Inv-loop μ-loop
+add-k c = omega arith
+
+loop-less : tie.Need-loop-less Inv-loop μ-loop
+loop-less c = omega arith
+
+loop-again : tie.Need-loop-again Inv-loop μ-loop
+loop-again c =
+    let s = c .before .before .before .before .before .before in
+    let a = s .args in
+    let l = c .before .before .before .loop in
+    let plan : List ℕ = a .plan .now in
+    let F : ℕ → List Row = rows-at (a .figures .now) (a .paths) in
+    let end = c .expression-end .ensures in
+    let within = end-within plan (length plan + 2048 + (l .k + 1)) (l .place + 1) (omega arith) (omega arith) in
+    let next = end ∙ ap (λ (i : ℕ). expression-end plan (i + 1)) (l .inv .2) ∙ place-next plan (l .k) (a .at) ∙ ap (λ (k : ℕ). entries-end k plan (a .at)) (sym (add-one (l .k))) in
+    let one = c .before .result-of .ensures ∙ ap (result-at plan F (a .n)) (l .inv .2) in (
+      omega arith,
+      omega (arith, end, within),
+      next,
+      ap₂ (λ (rows : List Row) (value : Value). set rows (l .k) (row value)) (l .inv .3) one ∙ fill-next 8 (result-row plan F (a .n) (a .at)) (row Absent) (l .k) (omega (arith, s .pre .2)),
+    )
+
+returns : tie.Need-returns Inv-loop μ-loop
+returns c =
+    let a = c .before .before .before .before .args in
+    let l = c .before .loop in
+    let plan : List ℕ = a .plan .now in
+    let F : ℕ → List Row = rows-at (a .figures .now) (a .paths) in
+    let e : l .k ≡ a .e = omega arith in (
+      l .inv .3 ∙ ap (filled 8 (result-row plan F (a .n) (a .at)) (row Absent)) e ∙ sym (results-filled plan F (a .n) (a .at) (a .e)),
+      l .inv .2 ∙ ap (λ (k : ℕ). entries-end k plan (a .at)) e,
+    )
+
+pub results-of-spec : {M : Type 1} → statement M
+results-of-spec =
+    tie.close
+    (tie.spec
+    Inv-loop
+    μ-loop
+    loop-holds
+    result-of-requires
+    mul-rows
+    array-set-from-rows
+    add-expression-end
+    expression-end-requires
+    add-k
+    loop-less
+    loop-again
+    returns)

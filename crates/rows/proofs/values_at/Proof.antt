@@ -1,0 +1,64 @@
+-- `rows::values_at` meets its contract: the first j rows are filled. Assumes nothing.
+use Prim.Native.Nat.{ℕ, _≤_, _-_, min}
+use mathlib.Core.Path.{_≡_, sym, ap, ap₂, _∙_}
+use mathlib.Core.List.{List}
+use native.Mathlib.Omega.{arith}
+use borrow.Author.Needs.{needs}
+use lib.ListN.{set}
+use Rattle.value.specs.declared.Row.{Row}
+use Rattle.value.specs.declared.Value.{Value}
+use Rattle.value.specs.declared.Value.the-variants.{Absent}
+use Rattle.eval.specs.Body.{row}
+use Rattle.eval.proofs.Fill.{filled, fill-next, fill-none}
+use Rattle.rows.proofs.Laws.{rows-at-filled, value-row}
+use Rattle.rows.proofs.values_at.Statement.{statement}
+use Rattle.rows.proofs.values_at.Tie as tie
+
+abbrev Inv-loop : tie.InvT-loop
+Inv-loop figures paths v count rows₀ j₀ rows j = (j ≤ count) × (rows ≡ filled 8 (value-row figures v) (row Absent) j)
+
+abbrev μ-loop : tie.MeasureT-loop
+μ-loop figures paths v count rows₀ j₀ rows j = count - j
+
+at-most-requires : tie.Need-at-most-requires Inv-loop μ-loop
+at-most-requires c κs = search needs
+
+loop-holds : tie.Need-loop-holds Inv-loop μ-loop
+loop-holds c = let a = c .before .before .args in (omega arith, sym (fill-none 8 (value-row (a .figures .now) (a .v)) (row Absent)))
+
+value-at-requires : tie.Need-value-at-requires Inv-loop μ-loop
+value-at-requires c κs = search needs
+
+mul-rows : tie.Need-mul-rows Inv-loop μ-loop
+mul-rows c = search needs
+
+array-set-from-rows : tie.Need-array-set-from-rows Inv-loop μ-loop
+array-set-from-rows c = omega (arith, c .before .before .before .at-most .ensures)
+
+add-j : tie.Need-add-j Inv-loop μ-loop
+add-j c = search needs
+
+loop-less : tie.Need-loop-less Inv-loop μ-loop
+loop-less c = search needs
+
+loop-again : tie.Need-loop-again Inv-loop μ-loop
+loop-again c =
+    let a = c .before .before .before .before .before .args in
+    let l = c .before .before .loop in
+    let f : ℕ → Row = value-row (a .figures .now) (a .v) in
+    let one = c .value-at .ensures in (
+      omega arith,
+      ap₂ (λ (rows : List Row) (value : Value). set rows (l .j) (row value)) (l .inv .1) one ∙ fill-next 8 f (row Absent) (l .j) (omega (arith, c .before .before .before .at-most .ensures)),
+    )
+
+returns : tie.Need-returns Inv-loop μ-loop
+returns c =
+    let a = c .before .before .before .before .args in
+    let l = c .before .loop in
+    let e : l .j ≡ min (a .paths) 8 = omega (arith, c .before .before .at-most .ensures) in
+    l .inv .1 ∙ ap (filled 8 (value-row (a .figures .now) (a .v)) (row Absent)) e ∙ sym (rows-at-filled (a .figures .now) (a .paths) (a .v))
+
+pub values-at-spec : {M : Type 1} → statement M
+values-at-spec =
+    tie.close
+    (tie.spec Inv-loop μ-loop at-most-requires loop-holds value-at-requires mul-rows array-set-from-rows add-j loop-less loop-again returns)

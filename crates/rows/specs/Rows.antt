@@ -1,0 +1,32 @@
+-- The rows of an answer from the table of figures that a run has left, as the program goes. Nothing to believe: `answer-rows` (proofs/Exact) says that they are the
+-- rows of the plan's body.
+use Prim.Native.Nat.{ℕ, zero, _+_, _-_, min}
+use mathlib.Core.Bool.{cond}
+use mathlib.Core.List.{List, [], _∷_, _++_}
+use lib.Dec.{eqb}
+use lib.ListN.{length, getD, replicate}
+use Rattle.meaning.specs.Run.{tabulate}
+use Rattle.value.specs.declared.Row.{Row}
+use Rattle.value.specs.declared.Value.{Value}
+use Rattle.value.specs.declared.Value.the-variants.{Absent}
+use Rattle.eval.specs.Eval.{evaluated}
+use Rattle.eval.specs.Body.{count-place, eight, entries-end, entry-rows, results, row}
+use Rattle.rounds.specs.Run.{value-in}
+
+-- the values of the path reductions at the vertex v, as eight rows
+unfoldable pub rows-at : List ℕ → ℕ → ℕ → List Row
+rows-at figures paths v = eight (tabulate (min paths 8) zero (λ j. value-in figures j v))
+
+-- rows in an array of 256, absent ones behind them
+abbrev pub many : List Row → List Row
+many l = l ++ replicate (256 - length l) (row Absent)
+
+-- the value of the final expression, over the results of k entries that start at `at`
+unfoldable pub final-found : ℕ → List ℕ → ℕ → (ℕ → List Row) → ℕ → Value
+final-found k s at F n = evaluated 16 s (eight (results k s at F n)) (entries-end k s at) .value
+
+-- the rows of the body as in `body-found` (eval), for any bytes: "e from 0 to 8", a larger count is cut
+unfoldable pub body-read : List ℕ → (ℕ → List Row) → ℕ → List Row
+body-read s F n =
+    let at = count-place s in
+    cond (eqb (getD s 5 0) 0) (entry-rows s (at + 2) F n) (row (final-found (min (getD s at 0) 8) s (at + 1) F n) ∷ [])

@@ -1,0 +1,142 @@
+// The rows of an answer (document 01, "an answer row holds one"), from the bytes of an accepted plan and the table of figures that a run has left; in an array,
+// before anything is written.
+use value::Row;
+use value::Value;
+ghost use mathlib.Core.Path.{_≡_};
+ghost use mathlib.Core.List.{_∷_, []};
+ghost use Prim.Native.Nat.{_+_, _≤_, min};
+ghost use lib.ListN.{length, getD};
+ghost use Rattle.value.specs.Value.{reduce, values};
+ghost use Rattle.eval.specs.Body.{count-place, eight, entries-end, entry-rows, results, row};
+ghost use Rattle.rows.specs.Rows.{body-read, final-found, many, rows-at};
+
+// The results of the entries, and where the entries end.
+struct Results {
+    rows: [Row; 8],
+    end: usize,
+}
+
+fn at_most(n: usize, most: usize) -> usize
+    ensures { λ r. ⌜ r ≡ min n most ⌝ }
+{
+    if n <= most { n } else { most }
+}
+
+fn wide(b: u8) -> usize
+    ensures { λ r. ⌜ (r ≡ b) × (r ≤ 255) ⌝ }
+{
+    b as usize
+}
+
+// Where the entry count stands.
+fn place_of(plan: &[u8]) -> usize
+    ensures { λ r. ⌜ (r ≡ count-place (now (plan .entry))) × (r ≤ 1537) ⌝ }
+{
+    7 + 6 * wide(nodes::byte(plan, 6))
+}
+
+// The values of the path reductions at the vertex v.
+fn values_at(figures: &[u32], paths: usize, v: usize) -> [Row; 8]
+    ensures { λ r. ⌜ r ≡ rows-at (now (figures .entry)) paths v ⌝ }
+{
+    let count = at_most(paths, 8);
+    let absent = Row {
+        value: Value::Absent,
+    };
+    let mut rows = [absent; 8];
+    let mut j: usize = 0;
+    while j < count {
+        let one = Row {
+            value: rounds::value_at(figures, j, v),
+        };
+        rows[j] = one;
+        j += 1;
+    }
+    rows
+}
+
+// The expression at `at`, at each of the n vertices.
+fn entry_rows(plan: &[u8], at: usize, figures: &[u32], paths: usize, n: usize) -> [Row; 256]
+    requires { ⌜ n ≤ 256 ⌝ }
+    ensures { λ r. ⌜ r ≡ many (entry-rows (now (plan .entry)) at (rows-at (now (figures .entry)) paths) n) ⌝ }
+{
+    let absent = Row {
+        value: Value::Absent,
+    };
+    let mut rows = [absent; 256];
+    let mut v: usize = 0;
+    while v < n {
+        let found = eval::evaluate(plan, values_at(figures, paths, v), at, 16);
+        let value = found.value;
+        rows[v] = Row { value };
+        v += 1;
+    }
+    rows
+}
+
+// The result of the entry whose reduction byte stands at `at`.
+fn result_of(plan: &[u8], at: usize, figures: &[u32], paths: usize, n: usize) -> Value
+    requires { ⌜ (n ≤ 256) × (at ≤ length (now plan) + 4096) ⌝ }
+    ensures { λ r. ⌜ r ≡ reduce (getD (now (plan .entry)) at 0) (values (entry-rows (now (plan .entry)) (at + 1) (rows-at (now (figures .entry)) paths) n)) ⌝ }
+{
+    let rows = entry_rows(plan, at + 1, figures, paths, n);
+    value::reduce_rows(nodes::byte(plan, at), rows, n)
+}
+
+// The results of the e entries from `at` on.
+fn results_of(plan: &[u8], at: usize, figures: &[u32], paths: usize, n: usize, e: usize) -> Results
+    requires { ⌜ (n ≤ 256) × (at ≤ 2048) × (e ≤ 8) ⌝ }
+    ensures { λ r. ⌜ (r .rows ≡ eight (results e (now (plan .entry)) at (rows-at (now (figures .entry)) paths) n)) × (r .end ≡ entries-end e (now (plan .entry)) at) ⌝ }
+{
+    let absent = Row {
+        value: Value::Absent,
+    };
+    let mut rows = [absent; 8];
+    let mut place = at;
+    let mut k: usize = 0;
+    while k < e {
+        let one = Row {
+            value: result_of(plan, place, figures, paths, n),
+        };
+        rows[k] = one;
+        place = eval::expression_end(plan, place + 1);
+        k += 1;
+    }
+    Results { rows, end: place }
+}
+
+// The final expression over the results of the e entries from `at` on.
+fn final_of(plan: &[u8], at: usize, figures: &[u32], paths: usize, n: usize, e: usize) -> Value
+    requires { ⌜ (n ≤ 256) × (at ≤ 2048) × (e ≤ 8) ⌝ }
+    ensures { λ r. ⌜ r ≡ final-found e (now (plan .entry)) at (rows-at (now (figures .entry)) paths) n ⌝ }
+{
+    let entries = results_of(plan, at, figures, paths, n, e);
+    let rows = entries.rows;
+    let found = eval::evaluate(plan, rows, entries.end, 16);
+    found.value
+}
+
+// One row.
+fn single(value: Value) -> [Row; 256]
+    ensures { λ r. ⌜ r ≡ many (row value ∷ []) ⌝ }
+{
+    let absent = Row {
+        value: Value::Absent,
+    };
+    let mut rows = [absent; 256];
+    rows[0] = Row { value };
+    rows
+}
+
+// The rows of the plan's body, of the figures at n vertices (256 where n is above), absent ones behind them: by its kind those of the one entry, or one.
+pub fn body_rows(plan: &[u8], figures: &[u32], paths: usize, n: usize) -> [Row; 256]
+    ensures { λ r. ⌜ r ≡ many (body-read (now (plan .entry)) (rows-at (now (figures .entry)) paths) (min n 256)) ⌝ }
+{
+    let count = at_most(n, 256);
+    let at = place_of(plan);
+    if nodes::byte(plan, 5) == 0 {
+        return entry_rows(plan, at + 2, figures, paths, count);
+    }
+    let e = at_most(wide(nodes::byte(plan, at)), 8);
+    single(final_of(plan, at + 1, figures, paths, count, e))
+}

@@ -1,9 +1,6 @@
 -- `rows::final_of` meets its contract. Assumes nothing.
-use Prim.Native.Nat.{ℕ}
-use mathlib.Core.Path.{_≡_, ap, ap₂, _∙_}
-use mathlib.Core.List.{List}
+use mathlib.Core.Path.{ap, ap₂, _∙_}
 use borrow.Author.Needs.{needs}
-use Rattle.value.specs.declared.Row.{Row}
 use Rattle.eval.specs.declared.Found.{Found}
 use Rattle.eval.specs.Eval.{evaluated}
 use Rattle.rows.specs.Rows.{final-found}

@@ -1,2 +1,3 @@
 pub mod Sources
 pub mod Numbers
+pub mod Meant

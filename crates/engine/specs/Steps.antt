@@ -12,7 +12,6 @@ use Rattle.terms.specs.declared.Walk.{Walk}
 use Rattle.value.specs.Value.{values}
 use Rattle.wire.specs.Header.{then}
 use Rattle.wire.specs.Wire.{Reply, at16}
-use Rattle.engine.specs.declared.Limit.{Limit}
 use Rattle.engine.specs.Run.{paths-of, sources-code}
 
 -- the refusal of the worksheet, of the map, of the starts
@@ -20,20 +19,20 @@ unfoldable pub run-code : Walk → List ℕ → ℕ
 run-code w m = then (w .code) (then (graph-code m) (sources-code (at16 m 5) (paths-of w)))
 
 -- the limit as document 01 has it; at most so many rounds are done; so many are reported
-abbrev pub meant : Limit → Option ℕ
-meant l = cond (l .given) (some (l .rounds)) none
+abbrev pub meant : Bool → ℕ → Option ℕ
+meant given limit = cond given (some limit) none
 
-abbrev pub limit-of : Limit → ℕ → ℕ
-limit-of l n = cond (l .given) (l .rounds) (2 * n)
+abbrev pub limit-of : Bool → ℕ → ℕ → ℕ
+limit-of given limit n = cond given limit (2 * n)
 
-abbrev pub count-of : Limit → ℕ → ℕ
-count-of l count = cond (l .given) (l .rounds) count
+abbrev pub count-of : Bool → ℕ → ℕ → ℕ
+count-of given limit count = cond given limit count
 
-abbrev pub table-after : Bool → Limit → Walk → List ℕ → Ran
-table-after push l w m = ran push m (min (w .paths) 8) (w .table) (limit-of l (at16 m 5)) (replicate 8192 0)
+abbrev pub table-after : Bool → Bool → ℕ → Walk → List ℕ → Ran
+table-after push given limit w m = ran push m (min (w .paths) 8) (w .table) (limit-of given limit (at16 m 5)) (replicate 8192 0)
 
-unfoldable pub finished : Bool → Limit → List ℕ → Walk → List ℕ → ℕ → Reply
-finished push l s w m room =
+unfoldable pub finished : Bool → Bool → ℕ → List ℕ → Walk → List ℕ → ℕ → Reply
+finished push given limit s w m room =
     let n = at16 m 5 in
-    let t = table-after push l w m in
-    answer-reply n (count-of l (t .count)) (getD s 5 0) (values (many (body-read s (rows-at (t .figures) (min (w .paths) 8)) (min n 256)))) room
+    let t = table-after push given limit w m in
+    answer-reply n (count-of given limit (t .count)) (getD s 5 0) (values (many (body-read s (rows-at (t .figures) (min (w .paths) 8)) (min n 256)))) room

@@ -10,12 +10,6 @@ ghost use Rattle.wire.specs.Wire.{at16, reply-number, reply-buffer};
 ghost use Rattle.engine.specs.Run.{path-of, source-code, sources-code, run-reply};
 ghost use Rattle.engine.specs.Steps.{run-code, limit-of, count-of, finished, meant};
 
-// How many rounds: to the first quiet one, or a given number.
-pub struct Limit {
-    pub given: bool,
-    pub rounds: u16,
-}
-
 fn wide(b: u8) -> u16
     ensures { λ r. ⌜ (r ≡ b) × (r ≤ 255) ⌝ }
 {
@@ -76,31 +70,39 @@ fn judge(w: Walk, map: &[u8]) -> u8
     sources_code(table, w.paths, n as u64)
 }
 
-// At most so many rounds are done.
-fn most(limit: Limit, n: u16) -> u16
+// At most so many rounds are done: as many as are given, or 2n.
+fn most(given: bool, limit: u16, n: u16) -> u16
     requires { ⌜ n ≤ 256 ⌝ }
-    ensures { λ r. ⌜ r ≡ limit-of limit n ⌝ }
+    ensures { λ r. ⌜ r ≡ limit-of given limit n ⌝ }
 {
-    if limit.given {
-        return limit.rounds;
+    if given {
+        return limit;
     }
     2 * n
 }
 
 // So many are reported.
-fn reported(limit: Limit, count: u16) -> u16
-    ensures { λ r. ⌜ r ≡ count-of limit count ⌝ }
+fn reported(given: bool, limit: u16, count: u16) -> u16
+    ensures { λ r. ⌜ r ≡ count-of given limit count ⌝ }
 {
-    if limit.given {
-        return limit.rounds;
+    if given {
+        return limit;
     }
     count
 }
 
 // 15, the rounds, the rows, the answer.
-fn finish(push: bool, limit: Limit, plan: &[u8], w: Walk, map: &[u8], out: &mut [u8]) -> u32
+fn finish(
+    push: bool,
+    given: bool,
+    limit: u16,
+    plan: &[u8],
+    w: Walk,
+    map: &[u8],
+    out: &mut [u8],
+) -> u32
     requires { ⌜ graph-code (now map) ≡ 0 ⌝ }
-    ensures { λ r. ⌜ (r ≡ reply-number (finished push limit (now (plan .entry)) w (now (map .entry)) (length (now (out .entry))))) × (now (out .exit) ≡ reply-buffer (finished push limit (now (plan .entry)) w (now (map .entry)) (length (now (out .entry)))) (now (out .entry))) ⌝ }
+    ensures { λ r. ⌜ (r ≡ reply-number (finished push given limit (now (plan .entry)) w (now (map .entry)) (length (now (out .entry))))) × (now (out .exit) ≡ reply-buffer (finished push given limit (now (plan .entry)) w (now (map .entry)) (length (now (out .entry)))) (now (out .entry))) ⌝ }
 {
     let n = vertices(map);
     let kind = nodes::byte(plan, 5);
@@ -111,82 +113,46 @@ fn finish(push: bool, limit: Limit, plan: &[u8], w: Walk, map: &[u8], out: &mut 
     let paths = wire::lesser(w.paths, 8);
     let table = w.table;
     let mut figures = [0u32; 8192];
-    let count = rounds::run(push, map, paths, table, most(limit, n), &mut figures);
+    let count = rounds::run(push, map, paths, table, most(given, limit, n), &mut figures);
     let list = rows::body_rows(plan, &figures, paths, n as usize);
-    answer::write(n, reported(limit, count), kind, list, out)
+    answer::write(n, reported(given, limit, count), kind, list, out)
 }
 
-fn run(push: bool, limit: Limit, plan: &[u8], map: &[u8], out: &mut [u8]) -> u32
-    ensures { λ r. ⌜ (r ≡ reply-number (run-reply (meant limit) (now (plan .entry)) (now (map .entry)) (length (now (out .entry))))) × (now (out .exit) ≡ reply-buffer (run-reply (meant limit) (now (plan .entry)) (now (map .entry)) (length (now (out .entry)))) (now (out .entry))) ⌝ }
+fn run(push: bool, given: bool, limit: u16, plan: &[u8], map: &[u8], out: &mut [u8]) -> u32
+    ensures { λ r. ⌜ (r ≡ reply-number (run-reply (meant given limit) (now (plan .entry)) (now (map .entry)) (length (now (out .entry))))) × (now (out .exit) ≡ reply-buffer (run-reply (meant given limit) (now (plan .entry)) (now (map .entry)) (length (now (out .entry)))) (now (out .entry))) ⌝ }
 {
     let w = plan::scan(plan);
     let code = judge(w, map);
     if code != 0 {
         return 65536 + code as u32;
     }
-    finish(push, limit, plan, w, map, out)
+    finish(push, given, limit, plan, w, map, out)
 }
 
 // The run by pull, to the first quiet round.
 pub fn pull(plan: &[u8], map: &[u8], out: &mut [u8]) -> u32
     ensures { λ r. ⌜ (r ≡ reply-number (run-reply none (now (plan .entry)) (now (map .entry)) (length (now (out .entry))))) × (now (out .exit) ≡ reply-buffer (run-reply none (now (plan .entry)) (now (map .entry)) (length (now (out .entry)))) (now (out .entry))) ⌝ }
 {
-    run(
-        false,
-        Limit {
-            given: false,
-            rounds: 0,
-        },
-        plan,
-        map,
-        out,
-    )
+    run(false, false, 0, plan, map, out)
 }
 
 // The run by push: the same.
 pub fn push(plan: &[u8], map: &[u8], out: &mut [u8]) -> u32
     ensures { λ r. ⌜ (r ≡ reply-number (run-reply none (now (plan .entry)) (now (map .entry)) (length (now (out .entry))))) × (now (out .exit) ≡ reply-buffer (run-reply none (now (plan .entry)) (now (map .entry)) (length (now (out .entry)))) (now (out .entry))) ⌝ }
 {
-    run(
-        true,
-        Limit {
-            given: false,
-            rounds: 0,
-        },
-        plan,
-        map,
-        out,
-    )
+    run(true, false, 0, plan, map, out)
 }
 
 // The run by pull of a given number of rounds.
 pub fn pull_rounds(plan: &[u8], map: &[u8], rounds: u16, out: &mut [u8]) -> u32
     ensures { λ r. ⌜ (r ≡ reply-number (run-reply (some rounds) (now (plan .entry)) (now (map .entry)) (length (now (out .entry))))) × (now (out .exit) ≡ reply-buffer (run-reply (some rounds) (now (plan .entry)) (now (map .entry)) (length (now (out .entry)))) (now (out .entry))) ⌝ }
 {
-    run(
-        false,
-        Limit {
-            given: true,
-            rounds,
-        },
-        plan,
-        map,
-        out,
-    )
+    run(false, true, rounds, plan, map, out)
 }
 
 // The run by push of a given number of rounds: the same.
 pub fn push_rounds(plan: &[u8], map: &[u8], rounds: u16, out: &mut [u8]) -> u32
     ensures { λ r. ⌜ (r ≡ reply-number (run-reply (some rounds) (now (plan .entry)) (now (map .entry)) (length (now (out .entry))))) × (now (out .exit) ≡ reply-buffer (run-reply (some rounds) (now (plan .entry)) (now (map .entry)) (length (now (out .entry)))) (now (out .entry))) ⌝ }
 {
-    run(
-        true,
-        Limit {
-            given: true,
-            rounds,
-        },
-        plan,
-        map,
-        out,
-    )
+    run(true, true, rounds, plan, map, out)
 }

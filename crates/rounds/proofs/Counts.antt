@@ -1,10 +1,10 @@
 -- The loop over rounds goes as `rounds-from` says. Assumes nothing.
 use Prim.Native.Nat.{ℕ, suc, _+_, _-_, _≤_, _<_}
-use mathlib.Core.Path.{_≡_, refl}
+use mathlib.Core.Path.{_≡_}
 use mathlib.Core.Bool.{Bool, true, false}
 use mathlib.Core.List.{List}
 use native.Mathlib.Omega.{arith}
-use Rattle.rounds.specs.Run.{Ran, round-after, rounds-from}
+use Rattle.rounds.specs.Run.{round-after, rounds-from}
 
 left-over : (r limit : ℕ) → r < limit → limit - r ≡ suc (limit - (r + 1))
 left-over r limit h = omega arith

@@ -1,15 +1,14 @@
 -- A part of the table that was lent and comes back is `with-part`. Assumes nothing.
 use Prim.Native.Nat.{ℕ, _+_, _-_, _*_}
-use mathlib.Core.Path.{_≡_, refl, sym, ap, _∙_}
+use mathlib.Core.Path.{_≡_, ap, _∙_}
 use mathlib.Core.Bool.{Bool}
 use mathlib.Core.List.{List, _++_}
 use native.Mathlib.Omega.{arith}
 use borrow.Rule.Slice.PartMut.{post-is, putMid}
 use lib.ListN.{take, drop}
 use Rattle.wire.specs.Wire.{at16}
-use Rattle.rounds.specs.Cells.{keys-of, relaxed-upto, source-of, started, taken-upto}
+use Rattle.cells.specs.Cells.{keys-of, relaxed-upto, source-of, started, taken-upto}
 use Rattle.rounds.specs.Run.{part, started-at, step-takes, stepped, with-part}
-use Rattle.rounds.specs.declared.PathKeys.{PathKeys}
 
 size : (a w : ℕ) → a + w - a ≡ w
 size a w = omega arith
@@ -25,18 +24,17 @@ module _ (s xs ys : List ℕ) (j n : ℕ) (e : n ≡ at16 s 5) where
   unfolding part
   mid-part = ap (λ (k : ℕ). take k (drop (1024 * j) xs)) (size (1024 * j) (4 * n)) ∙ ap (λ (k : ℕ). take (4 * k) (drop (1024 * j) xs)) e
 
-  module _ (word : ℕ) (ks : PathKeys) (k : ks ≡ keys-of word) where
-    pub start-put : ys ≡ started ks (source-of word) (take (1024 * j + 4 * n - 1024 * j) (drop (1024 * j) xs)) n
-        → putMid (1024 * j) (1024 * j + 4 * n - 1024 * j) xs ys ≡ started-at s word j xs
-    unfolding started-at
-    start-put p = put-part ∙ ap (with-part s j xs) (rw (mid-part, k, e) at p)
+  pub start-put : (word : ℕ) → ys ≡ started (keys-of word) (source-of word) (take (1024 * j + 4 * n - 1024 * j) (drop (1024 * j) xs)) n
+      → putMid (1024 * j) (1024 * j + 4 * n - 1024 * j) xs ys ≡ started-at s word j xs
+  unfolding started-at
+  start-put word p = put-part ∙ ap (with-part s j xs) (rw (mid-part, e) at p)
 
-    pub step-put : (since stamp : ℕ) → ys ≡ relaxed-upto ks s since stamp (take (1024 * j + 4 * n - 1024 * j) (drop (1024 * j) xs)) (at16 s 7)
-        → putMid (1024 * j) (1024 * j + 4 * n - 1024 * j) xs ys ≡ stepped s word j since stamp xs
-    unfolding stepped
-    step-put since stamp p = put-part ∙ ap (with-part s j xs) (rw (mid-part, k) at p)
+  pub step-put : (word since stamp : ℕ) → ys ≡ relaxed-upto (keys-of word) s since stamp (take (1024 * j + 4 * n - 1024 * j) (drop (1024 * j) xs)) (at16 s 7)
+      → putMid (1024 * j) (1024 * j + 4 * n - 1024 * j) xs ys ≡ stepped s word j since stamp xs
+  unfolding stepped
+  step-put word since stamp p = put-part ∙ ap (with-part s j xs) (rw mid-part at p)
 
-    pub step-said : (since stamp : ℕ) (b : Bool) → b ≡ taken-upto ks s since stamp (take (1024 * j + 4 * n - 1024 * j) (drop (1024 * j) xs)) (at16 s 7)
-        → b ≡ step-takes s word j since stamp xs
-    unfolding step-takes
-    step-said since stamp b p = rw (mid-part, k) at p
+  pub step-said : (word since stamp : ℕ) (b : Bool) → b ≡ taken-upto (keys-of word) s since stamp (take (1024 * j + 4 * n - 1024 * j) (drop (1024 * j) xs)) (at16 s 7)
+      → b ≡ step-takes s word j since stamp xs
+  unfolding step-takes
+  step-said word since stamp b p = rw mid-part at p

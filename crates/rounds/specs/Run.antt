@@ -7,7 +7,7 @@ use lib.ListN.{length, getD, set, take, drop, replicate}
 use Rattle.value.specs.declared.Value.{Value}
 use Rattle.value.specs.declared.Value.the-variants.{Absent, Number}
 use Rattle.wire.specs.Wire.{at16}
-use Rattle.rounds.specs.Cells.{keys-of, relaxed-upto, source-of, started, taken-upto}
+use Rattle.cells.specs.Cells.{keys-of, relaxed-upto, source-of, started, taken-upto}
 
 -- path reduction j has the numbers from 1,024 * j on, four for each of the map's vertices; the table with other numbers there
 abbrev pub width : List ℕ → ℕ

@@ -6,7 +6,7 @@ use mathlib.Core.List.{List, [], _∷_}
 use mathlib.Core.Option.{Option, none, some}
 use native.Mathlib.Omega.{arith}
 use borrow.Author.Tests.{eqb-true, eq-eqb, ne-eqb}
-use lib.Dec.{leb, ltb, eqb}
+use lib.Dec.{leb, eqb}
 use lib.ListN.{length, getD, set, length-set}
 use lib.Seq.{getD-set-other, getD-set-same, sets}
 use Rattle.walks.specs.Keys.{good?, kept, measure, row}
@@ -15,9 +15,9 @@ use Rattle.walks.specs.Walks.{Edge, edge, extend}
 use Rattle.walks.specs.declared.Extreme.{Extreme}
 use Rattle.walks.specs.declared.Measure.{Measure}
 use Rattle.walks.specs.declared.Measure.the-variants.{Bottleneck, Edges, Source, Weight}
-use Rattle.rounds.specs.Cells.{ahead, displaces, numbers, taken}
-use Rattle.rounds.specs.declared.Cell.{Cell}
-use Rattle.rounds.specs.declared.PathKeys.{PathKeys}
+use Rattle.cells.specs.Cells.{ahead, displaces, numbers, taken}
+use Rattle.cells.specs.declared.Cell.{Cell}
+use Rattle.cells.specs.declared.PathKeys.{PathKeys}
 use Rattle.rounds_laws.specs.Cells.{figures-at, numbers-at, stamp-at}
 use Rattle.rounds_laws.proofs.Order.{ahead-is, ahead-self, eqb-swap, less-is}
 

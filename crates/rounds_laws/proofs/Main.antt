@@ -1,7 +1,7 @@
 -- THE RUNS IN CODE ARE THE RUNS OF A PLAN: rounds and values, by pull and by push, to quiet and for a given number. Assumes nothing.
 use Prim.Native.Nat.{ℕ, zero, suc, _+_, _-_, _*_, _≤_, _<_}
 use mathlib.Core.Path.{_≡_, refl, sym, ap, _∙_, subst}
-use mathlib.Core.Logic.{_⊎_, inl, inr}
+use mathlib.Core.Logic.{inl, inr}
 use mathlib.Core.Bool.{Bool, true, false}
 use mathlib.Core.List.{List, [], _∷_, map}
 use mathlib.Core.Option.{Option}
@@ -23,8 +23,8 @@ use Rattle.walks.proofs.Same.{quiet-yes, unchanged-yes}
 use Rattle.meaning.specs.Limits.{GraphFits, PathFits}
 use Rattle.meaning.specs.Meaning.{Smallest}
 use Rattle.meaning.specs.Plan.{Plan}
-use Rattle.meaning.specs.Query.{PathReduction, network-of}
-use Rattle.meaning.specs.Run.{Way, pull, push, run-rounds, values-at}
+use Rattle.meaning.specs.Query.{network-of}
+use Rattle.meaning.specs.Run.{pull, push, run-rounds, values-at}
 use Rattle.meaning.proofs.Lists.{all-at, all-unmapped, all-weaken, map-same}
 use Rattle.meaning.proofs.Rounds.{path-in-order, rounds-at-most, rounds-final, rounds-go-on, rounds-smallest, rounds-stop}
 use Rattle.wire.specs.Wire.{Bytes, at16}
@@ -35,7 +35,7 @@ use Rattle.term_text.specs.Text.{path-number}
 use Rattle.rounds.specs.Run.{Ran, part, ran, value-in}
 use Rattle.rounds_laws.specs.Cells.{figures-at}
 use Rattle.rounds_laws.specs.Ways.{way}
-use Rattle.rounds_laws.proofs.Joint.{Ended, Plans, Q, Shown, blank, nth}
+use Rattle.rounds_laws.proofs.Joint.{Ended, Plans, Shown, blank, nth}
 use Rattle.rounds_laws.proofs.Pad.{padded, value-pad}
 use Rattle.rounds_laws.proofs.Path.{Given, path-few, path-network, path-ordered, path-sized}
 use Rattle.rounds_laws.proofs.Run.{ran-shown, value-part}

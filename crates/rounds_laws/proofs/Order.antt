@@ -10,7 +10,7 @@ use Rattle.walks.specs.Keys.{good?, kept}
 use Rattle.walks.specs.Rounds.{precedes}
 use Rattle.walks.specs.declared.Extreme.{Extreme}
 use Rattle.walks.specs.declared.Extreme.the-variants.{Greatest, Least}
-use Rattle.rounds.specs.Cells.{ahead}
+use Rattle.cells.specs.Cells.{ahead}
 
 pub never : {A : Type 0} → _≡_ {A = Bool} false true → A
 never e = let z : _≡_ {A = ℕ} 0 1 = cc in let q : ⊥ = omega arith in absurd q

@@ -1,16 +1,15 @@
 -- A path reduction of fewer than three keys with its last key again: every figure of the added keys is that of the last, and nothing is decided otherwise. Assumes nothing.
-use Prim.Native.Nat.{ℕ, zero, suc, _≤_}
-use mathlib.Core.Path.{_≡_, refl, sym, ap, ap₂, _∙_, subst}
+use Prim.Native.Nat.{ℕ, zero, suc}
+use mathlib.Core.Path.{_≡_, refl, sym, ap, ap₂, _∙_}
 use mathlib.Core.Bool.{Bool, true, false, cond, _&&_}
 use mathlib.Core.List.{List, [], _∷_}
 use mathlib.Core.Option.{Option, none, some}
 use native.Mathlib.Omega.{arith}
 use lib.Dec.{eqb}
 use lib.ListN.{length, getD}
-use Rattle.value.specs.declared.Value.{Value}
 use Rattle.walks.specs.Keys.{good?, kept}
 use Rattle.walks.specs.Meaning.{value}
-use Rattle.walks.specs.Rounds.{State, bases, best, brings, extend-all, gather, initial, precedes, through}
+use Rattle.walks.specs.Rounds.{State, best, brings, extend-all, gather, initial, precedes, through}
 use Rattle.walks.specs.Walks.{Edge, Network}
 
 abbrev pub pad : List ℕ → List ℕ

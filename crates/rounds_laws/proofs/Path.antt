@@ -1,45 +1,40 @@
 -- One path reduction: its part of the table shows the state after r rounds, and a round in code makes it show the next, by pull and by push. Assumes nothing.
 use Prim.Native.Nat.{ℕ, zero, suc, _+_, _*_, _≤_, _<_, max}
 use mathlib.Core.Path.{_≡_, refl, sym, ap, _∙_, subst}
-use mathlib.Core.Logic.{_⊎_, inl, inr}
-use mathlib.Core.Bool.{Bool, true, false, cond, not, _&&_}
+use mathlib.Core.Logic.{inl, inr}
+use mathlib.Core.Bool.{Bool, true, false, not, _&&_}
 use mathlib.Core.List.{List, [], _∷_}
 use mathlib.Core.Option.{Option, none, some}
 use native.Mathlib.Omega.{arith}
-use native.Mathlib.Decide.{ℕ-discrete}
-use native.Mathlib.Nat.{not-suc-le-zero}
-use borrow.Author.Tests.{le-leb, leb-false, leb-true, lt-leb, lt-ltb}
-use lib.Dec.{T, leb, ltb, eqb}
-use lib.ListN.{length, getD}
-use lib.Seq.{length-sets, sets}
+use borrow.Author.Tests.{le-leb, leb-false, leb-true, lt-leb}
+use lib.Dec.{T, leb, eqb}
+use lib.ListN.{length}
 use Rattle.walks.specs.Keys.{in-order}
 use Rattle.walks.specs.Lists.{All}
-use Rattle.walks.specs.Rounds.{State, bases, best, brings, gather, initial, reached, same, state, through, unchanged}
+use Rattle.walks.specs.Rounds.{State, brings, gather, reached, same, state, through, unchanged}
 use Rattle.walks.specs.Walks.{Edge, Fits, Network}
 use Rattle.walks.proofs.Bounds.{state-bound, state-length}
 use Rattle.walks.proofs.Push.{fresh}
 use Rattle.walks.proofs.Quiet.{gather-same}
 use Rattle.walks.proofs.Same.{same-eq, same-of, unchanged-of, unchanged-yes}
 use Rattle.walks.proofs.Steps.{pull-steps, push-steps}
-use Rattle.walks.proofs.Tests.{T-of, le-step}
+use Rattle.walks.proofs.Tests.{le-step}
 use Rattle.meaning.specs.Limits.{GraphLegal, PathFits}
-use Rattle.meaning.specs.Query.{PathReduction, network-of, starts}
+use Rattle.meaning.specs.Query.{PathReduction, network-of}
 use Rattle.meaning.specs.Run.{pull}
 use Rattle.meaning.proofs.Rounds.{network-fits, path-in-order}
 use Rattle.wire.specs.Wire.{Bytes, at16}
-use Rattle.graph.specs.Graph.{edge-in, edges-in, graph-code, graph-of}
+use Rattle.graph.specs.Graph.{edge-in, graph-code, graph-of}
 use Rattle.graph.proofs.Exact.{read-sound}
 use Rattle.graph.proofs.Rows.{edge-there, edges-count}
 use Rattle.term_text.specs.Text.{path-number}
-use Rattle.rounds.specs.Cells.{key1, key2, key3, keys-of, numbers, relaxed-upto, source-of, start-cell, started, starts-here, taken-upto}
+use Rattle.cells.specs.Cells.{key1, key2, key3, keys-of, relaxed-upto, taken-upto}
 use Rattle.rounds.specs.Run.{since-of}
-use Rattle.rounds.specs.declared.Cell.{Cell}
 use Rattle.rounds_laws.specs.Cells.{figures-at, numbers-at, stamp-at}
-use Rattle.rounds_laws.proofs.Cells.{Keys3, absent, figures-here, figures-other, present, put-other, rows3, stamp-here}
-use Rattle.rounds_laws.proofs.Edges.{G, Live, Mark, Setting, U, holds, long-after, marks, moved, still}
-use Rattle.rounds_laws.proofs.Order.{never}
-use Rattle.rounds_laws.proofs.Pad.{Few, Sized, gather-pad, initial-pad, pad, padded, padded-same}
-use Rattle.rounds_laws.proofs.Words.{few-keys, word-keys, word-rows, word-source}
+use Rattle.rounds_laws.proofs.Cells.{absent, present, rows3}
+use Rattle.rounds_laws.proofs.Edges.{G, Live, Mark, Setting, holds, long-after, marks, moved, still}
+use Rattle.rounds_laws.proofs.Pad.{Few, Sized, gather-pad, pad, padded, padded-same}
+use Rattle.rounds_laws.proofs.Words.{few-keys, word-keys, word-rows}
 
 -- ---- tests
 

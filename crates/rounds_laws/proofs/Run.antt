@@ -1,16 +1,15 @@
 -- A run in code from its start values. Assumes nothing.
 use Prim.Native.Nat.{ℕ, zero, suc, _+_, _*_, _≤_, _<_}
-use mathlib.Core.Path.{_≡_, refl, sym, ap, _∙_, subst}
+use mathlib.Core.Path.{_≡_, refl, sym, subst}
 use mathlib.Core.Bool.{Bool, true, false, cond}
-use mathlib.Core.List.{List, [], _∷_}
-use mathlib.Core.Option.{Option, none, some}
+use mathlib.Core.List.{List}
+use mathlib.Core.Option.{none, some}
 use native.Mathlib.Omega.{arith}
 use native.Mathlib.Decide.{ℕ-discrete}
 use native.Mathlib.Nat.{not-suc-le-zero}
 use borrow.Author.Tests.{lt-leb}
-use lib.Dec.{T, eqb}
+use lib.Dec.{eqb}
 use lib.ListN.{length, getD, replicate, getD-replicate}
-use Rattle.value.specs.declared.Value.{Value}
 use Rattle.value.specs.declared.Value.the-variants.{Absent, Number}
 use Rattle.walks.specs.Meaning.{value}
 use Rattle.meaning.specs.Query.{PathReduction}
@@ -18,12 +17,12 @@ use Rattle.wire.specs.Wire.{at16}
 use Rattle.graph.proofs.Accepted.{accepted}
 use Rattle.graph.specs.Graph.{graph-code}
 use Rattle.term_text.specs.Text.{path-number}
-use Rattle.rounds.specs.Cells.{keys-of, source-of, started}
+use Rattle.cells.specs.Cells.{keys-of, source-of, started}
 use Rattle.rounds.specs.Run.{part, ran, started-at, started-upto, value-in, width, with-part}
 use Rattle.rounds_laws.specs.Cells.{figures-at, numbers-at, stamp-at}
-use Rattle.rounds_laws.proofs.Joint.{AllHeld, Plans, Q, Shown, nth, rounds-shown}
+use Rattle.rounds_laws.proofs.Joint.{AllHeld, Plans, Shown, nth, rounds-shown}
 use Rattle.rounds_laws.proofs.Parts.{part-here, part-length, part-number, part-other, with-length}
-use Rattle.rounds_laws.proofs.Path.{Given, Shows}
+use Rattle.rounds_laws.proofs.Path.{Shows}
 use Rattle.rounds_laws.proofs.Start.{start-shows}
 use Rattle.rounds_laws.proofs.Turn.{held-start}
 

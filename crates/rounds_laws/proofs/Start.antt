@@ -15,17 +15,17 @@ use Rattle.walks.specs.Keys.{measure}
 use Rattle.walks.specs.Rounds.{initial, reached, state}
 use Rattle.walks.specs.Walks.{base}
 use Rattle.walks.proofs.Push.{fresh}
-use Rattle.meaning.specs.Query.{PathReduction, network-of, starts}
+use Rattle.meaning.specs.Query.{PathReduction, starts}
 use Rattle.meaning.specs.Run.{pull}
 use Rattle.wire.specs.Wire.{at16}
 use Rattle.graph.specs.Graph.{graph-of}
 use Rattle.term_text.specs.Text.{path-number}
-use Rattle.rounds.specs.Cells.{key1, key2, key3, keys-of, numbers, source-of, start-cell, started, starts-here}
-use Rattle.rounds.specs.declared.Cell.{Cell}
-use Rattle.rounds.specs.declared.PathKeys.{PathKeys}
+use Rattle.cells.specs.Cells.{key1, key2, key3, keys-of, numbers, source-of, start-cell, started, starts-here}
+use Rattle.cells.specs.declared.Cell.{Cell}
+use Rattle.cells.specs.declared.PathKeys.{PathKeys}
 use Rattle.rounds_laws.specs.Cells.{figures-at, stamp-at}
 use Rattle.rounds_laws.proofs.Cells.{Keys3, figures-here, figures-other, put-other, rows3, stamp-here}
-use Rattle.rounds_laws.proofs.Pad.{initial-pad, pad, padded}
+use Rattle.rounds_laws.proofs.Pad.{initial-pad, padded}
 use Rattle.rounds_laws.proofs.Path.{Given, Shows, path-few}
 use Rattle.rounds_laws.proofs.Words.{word-keys, word-rows, word-source}
 

@@ -1,10 +1,10 @@
 -- The turn of one path reduction in a round of all: one that rests stays as it is, which is what a round would make of it. Assumes nothing.
-use Prim.Native.Nat.{ℕ, suc, _+_, _*_, _≤_, _<_}
+use Prim.Native.Nat.{ℕ, suc, _+_, _≤_, _<_}
 use mathlib.Core.Path.{_≡_, refl, sym, ap, _∙_, subst}
 use mathlib.Core.Bool.{Bool, true, false, cond, not}
 use mathlib.Core.List.{List}
 use native.Mathlib.Omega.{arith}
-use borrow.Author.Tests.{eqb-true, eqb-false, not-false, not-true}
+use borrow.Author.Tests.{eqb-true, eqb-false, not-false}
 use lib.Dec.{T, eqb}
 use lib.ListN.{length, getD, set, length-set}
 use lib.Seq.{getD-set-other, getD-set-same}
@@ -18,12 +18,12 @@ use Rattle.wire.specs.Wire.{at16}
 use Rattle.graph.specs.Graph.{graph-of}
 use Rattle.graph.proofs.Accepted.{accepted}
 use Rattle.term_text.specs.Text.{path-number}
-use Rattle.rounds.specs.Cells.{keys-of, relaxed-upto, taken-upto}
-use Rattle.rounds.specs.Run.{Turn, part, since-of, step-takes, stepped, turn, turned, width, with-part}
+use Rattle.cells.specs.Cells.{keys-of, relaxed-upto}
+use Rattle.rounds.specs.Run.{Turn, part, since-of, step-takes, stepped, turn, turned, width}
 use Rattle.rounds_laws.specs.Cells.{figures-at}
 use Rattle.rounds_laws.proofs.Pad.{padded}
-use Rattle.rounds_laws.proofs.Parts.{part-here, part-length, part-other, with-length}
-use Rattle.rounds_laws.proofs.Path.{Given, Shows, T-true, not-T, path-network, path-ordered, round-says, round-shows}
+use Rattle.rounds_laws.proofs.Parts.{part-here, part-other, with-length}
+use Rattle.rounds_laws.proofs.Path.{Given, Shows, T-true, path-network, path-ordered, round-says, round-shows}
 
 -- a path reduction's part of the table and its flag, after r rounds
 pub record Held (s : List ℕ) (c : PathReduction) (r flag : ℕ) (l : List ℕ) : Type 0 where

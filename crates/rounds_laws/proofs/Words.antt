@@ -1,5 +1,5 @@
 -- The keys and the source in the number of a path reduction. Assumes nothing.
-use Prim.Native.Nat.{ℕ, zero, suc, _+_, _*_, _/_, _%_, _≤_, _<_}
+use Prim.Native.Nat.{ℕ, zero, suc, _+_, _*_, _/_, _%_, _<_}
 use mathlib.Core.Path.{_≡_, refl}
 use mathlib.Core.Bool.{_&&_}
 use mathlib.Core.List.{List, [], _∷_}
@@ -8,10 +8,9 @@ use lib.Dec.{T, leb, leb→le}
 use lib.ListN.{length, getD}
 use Rattle.walks.specs.Keys.{all-known, in-order, known, legal-keys}
 use Rattle.walks.proofs.Tests.{and-left, and-right}
-use Rattle.meaning.specs.Limits.{PathFits}
 use Rattle.meaning.specs.Query.{PathReduction}
 use Rattle.term_text.specs.Text.{path-number}
-use Rattle.rounds.specs.Cells.{key1, key2, key3, keys-of, source-of}
+use Rattle.cells.specs.Cells.{key1, key2, key3, keys-of, source-of}
 use Rattle.rounds_laws.proofs.Cells.{Keys3, rows3}
 use Rattle.rounds_laws.proofs.Pad.{Few, pad}
 

@@ -1,8 +1,8 @@
 -- `rounds::run` meets its contract. Assumes nothing.
 use native.Mathlib.Omega.{arith}
-use Prim.Native.Nat.{ℕ, _*_, _≤_}
-use mathlib.Core.Path.{_≡_, sym, refl, _∙_, ap}
-use lib.ListN.{length, replicate}
+use Prim.Native.Nat.{_*_, _≤_}
+use mathlib.Core.Path.{sym, refl, _∙_}
+use lib.ListN.{replicate}
 use lib.Seq.{length-take-le}
 use Rattle.rounds.specs.Run.{ran}
 use borrow.Author.Needs.{needs}

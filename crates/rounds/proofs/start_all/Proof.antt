@@ -1,7 +1,7 @@
 -- `rounds::start_all` meets its contract: the first j path reductions have their start values. Assumes nothing.
 use native.Mathlib.Omega.{arith}
-use Prim.Native.Nat.{ℕ, _≤_, _-_, _*_}
-use mathlib.Core.Path.{_≡_, sym, refl, _∙_, ap}
+use Prim.Native.Nat.{_≤_, _-_}
+use mathlib.Core.Path.{_≡_, sym, refl, _∙_}
 use native.Mathlib.Numerals.{add-one}
 use lib.ListN.{length}
 use Rattle.rounds.specs.Run.{started-upto}

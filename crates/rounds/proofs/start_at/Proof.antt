@@ -16,9 +16,6 @@ mul-e c = search needs
 add-e : tie.Need-add-e
 add-e c = search needs
 
-path-keys-requires : tie.Need-path-keys-requires
-path-keys-requires c κs = search needs
-
 mul-start : tie.Need-mul-start
 mul-start c = search needs
 
@@ -39,8 +36,9 @@ same-length c = search needs
 
 returns : tie.Need-returns
 returns c =
-    let a = c .before .before .before .before .before .before .before .before .args in
-    start-put (a .map .now) (a .figures .now) _ (a .j) (c .before .before .before .before .before .vertices .result) (c .before .before .before .before .before .vertices .ensures .0) (a .word) (c .before .before .before .before .path-keys .result) (c .before .before .before .before .path-keys .ensures) (c .before .before .start .ensures)
+    let a = c .before .before .before .before .before .before .before .args in
+    let n = c .before .before .before .before .vertices in
+    start-put (a .map .now) (a .figures .now) _ (a .j) (n .result) (n .ensures .0) (a .word) (c .before .before .start .ensures)
 
 pub start-at-spec : {M : Type 1} → statement M
 start-at-spec =
@@ -50,7 +48,6 @@ start-at-spec =
     mul-a
     mul-e
     add-e
-    path-keys-requires
     mul-start
     sub-start
     part-start-start

@@ -7,17 +7,14 @@ use Rattle.rounds.proofs.step_at.Tie as tie
 vertices-requires : tie.Need-vertices-requires
 vertices-requires c κs = search needs
 
-mul-a : tie.Need-mul-a
-mul-a c = search needs
+mul-from : tie.Need-mul-from
+mul-from c = search needs
 
-mul-e : tie.Need-mul-e
-mul-e c = search needs
+mul-end : tie.Need-mul-end
+mul-end c = search needs
 
-add-e : tie.Need-add-e
-add-e c = search needs
-
-path-keys-requires : tie.Need-path-keys-requires
-path-keys-requires c κs = search needs
+add-end : tie.Need-add-end
+add-end c = search needs
 
 mul-step : tie.Need-mul-step
 mul-step c = search needs
@@ -42,12 +39,11 @@ same-length-2 c = search needs
 
 returns : tie.Need-returns
 returns c =
-    let a = c .before .before .before .before .before .before .before .before .before .before .before .before .args in
-    let n = c .before .before .before .before .before .before .before .before .vertices in
-    let k = c .before .before .before .before .before .before .before .path-keys in
+    let a = c .before .before .before .before .before .before .before .before .before .before .before .args in
+    let n = c .before .before .before .before .before .before .before .vertices in
     let t = c .before .before .before .before .step in (
-      step-said (a .map .now) (a .figures .now) (a .figures .now) (a .j) (n .result) (n .ensures .0) (a .word) (k .result) (k .ensures) (a .since) (a .stamp) (t .result) (t .ensures .0),
-      step-put (a .map .now) (a .figures .now) _ (a .j) (n .result) (n .ensures .0) (a .word) (k .result) (k .ensures) (a .since) (a .stamp) (t .ensures .1),
+      step-said (a .map .now) (a .figures .now) (a .figures .now) (a .j) (n .result) (n .ensures .0) (a .word) (a .since) (a .stamp) (t .result) (t .ensures .0),
+      step-put (a .map .now) (a .figures .now) _ (a .j) (n .result) (n .ensures .0) (a .word) (a .since) (a .stamp) (t .ensures .1),
     )
 
 pub step-at-spec : {M : Type 1} → statement M
@@ -55,10 +51,9 @@ step-at-spec =
     tie.close
     (tie.spec
     vertices-requires
-    mul-a
-    mul-e
-    add-e
-    path-keys-requires
+    mul-from
+    mul-end
+    add-end
     mul-step
     sub-step
     part-step-start

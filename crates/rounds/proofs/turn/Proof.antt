@@ -1,6 +1,6 @@
 -- `rounds::turn` meets its contract. Assumes nothing.
-use borrow.Author.Tests.{eq-eqb, ne-eqb, not-true, not-false}
-use mathlib.Core.Path.{_≡_, sym, refl, _∙_, ap}
+use borrow.Author.Tests.{eq-eqb, ne-eqb}
+use mathlib.Core.Path.{refl}
 use Rattle.rounds.specs.Run.{turned}
 use borrow.Author.Needs.{needs}
 use Rattle.rounds.proofs.turn.Statement.{statement}

@@ -1,5 +1,5 @@
 -- `rounds::value_at` meets its contract. Assumes nothing.
-use borrow.Author.Tests.{eq-eqb, ne-eqb, lt-ltb, le-ltb, le-leb, lt-leb, not-true, not-false}
+use borrow.Author.Tests.{eq-eqb, ne-eqb, le-leb, lt-leb}
 use Rattle.rounds.specs.Run.{value-in}
 use borrow.Author.Needs.{needs}
 use Rattle.rounds.proofs.value_at.Statement.{statement}
@@ -56,7 +56,7 @@ wide-requires c κs = search needs
 
 returns-5 : tie.Need-returns-5
 unfolding value-in
-returns-5 c = rw (lt-leb _ _ (c .before .before .before .before .before .before .if1 .left), lt-leb _ _ (c .before .before .before .before .before .if2 .left), lt-leb _ _ (c .before .before .before .before .if3 .left), ne-eqb _ _ (c .before .before .if4 .left), c .wide .ensures .0)
+returns-5 c = rw (lt-leb _ _ (c .before .before .before .before .before .before .if1 .left), lt-leb _ _ (c .before .before .before .before .before .if2 .left), lt-leb _ _ (c .before .before .before .before .if3 .left), ne-eqb _ _ (c .before .before .if4 .left), c .wide .ensures)
 
 pub value-at-spec : {M : Type 1} → statement M
 value-at-spec =

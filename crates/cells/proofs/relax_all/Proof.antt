@@ -1,0 +1,68 @@
+-- `cells::relax_all` meets its contract: the first i edges are relaxed. Assumes nothing.
+use native.Mathlib.Omega.{arith}
+use Prim.Native.Nat.{_≤_, _-_, _*_}
+use mathlib.Core.Path.{_≡_, sym, refl, _∙_, ap}
+use native.Mathlib.Numerals.{add-one}
+use lib.ListN.{length}
+use Rattle.wire.specs.Wire.{at16}
+use Rattle.cells.specs.Cells.{relaxed-upto, taken-upto}
+use Rattle.cells.proofs.relax_all.Statement.{statement}
+use Rattle.cells.proofs.relax_all.Tie as tie
+
+abbrev Inv-loop : tie.InvT-loop
+Inv-loop keys map since stamp old new₀ m changed₀ i₀ new changed i = (i ≤ m) × (length new ≡ 4 * at16 map 5) × (new ≡ relaxed-upto keys map since stamp old i) × (changed ≡ taken-upto keys map since stamp old i)
+
+abbrev μ-loop : tie.MeasureT-loop
+μ-loop keys map since stamp old new₀ m changed₀ i₀ new changed i = m - i
+
+edges-requires : tie.Need-edges-requires Inv-loop μ-loop
+edges-requires c κs = c .before .before .before .pre .0
+
+loop-holds : tie.Need-loop-holds Inv-loop μ-loop
+unfolding relaxed-upto taken-upto
+loop-holds c = let s = c .before .before .before .before in (omega arith, ap length (s .pre .2) ∙ s .pre .1, s .pre .2, refl)
+
+relax-requires : tie.Need-relax-requires Inv-loop μ-loop
+relax-requires c κs = let s = c .before .before .before .before .before .before .before in (s .pre .0, omega (arith, c .before .before .before .edges .ensures .0), s .pre .1, c .before .before .loop .inv .1)
+
+either-requires : tie.Need-either-requires Inv-loop μ-loop
+either-requires c κs = tt
+
+add-i : tie.Need-add-i Inv-loop μ-loop
+add-i c = omega arith
+
+loop-less : tie.Need-loop-less Inv-loop μ-loop
+loop-less c = omega arith
+
+loop-again : tie.Need-loop-again Inv-loop μ-loop
+unfolding relaxed-upto taken-upto
+loop-again c =
+    let l = c .before .before .before .before .before .before .loop in
+    let e = c .before .before .before .relax in (
+      omega arith,
+      c .before .before .before .relax .kept .1 .1 .1 .1 .1 .1 .0 ∙ l .inv .1,
+      e .ensures .1 ∙ rw (add-one (l .i), l .inv .2),
+      c .either .ensures ∙ rw (add-one (l .i), e .ensures .0, l .inv .3, l .inv .2),
+    )
+
+same-length : tie.Need-same-length Inv-loop μ-loop
+same-length c = let s = c .before .before .before .before .before .before in c .before .loop .inv .1 ∙ sym (ap length (s .pre .2) ∙ s .pre .1)
+
+returns : tie.Need-returns Inv-loop μ-loop
+returns c = let l = c .before .loop in let e : l .i ≡ at16 (c .before .before .before .before .before .before .args .map .now) 7 = omega (arith, c .before .before .edges .ensures .0) in (rw (← e) (l .inv .3), rw (← e) (l .inv .2))
+
+pub relax-all-spec : {M : Type 1} → statement M
+relax-all-spec =
+    tie.close
+    (tie.spec
+    Inv-loop
+    μ-loop
+    edges-requires
+    loop-holds
+    relax-requires
+    either-requires
+    add-i
+    loop-less
+    loop-again
+    same-length
+    returns)

@@ -183,14 +183,14 @@ pub fn put_term(d: Draft, t: Term) -> Draft
 pub fn put_nodes(d: Draft, nodes: [Node; 72], count: usize) -> Draft
     ensures { λ r. ⌜ (r ≡ put-list d (nodes-text (take count nodes))) × (length (nodes-text (take count nodes)) ≤ 504) ⌝ }
 {
-    let n = wire::lesser(count, 72);
+    let most = wire::lesser(count, 72);
     let mut r = d;
-    let mut i: usize = 0;
-    while i < n {
-        let node = nodes[i];
+    let mut k: usize = 0;
+    while k < most {
+        let node = nodes[k];
         let term = node.term;
         r = put_term(r, term);
-        i += 1;
+        k += 1;
     }
     r
 }

@@ -1,4 +1,5 @@
 -- `draft::put` meets its contract. Assumes nothing.
+use mathlib.Core.Path.{refl}
 use borrow.Author.Needs.{needs}
 use borrow.Author.Tests.{le-leb, lt-leb}
 use Rattle.draft.specs.Draft.{put-byte}
@@ -17,7 +18,7 @@ add-r c = search needs
 
 returns-2 : tie.Need-returns-2
 unfolding put-byte
-returns-2 c = rw (lt-leb _ _ (c .if1 .left))
+returns-2 c = rw (lt-leb _ _ (c .if1 .left)) refl
 
 pub put-spec : {M : Type 1} → statement M
 put-spec = tie.close (tie.spec returns element-write-r add-r returns-2)

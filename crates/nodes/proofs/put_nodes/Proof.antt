@@ -17,10 +17,10 @@ use Rattle.nodes.proofs.put_nodes.Statement.{statement}
 use Rattle.nodes.proofs.put_nodes.Tie as tie
 
 abbrev Inv-loop : tie.InvT-loop
-Inv-loop count nodes n r₀ i₀ r i = (i ≤ n) × (put-list r (left node-text nodes n i) ≡ put-list r₀ (nodes-text (take n nodes)))
+Inv-loop count nodes n r₀ k₀ r k = (k ≤ n) × (put-list r (left node-text nodes n k) ≡ put-list r₀ (nodes-text (take n nodes)))
 
 abbrev μ-loop : tie.MeasureT-loop
-μ-loop count nodes n r₀ i₀ r i = n - i
+μ-loop count nodes n r₀ k₀ r k = n - k
 
 lesser-requires : tie.Need-lesser-requires Inv-loop μ-loop
 lesser-requires c κs = search needs
@@ -37,8 +37,8 @@ array-copy-out-node c = omega arith
 put-term-requires : tie.Need-put-term-requires Inv-loop μ-loop
 put-term-requires c κs = search needs
 
-add-i : tie.Need-add-i Inv-loop μ-loop
-add-i c = omega arith
+add-k : tie.Need-add-k Inv-loop μ-loop
+add-k c = omega arith
 
 loop-less : tie.Need-loop-less Inv-loop μ-loop
 loop-less c = omega arith
@@ -46,13 +46,13 @@ loop-less c = omega arith
 loop-again : tie.Need-loop-again Inv-loop μ-loop
 loop-again c =
     let l = c .before .before .before .loop in
-    (omega arith, rw (c .put-term .ensures) (sym (put-more node-text (l .r) _ _ (l .i) (node Empty) (c .before .before .loop-test .taken) (omega arith)) ∙ l .inv .1))
+    (omega arith, rw (c .put-term .ensures) (sym (put-more node-text (l .r) _ _ (l .k) (node Empty) (c .before .before .loop-test .taken) (omega arith)) ∙ l .inv .1))
 
 returns : tie.Need-returns Inv-loop μ-loop
 returns c =
     let l = c .before .loop in
     let a = c .before .before .before .args in (
-      sym (put-done node-text (l .r) (a .t2) _ (l .i) (c .loop-test .left))
+      sym (put-done node-text (l .r) (a .t2) _ (l .k) (c .loop-test .left))
           ∙ l .inv .1
           ∙ ap (λ (t : List Node). put-list (a .d) (nodes-text t)) (take-least (a .count) 72 _ (a .t2) (omega arith) (c .before .before .lesser .ensures .0)),
       nodes-short (a .count) (a .t2) (omega arith),
@@ -69,7 +69,7 @@ put-nodes-spec =
     mul-node
     array-copy-out-node
     put-term-requires
-    add-i
+    add-k
     loop-less
     loop-again
     returns)

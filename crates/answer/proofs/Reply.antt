@@ -1,5 +1,5 @@
 -- The writer's reply: by what is judged before there are values, and by the encoding of an outcome. Assumes nothing.
-use Prim.Native.Nat.{ℕ, suc, _≤_, _<_}
+use Prim.Native.Nat.{ℕ, _≤_, _<_}
 use mathlib.Core.Path.{_≡_, refl, sym, ap, _∙_}
 use mathlib.Core.Bool.{Bool, true, false, cond}
 use mathlib.Core.List.{List, _++_}
@@ -12,15 +12,11 @@ use lib.Seq.{sets, sets-eq}
 use Rattle.meaning.specs.Meaning.{Outcome}
 use Rattle.value.specs.declared.Value.{Value}
 use Rattle.wire.specs.Wire.{done, fitted, refused, unless}
+use Rattle.wire.proofs.Codes.{past}
 use Rattle.answer.specs.Answer.{answer-bytes, answer-code, answer-reply, answer-rows, answer-size, encode, fields-code, head-bytes, row-count, rows-bytes}
 use Rattle.answer.proofs.Bytes.{answer-length, count-most, encode-length, sets-append}
 
 -- ---- what was judged
-
--- a test that refuses did not hold
-past : (b : Bool) (k x : ℕ) → cond b (suc k) x ≡ 0 → (b ≡ false) × (x ≡ 0)
-past true k x e = absurd (let z : suc k ≡ 0 = e in omega arith)
-past false k x e = (refl, e)
 
 pub record Fields (n kind : ℕ) : Type 0 where
   pub some-vertex : 0 < n

@@ -5,7 +5,15 @@ use mathlib.Core.List.{List}
 use lib.Dec.{ltb, eqb}
 use lib.ListN.{getD}
 use Rattle.walks.specs.Keys.{early, known}
-use Rattle.wire.specs.Header.{then}
+use Rattle.wire.specs.Header.{header-code, then}
+
+-- "a kind byte, 0 for a value at each place, 1 for one result"; "9 | code | an illegal kind"
+abbrev pub kind-code : ℕ → ℕ
+kind-code b = cond (ltb 255 b) 1 (cond (ltb 1 b) 9 0)
+
+-- how a question or a worksheet begins: its header, and its kind behind five bytes
+abbrev pub opening-code : ℕ → List ℕ → ℕ
+opening-code letter s = then (header-code letter 5 s) (kind-code (getD s 5 256))
 
 -- a byte from 1 to `most`: "9 | code | an illegal .. key count, key, operator, reduction .. byte"
 abbrev pub code-of : ℕ → ℕ → ℕ

@@ -1,14 +1,32 @@
 // Fields of terms, judged one by one (document 01, "Layouts"): "missing (1) before wrong". A byte past the end reads as 256.
 ghost use mathlib.Core.Path.{_≡_};
-ghost use Prim.Native.Nat.{ℕ, _+_, _≤_};
+ghost use Prim.Native.Nat.{_+_, _≤_};
 ghost use lib.ListN.{length, getD};
-ghost use Rattle.fields.specs.Fields.{code-of, key-code, keys-code, source-code, path-code, packed, used, path-word};
+ghost use Rattle.fields.specs.Fields.{opening-code, code-of, key-code, keys-code, source-code, path-code, packed, used, path-word};
 
 // The byte at i, or 256 past the end.
 pub fn byte(s: &[u8], i: usize) -> u16
     ensures { λ r. ⌜ (r ≡ getD (now (s .entry)) i 256) × (r ≤ 256) ⌝ }
 {
     if i < s.len() { s[i] as u16 } else { 256 }
+}
+
+// The refusal of the header and the kind of a question or worksheet, or 0.
+pub fn opening_code(s: &[u8], letter: u8) -> u8
+    ensures { λ r. ⌜ r ≡ opening-code letter (now (s .entry)) ⌝ }
+{
+    let h = wire::judge_header(s, letter, 5);
+    if h != 0 {
+        return h;
+    }
+    let kind = byte(s, 5);
+    if 255 < kind {
+        return 1;
+    }
+    if 1 < kind {
+        return 9;
+    }
+    0
 }
 
 // A byte from 1 to `most`: 1 missing, 9 another.

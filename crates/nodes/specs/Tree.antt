@@ -3,7 +3,7 @@ use Prim.Native.Nat.{ℕ}
 use mathlib.Core.Bool.{cond}
 use mathlib.Core.List.{List, [], _∷_, _++_}
 use lib.Dec.{eqb}
-use Rattle.meaning.specs.Query.{PathReduction, ResultTerm, Term, VertexReduction, VertexTerm, apply, leaf, literal}
+use Rattle.meaning.specs.Query.{ResultTerm, Term, VertexTerm, apply, leaf, literal}
 use Rattle.terms.specs.Terms.{literal-tag}
 use Rattle.term_text.specs.Text.{path-number}
 use Rattle.nodes.specs.declared.Node.{Node}

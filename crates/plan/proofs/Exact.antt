@@ -11,6 +11,8 @@ use lib.ListN.{length, getD, drop, length-append, length-drop}
 use Rattle.meaning.specs.Limits.{BodyLegal, Expression, PlanLegal, entry-terms, plan-terms, terms, unit}
 use Rattle.meaning.specs.Plan.{Body, Plan, each-vertex, one-result}
 use Rattle.meaning.specs.Query.{PathReduction}
+use Rattle.fields.specs.Fields.{opening-code}
+use Rattle.fields.proofs.Opening.{opening-found}
 use Rattle.terms.specs.declared.Walk.{Walk}
 use Rattle.terms.specs.Terms.{blank, ended, leaf-step, leaf-tag, literal-tag, read, started}
 use Rattle.term_text.specs.Text.{expression-bytes}
@@ -122,18 +124,15 @@ read-complete p l =
 accepted-parts : (s : List ℕ) → plan-code s ≡ 0
     → (header-code 0x57 5 s ≡ 0) × (getD s 5 256 ≤ 1) × (getD s 6 256 ≤ 8) × (ended s (body-scan (getD s 5 256) s (rows-scan (getD s 6 256) s (started 7))) .code ≡ 0)
 unfolding plan-scan blank
-accepted-parts s e =
-    go (eqb (header-code 0x57 5 s) 0) (ltb 255 (getD s 5 256)) (ltb 1 (getD s 5 256)) (ltb 255 (getD s 6 256)) (ltb 8 (getD s 6 256)) refl refl refl refl refl e
+accepted-parts s e = go (eqb (opening-code 0x57 s) 0) (ltb 255 (getD s 6 256)) (ltb 8 (getD s 6 256)) refl refl refl e
   where
-    go : (a b c d f : Bool) → eqb (header-code 0x57 5 s) 0 ≡ a → ltb 255 (getD s 5 256) ≡ b → ltb 1 (getD s 5 256) ≡ c → ltb 255 (getD s 6 256) ≡ d → ltb 8 (getD s 6 256) ≡ f
-        → cond a (cond b (blank 1) (cond c (blank 9) (cond d (blank 1) (cond f (blank 14) (ended s (body-scan (getD s 5 256) s (rows-scan (getD s 6 256) s (started 7)))))))) (blank (header-code 0x57 5 s)) .code ≡ 0
+    go : (a b c : Bool) → eqb (opening-code 0x57 s) 0 ≡ a → ltb 255 (getD s 6 256) ≡ b → ltb 8 (getD s 6 256) ≡ c
+        → cond a (cond b (blank 1) (cond c (blank 14) (ended s (body-scan (getD s 5 256) s (rows-scan (getD s 6 256) s (started 7)))))) (blank (opening-code 0x57 s)) .code ≡ 0
         → (header-code 0x57 5 s ≡ 0) × (getD s 5 256 ≤ 1) × (getD s 6 256 ≤ 8) × (ended s (body-scan (getD s 5 256) s (rows-scan (getD s 6 256) s (started 7))) .code ≡ 0)
-    go false b c d f p q r t u z = absurd (eqb-false (header-code 0x57 5 s) 0 p z)
-    go true true c d f p q r t u z = absurd (omega arith)
-    go true false true d f p q r t u z = absurd (omega arith)
-    go true false false true f p q r t u z = absurd (omega arith)
-    go true false false false true p q r t u z = absurd (omega arith)
-    go true false false false false p q r t u z = (eqb-true (header-code 0x57 5 s) 0 p, ltb-false 1 (getD s 5 256) r, ltb-false 8 (getD s 6 256) u, z)
+    go false b c p q r z = absurd (eqb-false (opening-code 0x57 s) 0 p z)
+    go true true c p q r z = absurd (omega arith)
+    go true false true p q r z = absurd (omega arith)
+    go true false false p q r z = let f = opening-found 0x57 s (eqb-true (opening-code 0x57 s) 0 p) in (f .0, f .1, ltb-false 8 (getD s 6 256) r, z)
 
 -- a refused state is handed on
 body-handed : (kind : ℕ) (s : List ℕ) (w : Walk) → (w .code ≡ 0 → ⊥) → body-scan kind s w ≡ w

@@ -5,9 +5,9 @@ use mathlib.Core.List.{List}
 use lib.Dec.{leb, ltb, eqb}
 use lib.ListN.{length, getD, set}
 use Rattle.terms.specs.declared.Walk.{Walk}
-use Rattle.fields.specs.Fields.{code-of, key-code, packed, source-code}
+use Rattle.fields.specs.Fields.{code-of, key-code, opening-code, packed, source-code}
 use Rattle.terms.specs.Terms.{blank, ended, read, started}
-use Rattle.wire.specs.Header.{header-code, then}
+use Rattle.wire.specs.Header.{then}
 
 -- "an illegal .. filler byte": an unused key byte, or the reduction byte of kind 0, is 0
 abbrev pub filler-code : ℕ → ℕ
@@ -92,11 +92,9 @@ unfoldable pub plan-scan : List ℕ → Walk
 plan-scan s =
     let kind = getD s 5 256 in
     let count = getD s 6 256 in
-    cond (eqb (header-code 0x57 5 s) 0)
-    (cond (ltb 255 kind) (blank 1)
-    (cond (ltb 1 kind) (blank 9)
-    (cond (ltb 255 count) (blank 1) (cond (ltb 8 count) (blank 14) (ended s (body-scan kind s (rows-scan count s (started 7))))))))
-    (blank (header-code 0x57 5 s))
+    cond (eqb (opening-code 0x57 s) 0)
+    (cond (ltb 255 count) (blank 1) (cond (ltb 8 count) (blank 14) (ended s (body-scan kind s (rows-scan count s (started 7))))))
+    (blank (opening-code 0x57 s))
 
 -- the number of the first refusal, 0 where the bytes are accepted
 abbrev pub plan-code : List ℕ → ℕ

@@ -1,9 +1,9 @@
 // Plans (document 01, worksheet `LPW`): judged and read.
 use terms::Walk;
 ghost use mathlib.Core.Path.{_≡_};
-ghost use Prim.Native.Nat.{ℕ, _+_, _≤_, _<_};
+ghost use Prim.Native.Nat.{_+_, _≤_, _<_};
 ghost use lib.ListN.{length};
-ghost use Rattle.plan.specs.Plan.{filler-code, slot-code, row-code, row-word, row-step, rows-scan, reduction-code, moved, entry-scan, entries-scan, count-code, final-scan, body-scan, plan-scan, plan-code};
+ghost use Rattle.plan.specs.Plan.{filler-code, slot-code, row-code, row-word, row-step, rows-scan, reduction-code, entry-scan, entries-scan, count-code, final-scan, body-scan, plan-scan, plan-code};
 
 // An unused key byte: 1 missing, 9 other than 0.
 fn filler_code_of(b: u16) -> u8
@@ -208,17 +208,11 @@ fn body(s: &[u8], w: Walk, kind: u16) -> Walk
 pub fn scan(s: &[u8]) -> Walk
     ensures { λ r. ⌜ r ≡ plan-scan (now (s .entry)) ⌝ }
 {
-    let h = wire::judge_header(s, 0x57, 5);
-    if h != 0 {
-        return terms::blank_of(h);
+    let c = fields::opening_code(s, 0x57);
+    if c != 0 {
+        return terms::blank_of(c);
     }
     let kind = fields::byte(s, 5);
-    if 255 < kind {
-        return terms::blank_of(1);
-    }
-    if 1 < kind {
-        return terms::blank_of(9);
-    }
     let count = fields::byte(s, 6);
     if 255 < count {
         return terms::blank_of(1);

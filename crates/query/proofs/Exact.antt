@@ -5,12 +5,14 @@ use mathlib.Core.Bool.{Bool, true, false, cond}
 use mathlib.Core.List.{List, [], _∷_, _++_, append-nil}
 use mathlib.Core.Option.{none}
 use native.Mathlib.Omega.{arith}
-use borrow.Author.Tests.{ltb-false, eqb-true, eqb-false, le-ltb}
-use lib.Dec.{ltb, eqb}
+use borrow.Author.Tests.{eqb-true, eqb-false, le-ltb}
+use lib.Dec.{eqb}
 use lib.ListN.{length, getD, drop, length-append, length-drop}
 use Rattle.meaning.specs.Limits.{QueryLegal, query-reductions, query-terms}
 use Rattle.meaning.specs.Plan.{put-all}
 use Rattle.meaning.specs.Query.{PathReduction, Query, each, single, written-paths}
+use Rattle.fields.specs.Fields.{opening-code}
+use Rattle.fields.proofs.Opening.{opening-found}
 use Rattle.terms.specs.declared.Walk.{Walk}
 use Rattle.terms.specs.Terms.{blank, ended, read, started}
 use Rattle.term_text.specs.Text.{place-bytes, result-bytes}
@@ -82,18 +84,13 @@ read-complete (single t) l =
 -- what an accepted text is: its header, a kind, a term and nothing after it
 accepted-parts : (s : List ℕ) → query-code s ≡ 0 → (header-code 0x51 5 s ≡ 0) × (getD s 5 256 ≤ 1) × (ended s (read (getD s 5 256) 16 s (started 6)) .code ≡ 0)
 unfolding query-scan blank
-accepted-parts s e = go (eqb (header-code 0x51 5 s) 0) (ltb 255 (getD s 5 256)) (ltb 1 (getD s 5 256)) refl refl refl e
+accepted-parts s e = go (eqb (opening-code 0x51 s) 0) refl e
   where
-    w : Walk
-    w = ended s (read (getD s 5 256) 16 s (started 6))
-
-    go : (a b c : Bool) → eqb (header-code 0x51 5 s) 0 ≡ a → ltb 255 (getD s 5 256) ≡ b → ltb 1 (getD s 5 256) ≡ c
-        → cond a (cond b (blank 1) (cond c (blank 9) (ended s (read (getD s 5 256) 16 s (started 6))))) (blank (header-code 0x51 5 s)) .code ≡ 0
+    go : (a : Bool) → eqb (opening-code 0x51 s) 0 ≡ a
+        → cond a (ended s (read (getD s 5 256) 16 s (started 6))) (blank (opening-code 0x51 s)) .code ≡ 0
         → (header-code 0x51 5 s ≡ 0) × (getD s 5 256 ≤ 1) × (ended s (read (getD s 5 256) 16 s (started 6)) .code ≡ 0)
-    go false b c p q r z = absurd (eqb-false (header-code 0x51 5 s) 0 p z)
-    go true true c p q r z = absurd (omega arith)
-    go true false true p q r z = absurd (omega arith)
-    go true false false p q r z = (eqb-true (header-code 0x51 5 s) 0 p, ltb-false 1 (getD s 5 256) r, z)
+    go false p z = absurd (eqb-false (opening-code 0x51 s) 0 p z)
+    go true p z = let f = opening-found 0x51 s (eqb-true (opening-code 0x51 s) 0 p) in (f .0, f .1, z)
 
 -- ACCEPTED BYTES ARE THE ENCODING OF A LEGAL QUERY
 pub read-sound : (s : List ℕ) → Bytes s → query-code s ≡ 0 → (q : Query) × QueryLegal 256 q × (encode q ≡ s)

@@ -2,13 +2,14 @@
 use Prim.Native.Nat.{ℕ}
 use mathlib.Core.Bool.{cond}
 use mathlib.Core.List.{List, _∷_, _++_}
-use lib.Dec.{ltb, eqb}
+use lib.Dec.{eqb}
 use lib.ListN.{getD}
 use Rattle.meaning.specs.Query.{Query, each, single}
+use Rattle.fields.specs.Fields.{opening-code}
 use Rattle.terms.specs.declared.Walk.{Walk}
 use Rattle.terms.specs.Terms.{blank, ended, read, started}
 use Rattle.term_text.specs.Text.{place-bytes, result-bytes}
-use Rattle.wire.specs.Header.{header-bytes, header-code}
+use Rattle.wire.specs.Header.{header-bytes}
 
 -- "a kind byte, 0 for a value at each place, 1 for one result, then one term written operator first"
 abbrev pub body-bytes : Query → List ℕ
@@ -21,10 +22,7 @@ encode q = header-bytes 0x51 ++ body-bytes q
 -- the reading: header, kind, the term to a depth of 16, left-over bytes
 unfoldable pub query-scan : List ℕ → Walk
 query-scan s =
-    let kind = getD s 5 256 in
-    cond (eqb (header-code 0x51 5 s) 0)
-    (cond (ltb 255 kind) (blank 1) (cond (ltb 1 kind) (blank 9) (ended s (read kind 16 s (started 6)))))
-    (blank (header-code 0x51 5 s))
+    cond (eqb (opening-code 0x51 s) 0) (ended s (read (getD s 5 256) 16 s (started 6))) (blank (opening-code 0x51 s))
 
 -- the number of the first refusal, 0 where the bytes are accepted
 abbrev pub query-code : List ℕ → ℕ

@@ -7,17 +7,11 @@ ghost use Rattle.query.specs.Query.{query-scan, query-code};
 pub fn scan(s: &[u8]) -> Walk
     ensures { λ r. ⌜ r ≡ query-scan (now (s .entry)) ⌝ }
 {
-    let h = wire::judge_header(s, 0x51, 5);
-    if h != 0 {
-        return terms::blank_of(h);
+    let c = fields::opening_code(s, 0x51);
+    if c != 0 {
+        return terms::blank_of(c);
     }
     let kind = fields::byte(s, 5);
-    if 255 < kind {
-        return terms::blank_of(1);
-    }
-    if 1 < kind {
-        return terms::blank_of(9);
-    }
     let read = terms::read_term(s, terms::start(6), kind as u8, 16);
     terms::finish(s, read)
 }

@@ -1,7 +1,7 @@
 // The reader of terms, of questions and worksheets alike (document 01, "Layouts"): bytes judged left to right, each term by the
 // numbers 1, 12, 11, 9 and then its fields. The result is how far the reading has come, or one blank state with the refusal.
 ghost use mathlib.Core.Path.{_≡_};
-ghost use Prim.Native.Nat.{ℕ, _+_, _≤_, _<_, max};
+ghost use Prim.Native.Nat.{_+_, _≤_, _<_, max};
 ghost use lib.ListN.{length};
 ghost use Rattle.terms.specs.Terms.{blank, stopped, slot-of, kept-path, advanced, path-step, reduce-step, index-step, leaf-step, literal-step, apply-step, leaf-tag, literal-tag, term-step, read, started, ended};
 

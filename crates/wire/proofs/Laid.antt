@@ -7,7 +7,7 @@ use native.Mathlib.Omega.{arith}
 use borrow.Author.Tests.{lt-ltb, le-ltb}
 use lib.ListN.{length, take, drop, length-take}
 use lib.Seq.{take-all, take-length}
-use Rattle.wire.specs.Wire.{Reply, done, refused, reply-number, reply-buffer, fitted}
+use Rattle.wire.specs.Wire.{done, refused, reply-number, reply-buffer, fitted}
 
 module _ (s : List ℕ) (n k : ℕ) (e : k ≡ min n (length s)) where
   pub front-length : length (take k s) ≡ k

@@ -6,7 +6,7 @@ ghost use lib.ListN.{length, take};
 ghost use Rattle.wire.specs.Header.{header-code};
 ghost use Rattle.wire.specs.Wire.{fitted, reply-number, reply-buffer};
 
-// The refusal of the first five bytes of a file that has `least` bytes or more, or 0.
+// The refusal of a file's first five bytes, or 0: short (under five bytes, or under `least`), other letters, another version.
 pub fn judge_header(s: &[u8], letter: u8, least: usize) -> u8
     ensures { λ r. ⌜ r ≡ header-code letter least (now (s .entry)) ⌝ }
 {

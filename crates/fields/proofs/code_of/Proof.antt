@@ -1,5 +1,4 @@
 use Rattle.fields.proofs.code_of.Statement.{statement}
-use native.Mathlib.Omega.{arith}
 use borrow.Author.Tests.{eq-eqb, le-ltb, lt-ltb, ne-eqb}
 use Rattle.fields.proofs.code_of.Tie as tie
 use Rattle.fields.proofs.code_of.Reads as reads

@@ -1,5 +1,4 @@
 use borrow.Author.Needs.{needs}
-use native.Mathlib.Omega.{arith}
 use borrow.Author.Tests.{eq-eqb, le-ltb, lt-ltb, ne-eqb}
 use Rattle.fields.proofs.source_code.Statement.{statement}
 use Rattle.fields.proofs.source_code.Tie as tie

@@ -1,6 +1,5 @@
 -- `fields::used_of` meets its contract. Assumes nothing.
 use Rattle.fields.proofs.used_of.Statement.{statement}
-use native.Mathlib.Omega.{arith}
 use borrow.Author.Tests.{le-ltb, lt-ltb}
 use Rattle.fields.proofs.used_of.Tie as tie
 

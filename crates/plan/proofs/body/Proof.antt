@@ -1,6 +1,5 @@
 -- `plan::body` meets its contract. Assumes nothing.
 use borrow.Author.Needs.{needs}
-use native.Mathlib.Omega.{arith}
 use borrow.Author.Tests.{eq-eqb, le-leb, lt-leb, ne-eqb}
 use Rattle.plan.specs.Plan.{body-scan, moved}
 use Rattle.plan.proofs.body.Statement.{statement}

@@ -1,6 +1,5 @@
 -- `plan::filler_code_of` meets its contract. Assumes nothing.
 use Rattle.plan.proofs.filler_code_of.Statement.{statement}
-use native.Mathlib.Omega.{arith}
 use borrow.Author.Tests.{eq-eqb, le-ltb, lt-ltb, ne-eqb}
 use Rattle.plan.proofs.filler_code_of.Tie as tie
 

@@ -1,6 +1,5 @@
 -- `plan::final_of` meets its contract. Assumes nothing.
 use borrow.Author.Needs.{needs}
-use native.Mathlib.Omega.{arith}
 use borrow.Author.Tests.{eq-eqb, ne-eqb}
 use Rattle.plan.specs.Plan.{final-scan}
 use Rattle.plan.proofs.final_of.Statement.{statement}

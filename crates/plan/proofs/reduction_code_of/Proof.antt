@@ -1,6 +1,5 @@
 -- `plan::reduction_code_of` meets its contract. Assumes nothing.
 use borrow.Author.Needs.{needs}
-use native.Mathlib.Omega.{arith}
 use borrow.Author.Tests.{eq-eqb, ne-eqb}
 use Rattle.plan.proofs.reduction_code_of.Statement.{statement}
 use Rattle.plan.proofs.reduction_code_of.Tie as tie

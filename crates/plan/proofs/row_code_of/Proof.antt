@@ -1,6 +1,5 @@
 -- `plan::row_code_of` meets its contract. Assumes nothing.
 use borrow.Author.Needs.{needs}
-use native.Mathlib.Omega.{arith}
 use borrow.Author.Tests.{eq-eqb, ne-eqb}
 use Rattle.plan.specs.Plan.{row-code}
 use Rattle.plan.proofs.row_code_of.Statement.{statement}

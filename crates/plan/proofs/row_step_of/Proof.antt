@@ -1,7 +1,6 @@
 -- `plan::row_step_of` meets its contract. Assumes nothing.
 use borrow.Author.Needs.{needs}
 use mathlib.Core.Path.{refl}
-use native.Mathlib.Omega.{arith}
 use borrow.Author.Tests.{eq-eqb, le-leb, lt-leb, ne-eqb}
 use Rattle.plan.specs.Plan.{row-step}
 use Rattle.plan.proofs.row_step_of.Statement.{statement}

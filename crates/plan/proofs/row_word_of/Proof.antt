@@ -1,6 +1,5 @@
 -- `plan::row_word_of` meets its contract. Assumes nothing.
 use borrow.Author.Needs.{needs}
-use native.Mathlib.Omega.{arith}
 use Rattle.plan.specs.Plan.{row-word}
 use Rattle.plan.proofs.row_word_of.Statement.{statement}
 use Rattle.plan.proofs.row_word_of.Tie as tie

@@ -1,54 +1,39 @@
 -- `plan::scan` meets its contract. Assumes nothing.
 use borrow.Author.Needs.{needs}
-use native.Mathlib.Omega.{arith}
 use borrow.Author.Tests.{eq-eqb, le-ltb, lt-ltb, ne-eqb}
 use Rattle.plan.specs.Plan.{plan-scan}
 use Rattle.plan.proofs.scan.Statement.{statement}
 use Rattle.plan.proofs.scan.Tie as tie
 
-judge-header-requires : tie.Need-judge-header-requires
-judge-header-requires c κs = search needs
+opening-code-requires : tie.Need-opening-code-requires
+opening-code-requires c κs = search needs
 
 blank-of-requires : tie.Need-blank-of-requires
 blank-of-requires c κs = search needs
 
 returns : tie.Need-returns
 unfolding plan-scan
-returns c = rw (← c .before .before .judge-header .ensures, ne-eqb _ _ (c .before .if1 .taken)) (c .blank-of .ensures)
+returns c = rw (← c .before .before .opening-code .ensures, ne-eqb _ _ (c .before .if1 .taken)) (c .blank-of .ensures)
 
 byte-requires : tie.Need-byte-requires
 byte-requires c κs = search needs
+
+byte-requires-2 : tie.Need-byte-requires-2
+byte-requires-2 c κs = search needs
 
 blank-of-requires-2 : tie.Need-blank-of-requires-2
 blank-of-requires-2 c κs = search needs
 
 returns-2 : tie.Need-returns-2
 unfolding plan-scan
-returns-2 c = rw (← c .before .before .before .before .judge-header .ensures, eq-eqb _ _ (c .before .before .before .if1 .left), ← c .before .before .byte .ensures .0, lt-ltb _ _ (c .before .if2 .taken)) (c .blank-of2 .ensures)
+returns-2 c = rw (← c .before .before .before .before .before .opening-code .ensures, eq-eqb _ _ (c .before .before .before .before .if1 .left), ← c .before .before .before .byte .ensures .0, ← c .before .before .byte2 .ensures .0, lt-ltb _ _ (c .before .if2 .taken)) (c .blank-of2 .ensures)
 
 blank-of-requires-3 : tie.Need-blank-of-requires-3
 blank-of-requires-3 c κs = search needs
 
 returns-3 : tie.Need-returns-3
 unfolding plan-scan
-returns-3 c = rw (← c .before .before .before .before .before .judge-header .ensures, eq-eqb _ _ (c .before .before .before .before .if1 .left), ← c .before .before .before .byte .ensures .0, le-ltb _ _ (c .before .before .if2 .left), lt-ltb _ _ (c .before .if3 .taken)) (c .blank-of3 .ensures)
-
-byte-requires-2 : tie.Need-byte-requires-2
-byte-requires-2 c κs = search needs
-
-blank-of-requires-4 : tie.Need-blank-of-requires-4
-blank-of-requires-4 c κs = search needs
-
-returns-4 : tie.Need-returns-4
-unfolding plan-scan
-returns-4 c = rw (← c .before .before .before .before .before .before .before .judge-header .ensures, eq-eqb _ _ (c .before .before .before .before .before .before .if1 .left), ← c .before .before .before .before .before .byte .ensures .0, le-ltb _ _ (c .before .before .before .before .if2 .left), le-ltb _ _ (c .before .before .before .if3 .left), ← c .before .before .byte2 .ensures .0, lt-ltb _ _ (c .before .if4 .taken)) (c .blank-of4 .ensures)
-
-blank-of-requires-5 : tie.Need-blank-of-requires-5
-blank-of-requires-5 c κs = search needs
-
-returns-5 : tie.Need-returns-5
-unfolding plan-scan
-returns-5 c = rw (← c .before .before .before .before .before .before .before .before .judge-header .ensures, eq-eqb _ _ (c .before .before .before .before .before .before .before .if1 .left), ← c .before .before .before .before .before .before .byte .ensures .0, le-ltb _ _ (c .before .before .before .before .before .if2 .left), le-ltb _ _ (c .before .before .before .before .if3 .left), ← c .before .before .before .byte2 .ensures .0, le-ltb _ _ (c .before .before .if4 .left), lt-ltb _ _ (c .before .if5 .taken)) (c .blank-of5 .ensures)
+returns-3 c = rw (← c .before .before .before .before .before .before .opening-code .ensures, eq-eqb _ _ (c .before .before .before .before .before .if1 .left), ← c .before .before .before .before .byte .ensures .0, ← c .before .before .before .byte2 .ensures .0, le-ltb _ _ (c .before .before .if2 .left), lt-ltb _ _ (c .before .if3 .taken)) (c .blank-of3 .ensures)
 
 start-requires : tie.Need-start-requires
 start-requires c κs = search needs
@@ -65,30 +50,26 @@ body-requires c κs = search needs
 finish-requires : tie.Need-finish-requires
 finish-requires c κs = search needs
 
-returns-6 : tie.Need-returns-6
+returns-4 : tie.Need-returns-4
 unfolding plan-scan
-returns-6 c = rw (← c .before .before .before .before .before .before .before .before .before .before .before .judge-header .ensures, eq-eqb _ _ (c .before .before .before .before .before .before .before .before .before .before .if1 .left), ← c .before .before .before .before .before .before .before .before .before .byte .ensures .0, le-ltb _ _ (c .before .before .before .before .before .before .before .before .if2 .left), le-ltb _ _ (c .before .before .before .before .before .before .before .if3 .left), ← c .before .before .before .before .before .before .byte2 .ensures .0, le-ltb _ _ (c .before .before .before .before .before .if4 .left), le-ltb _ _ (c .before .before .before .before .if5 .left), ← c .before .before .before .start .ensures, ← c .before .before .rows .ensures, ← c .before .body .ensures) (c .finish .ensures)
+returns-4 c = rw (← c .before .before .before .before .before .before .before .before .before .opening-code .ensures, eq-eqb _ _ (c .before .before .before .before .before .before .before .before .if1 .left), ← c .before .before .before .before .before .before .before .byte .ensures .0, ← c .before .before .before .before .before .before .byte2 .ensures .0, le-ltb _ _ (c .before .before .before .before .before .if2 .left), le-ltb _ _ (c .before .before .before .before .if3 .left), ← c .before .before .before .start .ensures, ← c .before .before .rows .ensures, ← c .before .body .ensures) (c .finish .ensures)
 
 pub scan-spec : {M : Type 1} → statement M
 scan-spec =
     tie.close
     (tie.spec
-    judge-header-requires
+    opening-code-requires
     blank-of-requires
     returns
     byte-requires
+    byte-requires-2
     blank-of-requires-2
     returns-2
     blank-of-requires-3
     returns-3
-    byte-requires-2
-    blank-of-requires-4
-    returns-4
-    blank-of-requires-5
-    returns-5
     start-requires
     cast-rows
     rows-requires
     body-requires
     finish-requires
-    returns-6)
+    returns-4)

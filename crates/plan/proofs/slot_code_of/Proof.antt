@@ -1,6 +1,5 @@
 -- `plan::slot_code_of` meets its contract. Assumes nothing.
 use borrow.Author.Needs.{needs}
-use native.Mathlib.Omega.{arith}
 use borrow.Author.Tests.{le-ltb, lt-ltb}
 use Rattle.plan.proofs.slot_code_of.Statement.{statement}
 use Rattle.plan.proofs.slot_code_of.Tie as tie

@@ -1,43 +1,31 @@
 -- `query::scan` meets its contract. Assumes nothing.
+use mathlib.Core.Path.{sym, _∙_}
 use borrow.Author.Needs.{needs}
 use native.Mathlib.Omega.{arith}
-use borrow.Author.Tests.{eq-eqb, le-ltb, lt-ltb, ne-eqb}
+use borrow.Author.Tests.{eq-eqb, ne-eqb}
+use Rattle.fields.proofs.Opening.{opening-found}
 use Rattle.query.specs.Query.{query-scan}
 use Rattle.query.proofs.scan.Statement.{statement}
 use Rattle.query.proofs.scan.Tie as tie
 
-judge-header-requires : tie.Need-judge-header-requires
-judge-header-requires c κs = search needs
+opening-code-requires : tie.Need-opening-code-requires
+opening-code-requires c κs = search needs
 
 blank-of-requires : tie.Need-blank-of-requires
 blank-of-requires c κs = search needs
 
 returns : tie.Need-returns
 unfolding query-scan
-returns c = rw (← c .before .before .judge-header .ensures, ne-eqb _ _ (c .before .if1 .taken)) (c .blank-of .ensures)
+returns c = rw (← c .before .before .opening-code .ensures, ne-eqb _ _ (c .before .if1 .taken)) (c .blank-of .ensures)
 
 byte-requires : tie.Need-byte-requires
 byte-requires c κs = search needs
-
-blank-of-requires-2 : tie.Need-blank-of-requires-2
-blank-of-requires-2 c κs = search needs
-
-returns-2 : tie.Need-returns-2
-unfolding query-scan
-returns-2 c = rw (← c .before .before .before .before .judge-header .ensures, eq-eqb _ _ (c .before .before .before .if1 .left), ← c .before .before .byte .ensures .0, lt-ltb _ _ (c .before .if2 .taken)) (c .blank-of2 .ensures)
-
-blank-of-requires-3 : tie.Need-blank-of-requires-3
-blank-of-requires-3 c κs = search needs
-
-returns-3 : tie.Need-returns-3
-unfolding query-scan
-returns-3 c = rw (← c .before .before .before .before .before .judge-header .ensures, eq-eqb _ _ (c .before .before .before .before .if1 .left), ← c .before .before .before .byte .ensures .0, le-ltb _ _ (c .before .before .if2 .left), lt-ltb _ _ (c .before .if3 .taken)) (c .blank-of3 .ensures)
 
 start-requires : tie.Need-start-requires
 start-requires c κs = search needs
 
 cast-read-term : tie.Need-cast-read-term
-cast-read-term c = search needs
+cast-read-term c = omega (arith, c .before .byte .ensures .0, opening-found 0x51 _ (sym (c .before .before .before .opening-code .ensures) ∙ c .before .before .if1 .left) .1)
 
 read-term-requires : tie.Need-read-term-requires
 read-term-requires c κs = search needs
@@ -45,24 +33,20 @@ read-term-requires c κs = search needs
 finish-requires : tie.Need-finish-requires
 finish-requires c κs = search needs
 
-returns-4 : tie.Need-returns-4
+returns-2 : tie.Need-returns-2
 unfolding query-scan
-returns-4 c = rw (← c .before .before .before .before .before .before .before .judge-header .ensures, eq-eqb _ _ (c .before .before .before .before .before .before .if1 .left), ← c .before .before .before .before .before .byte .ensures .0, le-ltb _ _ (c .before .before .before .before .if2 .left), le-ltb _ _ (c .before .before .before .if3 .left), ← c .before .before .start .ensures, ← c .before .read-term .ensures) (c .finish .ensures)
+returns-2 c = rw (← c .before .before .before .before .before .opening-code .ensures, eq-eqb _ _ (c .before .before .before .before .if1 .left), ← c .before .before .before .byte .ensures .0, ← c .before .before .start .ensures, ← c .before .read-term .ensures) (c .finish .ensures)
 
 pub scan-spec : {M : Type 1} → statement M
 scan-spec =
     tie.close
     (tie.spec
-    judge-header-requires
+    opening-code-requires
     blank-of-requires
     returns
     byte-requires
-    blank-of-requires-2
-    returns-2
-    blank-of-requires-3
-    returns-3
     start-requires
     cast-read-term
     read-term-requires
     finish-requires
-    returns-4)
+    returns-2)

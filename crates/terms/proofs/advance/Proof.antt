@@ -1,6 +1,5 @@
 use borrow.Author.Needs.{needs}
-use native.Mathlib.Omega.{arith}
-use mathlib.Core.Path.{refl, sym, _∙_}
+use mathlib.Core.Path.{refl}
 use Rattle.terms.specs.Terms.{advanced}
 use Rattle.terms.proofs.advance.Statement.{statement}
 use Rattle.terms.proofs.advance.Tie as tie

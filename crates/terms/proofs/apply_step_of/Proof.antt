@@ -1,7 +1,6 @@
 -- `terms::apply_step_of` meets its contract. Assumes nothing.
 use borrow.Author.Needs.{needs}
 use mathlib.Core.Path.{refl}
-use native.Mathlib.Omega.{arith}
 use borrow.Author.Tests.{eq-eqb, ne-eqb}
 use Rattle.terms.specs.Terms.{apply-step}
 use Rattle.terms.proofs.apply_step_of.Statement.{statement}

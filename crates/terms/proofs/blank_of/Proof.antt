@@ -1,6 +1,5 @@
 use Rattle.terms.proofs.blank_of.Statement.{statement}
-use native.Mathlib.Omega.{arith}
-use mathlib.Core.Path.{refl, sym, _∙_}
+use mathlib.Core.Path.{refl}
 use Rattle.terms.specs.Terms.{blank}
 use Rattle.terms.proofs.blank_of.Tie as tie
 use Rattle.terms.proofs.blank_of.Reads as reads

@@ -1,6 +1,5 @@
 -- `terms::finish` meets its contract. Assumes nothing.
 use borrow.Author.Needs.{needs}
-use native.Mathlib.Omega.{arith}
 use borrow.Author.Tests.{eq-eqb, le-ltb, lt-ltb, ne-eqb}
 use Rattle.terms.specs.Terms.{ended}
 use Rattle.terms.proofs.finish.Statement.{statement}

@@ -1,7 +1,6 @@
 -- `terms::index_step_of` meets its contract. Assumes nothing.
 use borrow.Author.Needs.{needs}
 use mathlib.Core.Path.{refl}
-use native.Mathlib.Omega.{arith}
 use borrow.Author.Tests.{le-leb, le-ltb, lt-leb, lt-ltb}
 use Rattle.terms.specs.Terms.{index-step}
 use Rattle.terms.proofs.index_step_of.Statement.{statement}

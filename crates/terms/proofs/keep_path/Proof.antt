@@ -1,7 +1,6 @@
 -- `terms::keep_path` meets its contract. Assumes nothing.
 use borrow.Author.Needs.{needs}
 use mathlib.Core.Path.{refl}
-use native.Mathlib.Omega.{arith}
 use borrow.Author.Tests.{le-leb, lt-leb}
 use Rattle.terms.specs.Terms.{kept-path}
 use Rattle.terms.proofs.keep_path.Statement.{statement}

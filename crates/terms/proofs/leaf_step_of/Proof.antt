@@ -1,6 +1,5 @@
 -- `terms::leaf_step_of` meets its contract. Assumes nothing.
 use borrow.Author.Needs.{needs}
-use native.Mathlib.Omega.{arith}
 use borrow.Author.Tests.{eq-eqb, ne-eqb}
 use Rattle.terms.specs.Terms.{leaf-step}
 use Rattle.terms.proofs.leaf_step_of.Statement.{statement}

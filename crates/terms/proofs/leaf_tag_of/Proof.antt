@@ -1,5 +1,4 @@
 use Rattle.terms.proofs.leaf_tag_of.Statement.{statement}
-use native.Mathlib.Omega.{arith}
 use borrow.Author.Tests.{eq-eqb, ne-eqb}
 use Rattle.terms.specs.Terms.{leaf-tag}
 use Rattle.terms.proofs.leaf_tag_of.Tie as tie

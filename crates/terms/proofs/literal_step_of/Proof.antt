@@ -1,7 +1,6 @@
 -- `terms::literal_step_of` meets its contract. Assumes nothing.
 use borrow.Author.Needs.{needs}
 use mathlib.Core.Path.{refl}
-use native.Mathlib.Omega.{arith}
 use borrow.Author.Tests.{le-ltb, lt-ltb}
 use Rattle.terms.specs.Terms.{literal-step}
 use Rattle.terms.proofs.literal_step_of.Statement.{statement}

@@ -1,7 +1,6 @@
 -- `terms::start` meets its contract. Assumes nothing.
 use Rattle.terms.proofs.start.Statement.{statement}
-use native.Mathlib.Omega.{arith}
-use mathlib.Core.Path.{refl, sym, _∙_}
+use mathlib.Core.Path.{refl}
 use Rattle.terms.specs.Terms.{started}
 use Rattle.terms.proofs.start.Tie as tie
 

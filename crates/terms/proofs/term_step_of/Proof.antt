@@ -1,6 +1,5 @@
 -- `terms::term_step_of` meets its contract. Assumes nothing.
 use borrow.Author.Needs.{needs}
-use native.Mathlib.Omega.{arith}
 use borrow.Author.Tests.{eq-eqb, le-leb, lt-leb, ne-eqb}
 use Rattle.terms.specs.Terms.{term-step}
 use Rattle.terms.proofs.term_step_of.Statement.{statement}

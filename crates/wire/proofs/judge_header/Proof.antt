@@ -1,7 +1,6 @@
 -- `wire::judge_header` meets its contract. Assumes nothing.
 use mathlib.Core.Path.{refl}
 use borrow.Author.Needs.{needs}
-use native.Mathlib.Omega.{arith}
 use borrow.Author.Tests.{eq-eqb, le-ltb, lt-ltb, ne-eqb}
 use Rattle.wire.specs.Header.{header-code}
 use Rattle.wire.proofs.judge_header.Statement.{statement}

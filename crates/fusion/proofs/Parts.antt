@@ -1,0 +1,63 @@
+-- What the loops' proofs cite: the search in a table, and what is left of the nodes. Assumes nothing.
+use Prim.Native.Nat.{ℕ, suc, _+_, _-_, _≤_, _<_}
+use mathlib.Core.Path.{_≡_, refl, ap, _∙_}
+use mathlib.Core.List.{List, [], _∷_}
+use native.Mathlib.Numerals.{add-one}
+use native.Mathlib.Omega.{arith}
+use borrow.Author.Tests.{eq-eqb, le-leb, lt-leb, ne-eqb}
+use lib.ListN.{length, getD, set, drop, take, drop-of-length-le}
+use lib.Seq.{drop-cons}
+use Rattle.nodes.specs.declared.Node.{Node}
+use Rattle.nodes.specs.declared.Term.{Term}
+use Rattle.nodes.specs.Nodes.{node}
+use Rattle.fusion.specs.declared.Written.{Written}
+use Rattle.fusion.specs.Fusion.{fused-term, index-of, put-part, put-term, reduces, size}
+
+-- from place i on the search goes as from the start
+module _ (w : ℕ) (table : List ℕ) (i : ℕ) (h : i < length table) where
+  pub index-here : getD table i 0 ≡ w → i + index-of w (drop i table) ≡ i
+  unfolding index-of
+  index-here e = rw (drop-cons table i 0 h, eq-eqb (getD table i 0) w e) (omega arith)
+
+  pub index-next : (getD table i 0 ≡ w → ⊥) → i + index-of w (drop i table) ≡ i + 1 + index-of w (drop (i + 1) table)
+  unfolding index-of
+  index-next n = rw (drop-cons table i 0 h, ne-eqb (getD table i 0) w n, add-one i) (omega arith)
+
+pub index-none : (w : ℕ) (table : List ℕ) (i : ℕ) → length table ≤ i → i + index-of w (drop i table) ≡ i
+unfolding index-of
+index-none w table i h = rw (drop-of-length-le table h) (omega arith)
+
+-- n of the nodes from the i-th on
+abbrev pub left : List Node → ℕ → ℕ → List Node
+left l n i = take (n - i) (drop i l)
+
+-- so many nodes written
+abbrev pub written : List Node → ℕ → Written
+written l n = record { list = l; len = n }
+
+put-room : (list : List Node) (len : ℕ) (t : Term) → len < 72 → put-term (written list len) t ≡ written (set list len (node t)) (len + size t)
+unfolding put-term
+put-room list len t h = rw (lt-leb 72 len h) refl
+
+-- a part goes on behind the node at i, where there is room
+pub part-more : (part : ℕ) (table : List ℕ) (k : ℕ) (list : List Node) (len : ℕ) (l : List Node) (n i : ℕ) (z : Node) → len < 72 → i < n → n ≤ length l
+    → put-part part table k (written list len) (left l n i)
+    ≡ put-part part table (k + reduces (getD l i z .term))
+    (written (set list len (node (fused-term part table k (getD l i z .term)))) (len + size (fused-term part table k (getD l i z .term)))) (left l n (i + 1))
+unfolding put-part
+part-more part table k list len l n i z r h m =
+    let e : n - i ≡ suc (n - (i + 1)) = omega arith in
+    let t = fused-term part table k (getD l i z .term) in
+    let q : left l n i ≡ getD l i z ∷ left l n (i + 1) = rw (e, drop-cons l i z (omega arith), ← add-one i) refl in
+    ap (put-part part table k (written list len)) q
+    ∙ ap (λ (d : Written). put-part part table (k + reduces (getD l i z .term)) d (left l n (i + 1))) (put-room list len t r)
+
+pub part-done : (part : ℕ) (table : List ℕ) (k : ℕ) (d : Written) (l : List Node) (n i : ℕ) → n ≤ i → put-part part table k d (left l n i) ≡ d
+unfolding put-part
+part-done part table k d l n i h = let e : n - i ≡ 0 = omega arith in rw e refl
+
+-- nothing is put where there is no room
+pub part-full : (part : ℕ) (table : List ℕ) (k : ℕ) (d : Written) (l : List Node) → 72 ≤ d .len → put-part part table k d l ≡ d
+unfolding put-part put-term
+part-full part table k d [] h = refl
+part-full part table k d (n ∷ l) h = rw (le-leb 72 (d .len) h) (part-full part table (k + reduces (n .term)) d l h)

@@ -1,0 +1,21 @@
+-- `fusion::start_of` meets its contract. Assumes nothing.
+use mathlib.Core.Path.{refl}
+use borrow.Author.Needs.{needs}
+use borrow.Author.Tests.{eq-eqb, ne-eqb}
+use Rattle.fusion.specs.Fusion.{started}
+use Rattle.fusion.proofs.start_of.Statement.{statement}
+use Rattle.fusion.proofs.start_of.Tie as tie
+
+returns : tie.Need-returns
+unfolding started
+returns c = rw (ne-eqb _ _ (c .if1 .taken)) refl
+
+array-set-from-list : tie.Need-array-set-from-list
+array-set-from-list c = search needs
+
+returns-2 : tie.Need-returns-2
+unfolding started
+returns-2 c = rw (eq-eqb _ _ (c .if1 .left)) refl
+
+pub start-of-spec : {M : Type 1} → statement M
+start-of-spec = tie.close (tie.spec returns array-set-from-list returns-2)

@@ -1,16 +1,16 @@
--- The refusal of a reading is that of the bytes. Assumes nothing.
+-- The reply by what was read: a refusal, or the writer's reply to the fused form. Assumes nothing.
 use Prim.Native.Nat.{ℕ}
-use mathlib.Core.Path.{_≡_, refl, sym}
-use mathlib.Core.Bool.{Bool, true, false, cond}
+use mathlib.Core.Path.{_≡_, refl, sym, _∙_}
+use mathlib.Core.Bool.{Bool, true, false}
 use mathlib.Core.List.{List}
-use borrow.Author.Tests.{eqb-true}
+use borrow.Author.Tests.{eq-eqb, eqb-true, ne-eqb}
 use lib.Dec.{eqb}
-use lib.ListN.{getD}
-use Rattle.nodes.specs.Nodes.{nodes-read}
+use Rattle.plan_form.specs.Form.{write-reply}
 use Rattle.query.specs.Query.{query-code, query-scan}
-use Rattle.query_form.specs.declared.Reading.{Reading}
 use Rattle.query_form.specs.Form.{blank-reading, query-reading, read-after}
 use Rattle.terms.specs.declared.Walk.{Walk}
+use Rattle.wire.specs.Wire.{refused}
+use Rattle.fusion.specs.Fusion.{fuse-reply, fused-form}
 
 pub reading-code : (s : List ℕ) → query-reading s .code ≡ query-code s
 unfolding read-after blank-reading
@@ -19,3 +19,12 @@ reading-code s = go (query-scan s) (eqb (query-code s) 0) refl
     go : (w : Walk) (b : Bool) → eqb (w .code) 0 ≡ b → read-after s w .code ≡ w .code
     go w true e = rw e (sym (eqb-true (w .code) 0 e))
     go w false e = rw e refl
+
+module _ (s : List ℕ) (room : ℕ) where
+  pub reply-refused : (query-reading s .code ≡ 0 → ⊥) → fuse-reply s room ≡ refused (query-reading s .code)
+  unfolding fuse-reply
+  reply-refused n = rw (reading-code s, ne-eqb (query-code s) 0 (λ z. n (reading-code s ∙ z))) refl
+
+  pub reply-written : query-reading s .code ≡ 0 → fuse-reply s room ≡ write-reply (fused-form (query-reading s)) room
+  unfolding fuse-reply
+  reply-written z = rw (eq-eqb (query-code s) 0 (sym (reading-code s) ∙ z)) refl

@@ -22,13 +22,13 @@ const ENTRIES: u8 = 0;
 const FINAL: u8 = 1;
 
 // Where the path reduction stands in the table; 8 where it does not.
-fn position_of(table: [u64; 8], w: u64) -> u8
-    ensures { λ r. ⌜ r ≡ index-of w table ⌝ }
+fn position_of(table: [u64; 8], w: u64) -> usize
+    ensures { λ r. ⌜ (r ≡ index-of w table) × (r ≤ 8) ⌝ }
 {
     let mut i: usize = 0;
     while i < 8 {
         if table[i] == w {
-            return i as u8;
+            return i;
         }
         i += 1;
     }
@@ -40,7 +40,7 @@ fn entry_term_of(t: Term, table: [u64; 8]) -> Term
     ensures { λ r. ⌜ r ≡ entry-term table t ⌝ }
 {
     match t {
-        Term::Path(w) => Term::PathIndex(position_of(table, w)),
+        Term::Path(w) => Term::PathIndex(position_of(table, w) as u8),
         Term::Literal(x) => Term::Literal(x),
         Term::Apply(o) => Term::Apply(o),
         Term::Reduce(o) => Term::Entry(o),

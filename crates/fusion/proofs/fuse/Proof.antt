@@ -1,11 +1,14 @@
 -- `fusion::fuse` meets its contract. Assumes nothing.
-use mathlib.Core.Path.{refl, sym, ap, _∙_}
+use mathlib.Core.Path.{_≡_, refl, sym, ap, _∙_, subst}
 use borrow.Author.Needs.{needs}
-use borrow.Author.Tests.{eq-eqb, ne-eqb}
-use Rattle.query.specs.Query.{query-code}
+use lib.ListN.{length}
+use Rattle.plan_form.specs.declared.Form.{Form}
+use Rattle.plan_form.specs.Form.{write-reply}
 use Rattle.query_form.specs.declared.Reading.{Reading}
-use Rattle.fusion.specs.Fusion.{fuse-reply}
-use Rattle.fusion.proofs.Refusal.{reading-code}
+use Rattle.query_form.specs.Form.{query-reading}
+use Rattle.wire.specs.Wire.{refused}
+use Rattle.fusion.specs.Fusion.{fuse-reply, fused-form}
+use Rattle.fusion.proofs.Refusal.{reply-refused, reply-written}
 use Rattle.fusion.proofs.fuse.Statement.{statement}
 use Rattle.fusion.proofs.fuse.Tie as tie
 
@@ -19,12 +22,13 @@ add-result : tie.Need-add-result
 add-result c = search needs
 
 returns : tie.Need-returns
-unfolding fuse-reply
 returns c =
     let r = c .before .read in
-    let s = c .before .before .before .before .args .question .now in
-    let p = ap (λ (x : Reading). x .code) (r .ensures) ∙ reading-code s in
-    rw (p, ne-eqb (query-code s) 0 (λ z. c .if1 .taken (p ∙ z))) (refl, refl)
+    let a = c .before .before .before .before .args in
+    let room = length (a .out .now) in
+    let n : query-reading (a .question .now) .code ≡ 0 → ⊥ = subst (λ (x : Reading). x .code ≡ 0 → ⊥) (r .ensures) (c .if1 .taken) in
+    let e : fuse-reply (a .question .now) room ≡ refused (r .result .code) = reply-refused (a .question .now) room n ∙ ap (λ (x : Reading). refused (x .code)) (sym (r .ensures)) in
+    rw e (refl, refl)
 
 fused-form-of-requires : tie.Need-fused-form-of-requires
 fused-form-of-requires c κs = search needs
@@ -36,14 +40,15 @@ same-length : tie.Need-same-length
 same-length c = search needs
 
 returns-2 : tie.Need-returns-2
-unfolding fuse-reply
 returns-2 c =
-    let w = c .before .before .write in
     let f = c .before .before .before .before in
     let r = f .before .before .read in
-    let s = f .before .before .before .before .before .args .question .now in
-    let p = ap (λ (x : Reading). x .code) (r .ensures) ∙ reading-code s in
-    rw (eq-eqb (query-code s) 0 (sym p ∙ f .before .if1 .left), w .ensures .0, w .ensures .1, f .fused-form-of .ensures, r .ensures) (refl, refl)
+    let a = f .before .before .before .before .before .args in
+    let room = length (a .out .now) in
+    let z : query-reading (a .question .now) .code ≡ 0 = subst (λ (x : Reading). x .code ≡ 0) (r .ensures) (f .before .if1 .left) in
+    let e : fuse-reply (a .question .now) room ≡ write-reply (f .fused-form-of .result) room =
+    reply-written (a .question .now) room z ∙ ap (λ (x : Form). write-reply x room) (sym (f .fused-form-of .ensures ∙ ap fused-form (r .ensures))) in
+    rw e (c .before .before .write .ensures)
 
 pub fuse-spec : {M : Type 1} → statement M
 fuse-spec =

@@ -23,13 +23,10 @@ mul-if1 c = omega arith
 array-read-if1 : tie.Need-array-read-if1 Inv-loop μ-loop
 array-read-if1 c = omega arith
 
-cast-result : tie.Need-cast-result Inv-loop μ-loop
-cast-result c = omega arith
-
 returns : tie.Need-returns Inv-loop μ-loop
 returns c =
     let l = c .before .before .loop in
-    sym (index-here _ _ (l .i) (omega arith) (c .if1 .taken)) ∙ l .inv .1
+    (sym (index-here _ _ (l .i) (omega arith) (c .if1 .taken)) ∙ l .inv .1, omega arith)
 
 add-i : tie.Need-add-i Inv-loop μ-loop
 add-i c = omega arith
@@ -46,7 +43,7 @@ returns-2 : tie.Need-returns-2 Inv-loop μ-loop
 returns-2 c =
     let l = c .before .loop in
     let a = c .before .before .args in
-    omega (arith, index-none (a .w) (a .t1) (l .i) (omega arith), l .inv .1)
+    (omega (arith, index-none (a .w) (a .t1) (l .i) (omega arith), l .inv .1), omega arith)
 
 pub position-of-spec : {M : Type 1} → statement M
-position-of-spec = tie.close (tie.spec Inv-loop μ-loop loop-holds mul-if1 array-read-if1 cast-result returns add-i loop-less loop-again returns-2)
+position-of-spec = tie.close (tie.spec Inv-loop μ-loop loop-holds mul-if1 array-read-if1 returns add-i loop-less loop-again returns-2)

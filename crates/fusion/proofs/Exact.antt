@@ -1,0 +1,208 @@
+-- THE REPLY TO A LEGAL QUESTION IS THE ENCODING OF ITS FUSED TREE. Assumes nothing.
+use Prim.Native.Nat.{ℕ, _+_, _-_, _≤_, _<_, min}
+use mathlib.Core.Path.{_≡_, refl, sym, ap, ap₂, _∙_, subst}
+use mathlib.Core.List.{List, [], _∷_, _++_, map, append-nil}
+use native.Mathlib.Omega.{arith}
+use borrow.Author.Tests.{le-ltb}
+use lib.Dec.{T}
+use lib.ListN.{length, take, replicate, length-append, length-map, length-replicate}
+use Rattle.meaning.specs.Limits.{BodyLegal, PlanLegal, QueryLegal, entry-terms, plan-terms, query-reductions, query-terms}
+use Rattle.meaning.specs.Plan.{Body, Plan, among, each-vertex, entry, enumerate, fuse, one-result, position, put-all, rename}
+use Rattle.meaning.specs.Query.{Query, VertexReduction, bodies, each, leaves, single, written-paths}
+use Rattle.meaning.proofs.Limits.{fuse-legal, fuse-terms}
+use Rattle.meaning.proofs.Paths.{put-all-has}
+use Rattle.nodes.specs.declared.Node.{Node}
+use Rattle.nodes.specs.declared.Term.the-variants.{Empty, Entry}
+use Rattle.nodes.specs.Nodes.{node, padded}
+use Rattle.nodes.specs.Text.{nodes-text}
+use Rattle.nodes.specs.Tree.{entry-nodes, final-nodes, place-nodes, result-nodes}
+use Rattle.nodes.proofs.Exact.{entry-size, final-size, place-size, result-size}
+use Rattle.nodes.proofs.Held.{first-nodes}
+use Rattle.nodes.proofs.Text.{nodes-short}
+use Rattle.plan.specs.Plan.{plan-code}
+use Rattle.plan.specs.Text as plan
+use Rattle.plan.proofs.Exact as reader
+use Rattle.plan_form.specs.declared.Form.{Form}
+use Rattle.plan_form.specs.Form.{FormOf, body-nodes, entries-nodes, form-bytes, rows-text, write-reply}
+use Rattle.plan_form.proofs.Exact.{write-form}
+use Rattle.plan_form.proofs.Written.{rows-short}
+use Rattle.query.specs.Query.{encode, query-code}
+use Rattle.query.proofs.Exact.{read-sound}
+use Rattle.query_form.specs.declared.Form as question
+use Rattle.query_form.specs.declared.Reading.{Reading}
+use Rattle.query_form.specs.Form.{form-of, query-reading}
+use Rattle.query_form.proofs.Exact.{ReadAs, read-form}
+use Rattle.term_text.specs.Text.{path-number}
+use Rattle.wire.specs.Header.{header-bytes}
+use Rattle.wire.specs.Wire.{Bytes, Reply, done, fitted, refused}
+use Rattle.fusion.specs.declared.Written.{Written}
+use Rattle.fusion.specs.Fusion.{entries-of, fuse-reply, fused-form, put-part, started}
+use Rattle.fusion.proofs.Fused.{each-body, place-entry, place-final, result-entries, result-final}
+use Rattle.fusion.proofs.Refusal.{reading-code, reply-refused, reply-written}
+use Rattle.fusion.proofs.Selected.{Holds, holds-part, selected}
+
+-- a plan has a node for each term and each entry
+entries-size : (es : List (VertexReduction ℕ)) → length (entries-nodes es) ≡ entry-terms es + length es
+entries-size [] = refl
+entries-size (e ∷ es) = omega (arith, length-append (entry-nodes (e .body)) (entries-nodes es), entry-size (e .body), entries-size es)
+
+body-size : (b : Body) → length (body-nodes b) ≡ plan-terms b + plan.entry-count b
+body-size (each-vertex t) = omega (arith, entry-size t)
+body-size (one-result es t) = omega (arith, length-append (entries-nodes es) (final-nodes t), entries-size es, final-size t)
+
+-- at most 64 terms and 8 entries
+body-short : (n : ℕ) (p : Plan) → PlanLegal n p → length (body-nodes (p .body)) ≤ 72
+body-short n p l = omega (arith, body-size (p .body), l .few-terms, few (p .body) (l .body-legal))
+  where
+    few : (b : Body) → BodyLegal (length (p .paths)) b → plan.entry-count b ≤ 8
+    few (each-vertex t) l = omega arith
+    few (one-result es t) l = l .0
+
+-- the two parts one behind the other
+both-parts : (table : List ℕ) (nodes : List Node) (d : Written) (l a b : List Node) → Holds d l → selected 0 table 0 nodes ≡ a → selected 1 table 0 nodes ≡ b
+    → length (l ++ a ++ b) ≤ 72 → Holds (put-part 1 table 0 (put-part 0 table 0 d nodes) nodes) (l ++ a ++ b)
+both-parts table nodes d l a b h p q r =
+    let m = length-append l a in
+    let n = length-append (l ++ a) b in
+    let one = subst (λ (x : List Node). Holds (put-part 0 table 0 d nodes) (l ++ x)) p (holds-part 0 table nodes 0 d l h (omega (arith, m, n, ap length p))) in
+    subst (λ (x : List Node). Holds (put-part 1 table 0 (put-part 0 table 0 d nodes) nodes) (l ++ a ++ x)) q
+    (holds-part 1 table nodes 0 (put-part 0 table 0 d nodes) (l ++ a) one (omega (arith, n, ap length q)))
+
+abbrev query-nodes : Query → List Node
+query-nodes (each t) = place-nodes t
+query-nodes (single t) = result-nodes t
+
+abbrev query-kind : Query → ℕ
+query-kind (each t) = 0
+query-kind (single t) = 1
+
+abbrev table-of : Query → List ℕ → List ℕ
+table-of q rest = map path-number (fuse q .paths) ++ rest
+
+abbrev both : List ℕ → ℕ → List Node → Written
+both table kind nodes = put-part 1 table 0 (put-part 0 table 0 (started kind) nodes) nodes
+
+parts-held : (q : Query) → QueryLegal 256 q → (rest : List ℕ) → Holds (both (table-of q rest) (query-kind q) (query-nodes q)) (body-nodes (fuse q .body))
+unfolding started
+parts-held (each t) h rest =
+    let l = fuse-legal 256 (each t) h in
+    let cs = put-all [] (leaves t) in
+    let a = entry-nodes (rename (λ c. position c cs) t) in
+    let s : Holds (started 0) (node (Entry 0) ∷ []) = record { list = refl; len = refl } in
+    let e : (node (Entry 0) ∷ []) ++ a ++ [] ≡ node (Entry 0) ∷ a = append-nil (node (Entry 0) ∷ a) in
+    subst (Holds (both (table-of (each t) rest) 0 (place-nodes t))) e
+    (both-parts (table-of (each t) rest) (place-nodes t) (started 0) (node (Entry 0) ∷ []) a [] s
+    (place-entry cs (l .paths-legal) rest 0 t (h .legal) (put-all-has [] (leaves t))) (place-final (table-of (each t) rest) 0 t)
+    (omega (arith, ap length e, body-short 256 (fuse (each t)) l)))
+parts-held (single t) h rest =
+    let l = fuse-legal 256 (single t) h in
+    let cs = put-all [] (bodies (leaves t)) in
+    let s : Holds (started 1) [] = record { list = refl; len = refl } in
+    both-parts (table-of (single t) rest) (result-nodes t) (started 1) [] (entries-nodes (map (entry cs) (leaves t))) (final-nodes (enumerate 0 t)) s
+    (result-entries cs (l .paths-legal) rest 0 t (h .legal) (each-body (λ c. T (among c cs)) (leaves t) (put-all-has [] (bodies (leaves t)))))
+    (result-final (table-of (single t) rest) 0 t) (body-short 256 (fuse (single t)) l)
+
+-- the fields of the question's typed form
+kind-read : (q : Query) → form-of q .kind ≡ query-kind q
+unfolding form-of
+kind-read (each t) = refl
+kind-read (single t) = refl
+
+nodes-read : (q : Query) → take (form-of q .count) (form-of q .nodes) ≡ query-nodes q
+unfolding form-of
+nodes-read (each t) = first-nodes (query-terms (each t)) (place-nodes t) (place-size t)
+nodes-read (single t) = first-nodes (query-terms (single t)) (result-nodes t) (result-size t)
+
+kind-fused : (q : Query) → query-kind q ≡ plan.kind-of (fuse q .body)
+kind-fused (each t) = refl
+kind-fused (single t) = refl
+
+entries-fused : (q : Query) → QueryLegal 256 q → (r : ℕ) → r ≡ query-reductions q → entries-of (query-kind q) r ≡ plan.entry-count (fuse q .body)
+unfolding entries-of
+entries-fused (each t) h r e = refl
+entries-fused (single t) h r e = omega (arith, h .few-reductions, length-map (leaves t) (entry (put-all [] (bodies (leaves t)))))
+
+-- WHAT IS MADE OF THE READING OF A LEGAL QUERY IS THE TYPED FORM OF ITS FUSED PLAN
+fused-as : (q : Query) → QueryLegal 256 q → (r : Reading) → ReadAs r q → FormOf (fuse q) (fused-form r)
+unfolding fused-form
+fused-as q h r a =
+    let kind : r .form .kind ≡ query-kind q = ap (λ (f : question.Form). f .kind) (a .form) ∙ kind-read q in
+    let list : take (r .form .count) (r .form .nodes) ≡ query-nodes q = ap (λ (f : question.Form). take (f .count) (f .nodes)) (a .form) ∙ nodes-read q in
+    let w : Holds (both (r .table) (r .form .kind) (take (r .form .count) (r .form .nodes))) (body-nodes (fuse q .body)) = rw (kind, list, a .table) (parts-held q h (a .rest)) in
+    record {
+      kind = kind ∙ kind-fused q;
+      paths = omega (arith, a .paths, h .few-paths);
+      rest = a .rest;
+      table = a .table;
+      entries = ap (λ (k : ℕ). entries-of k (r .reductions)) kind ∙ entries-fused q h (r .reductions) (a .reductions);
+      count = w .len ∙ body-size (fuse q .body);
+      nodes = w .list;
+    }
+
+pub fuse-form : (q : Query) → QueryLegal 256 q → FormOf (fuse q) (fused-form (query-reading (encode q)))
+fuse-form q h = fused-as q h (query-reading (encode q)) (read-form q h)
+
+-- A FUSED WORKSHEET IS ALWAYS ACCEPTED BY THE READER
+pub fused-accepted : (q : Query) → QueryLegal 256 q → plan-code (plan.encode (fuse q)) ≡ 0
+fused-accepted q h = reader.read-complete (fuse q) (fuse-legal 256 q h) .accepted
+
+-- THE REPLY IS THE ENCODING OF THE FUSED TREE, or 15 where that does not fit
+pub fuse-encodes : (q : Query) → QueryLegal 256 q → (room : ℕ) → fuse-reply (encode q) room ≡ fitted (plan.encode (fuse q)) room
+unfolding write-reply
+fuse-encodes q h room =
+    let e = write-form (fuse q) (fuse-legal 256 q h) (fused-form (query-reading (encode q))) (fuse-form q h) in
+    reply-written (encode q) room (read-form q h .code) ∙ rw (e, fused-accepted q h) refl
+
+-- NO WORKSHEET IS LONGER THAN 560 BYTES: 8, 6 for each of 8 path reductions, 7 for each of 72 nodes
+pub plan-short : (p : Plan) → PlanLegal 256 p → length (plan.encode p) ≤ 560
+unfolding form-bytes
+plan-short p l =
+    let none : List ℕ = replicate (8 - length (p .paths)) 0 in
+    let f : Form = record {
+      kind = plan.kind-of (p .body);
+      paths = length (p .paths);
+      table = map path-number (p .paths) ++ none;
+      entries = plan.entry-count (p .body);
+      count = plan-terms (p .body) + plan.entry-count (p .body);
+      nodes = padded (body-nodes (p .body));
+    } in
+    let e = ap length (write-form p l f (record { kind = refl; paths = refl; rest = none; table = refl; entries = refl; count = refl; nodes = refl })) in
+    let rows = rows-text (take (f .paths) (f .table)) in
+    let text = nodes-text (take (f .count) (f .nodes)) in
+    let empty : List Node = replicate (72 - length (body-nodes (p .body))) (node Empty) in
+    let eight : length (f .table) ≡ 8 = omega (arith, length-append (map path-number (p .paths)) none, length-map (p .paths) path-number, length-replicate {A = ℕ} (8 - length (p .paths)) 0, l .few-paths) in
+    let all : length (f .nodes) ≡ 72 = omega (arith, length-append (body-nodes (p .body)) empty, length-replicate {A = Node} (72 - length (body-nodes (p .body))) (node Empty), body-short 256 p l) in
+    omega (arith, e, length-append rows (f .entries ∷ text), rows-short (f .paths) (f .table) eight, nodes-short (f .count) (f .nodes) all)
+
+-- with room for 560 bytes nothing but the question is refused
+pub fuse-fits : (q : Query) → QueryLegal 256 q → (room : ℕ) → 560 ≤ room → fuse-reply (encode q) room ≡ done (plan.encode (fuse q))
+fuse-fits q h room r =
+    fuse-encodes q h room ∙ rw (le-ltb room (length (plan.encode (fuse q))) (omega (arith, plan-short (fuse q) (fuse-legal 256 q h)))) refl
+
+-- FOR ALL BYTES: a question that is refused is refused by its number ..
+pub fuse-refused : (s : List ℕ) → (query-code s ≡ 0 → ⊥) → (room : ℕ) → fuse-reply s room ≡ refused (query-code s)
+fuse-refused s n room = reply-refused s room (λ z. n (sym (reading-code s) ∙ z)) ∙ ap refused (reading-code s)
+
+-- .. and one that is accepted is a legal query's, and the reply is the encoding of its fused tree: a legal worksheet that its reader accepts, of at most 560 bytes
+pub record Fused (s : List ℕ) (room : ℕ) : Type 0 where
+  pub query : Query
+  pub legal : QueryLegal 256 query
+  pub read : encode query ≡ s
+  pub reply : fuse-reply s room ≡ fitted (plan.encode (fuse query)) room
+  pub fused-legal : PlanLegal 256 (fuse query)
+  pub accepted : plan-code (plan.encode (fuse query)) ≡ 0
+  pub short : length (plan.encode (fuse query)) ≤ 560
+
+pub fuse-sound : (s : List ℕ) → Bytes s → query-code s ≡ 0 → (room : ℕ) → Fused s room
+fuse-sound s b z room =
+    let q = read-sound s b z in
+    let l = fuse-legal 256 (q .0) (q .1) in
+    record {
+      query = q .0;
+      legal = q .1;
+      read = q .2;
+      reply = subst (λ (t : List ℕ). fuse-reply t room ≡ fitted (plan.encode (fuse (q .0))) room) (q .2) (fuse-encodes (q .0) (q .1) room);
+      fused-legal = l;
+      accepted = fused-accepted (q .0) (q .1);
+      short = plan-short (fuse (q .0)) l;
+    }

@@ -1,0 +1,117 @@
+-- THE PARTS OF A LEGAL QUERY'S NODES ARE THE NODES OF ITS FUSED PLAN. Assumes nothing.
+use Prim.Native.Nat.{ℕ, zero, suc, _+_}
+use mathlib.Core.Path.{_≡_, refl, sym, ap, ap₂, _∙_, subst}
+use mathlib.Core.Bool.{Bool, true, false, cond, _||_}
+use mathlib.Core.List.{List, [], _∷_, _++_, map, append-assoc, append-nil}
+use native.Mathlib.Omega.{arith}
+use borrow.Author.Tests.{eq-eqb, ne-eqb}
+use lib.Dec.{T, eqb}
+use lib.ListN.{length, length-append}
+use Rattle.meaning.specs.Limits.{Every, EveryBody, PathFits}
+use Rattle.meaning.specs.Plan.{among, entry, enumerate, position, rename, same-path}
+use Rattle.meaning.specs.Query.{PathReduction, ResultTerm, Term, VertexReduction, VertexTerm, apply, bodies, leaf, leaves, literal}
+use Rattle.meaning.proofs.Lists.{all-left, all-right, map-append}
+use Rattle.meaning.proofs.Paths.{path-refl, path-same}
+use Rattle.nodes.specs.declared.Node.{Node}
+use Rattle.nodes.specs.declared.Term.the-variants.{Apply, Entry, EntryIndex, PathIndex, Reduce, ResultApply}
+use Rattle.nodes.specs.Nodes.{node}
+use Rattle.nodes.specs.Tree.{apply-node, entry-nodes, final-nodes, literal-node, place-nodes, result-nodes}
+use Rattle.plan_form.specs.Form.{entries-nodes}
+use Rattle.terms.specs.Terms.{literal-tag}
+use Rattle.term_text.specs.Text.{path-number}
+use Rattle.term_text.proofs.Paths.{number-same}
+use Rattle.walks.specs.Lists.{All}
+use Rattle.walks.proofs.Tests.{T-of}
+use Rattle.fusion.specs.Fusion.{entry-term, final-term, fused-term, index-of, reduces, size}
+use Rattle.fusion.proofs.Selected.{reduced, reduced-append, selected, selected-append}
+
+-- the number of a path reduction stands in the table where the path reduction stands in the list
+pub index-position : (c : PathReduction) → PathFits 256 c → (cs : List PathReduction) → All (PathFits 256) cs → (rest : List ℕ) → T (among c cs)
+    → index-of (path-number c) (map path-number cs ++ rest) ≡ position c cs
+unfolding index-of
+index-position c f [] g rest t = absurd t
+index-position c f (d ∷ ds) g rest t = go (same-path c d) refl (index-position c f ds (g .1) rest)
+  where
+    go : (b : Bool) → same-path c d ≡ b → (T (among c ds) → index-of (path-number c) (map path-number ds ++ rest) ≡ position c ds)
+        → cond (eqb (path-number d) (path-number c)) zero (suc (index-of (path-number c) (map path-number ds ++ rest))) ≡ cond b zero (suc (position c ds))
+    go true e h = rw (eq-eqb (path-number d) (path-number c) (ap path-number (sym (path-same c d (T-of e))))) refl
+    go false e h =
+        let apart : path-number d ≡ path-number c → ⊥ = λ p. subst T e (subst (λ (x : PathReduction). T (same-path c x)) (number-same c d f (g .0) (sym p)) (path-refl c)) in
+        rw (ne-eqb (path-number d) (path-number c) apart)
+        (ap suc (h (subst (λ (x : Bool). T (x || among c ds)) e t)))
+
+-- place terms: no reduction, and nothing of them in the final expression
+pub place-reduced : (t : VertexTerm) → reduced (place-nodes t) ≡ 0
+unfolding reduced reduces apply-node literal-node literal-tag
+place-reduced (leaf c) = refl
+place-reduced (literal x) = refl
+place-reduced (apply o s t) = omega (arith, reduced-append (place-nodes s) (place-nodes t), place-reduced s, place-reduced t)
+
+pub place-final : (table : List ℕ) (k : ℕ) (t : VertexTerm) → selected 1 table k (place-nodes t) ≡ []
+unfolding selected fused-term final-term size apply-node literal-node literal-tag
+place-final table k (leaf c) = refl
+place-final table k (literal x) = refl
+place-final table k (apply o s t) =
+    let j = k + reduces (Apply o) in
+    selected-append 1 table j (place-nodes s) (place-nodes t) ∙ ap₂ _++_ (place-final table j s) (place-final table (j + reduced (place-nodes s)) t)
+
+-- result terms: the reductions are numbered as written
+pub result-reduced : (t : ResultTerm) → reduced (result-nodes t) ≡ length (leaves t)
+unfolding reduced reduces apply-node literal-node literal-tag
+result-reduced (leaf e) = omega (arith, place-reduced (e .body))
+result-reduced (literal x) = refl
+result-reduced (apply o s t) = omega (arith, reduced-append (result-nodes s) (result-nodes t), result-reduced s, result-reduced t, length-append (leaves s) (leaves t))
+
+pub result-final : (table : List ℕ) (k : ℕ) (t : ResultTerm) → selected 1 table k (result-nodes t) ≡ final-nodes (enumerate k t)
+unfolding selected fused-term final-term size reduces apply-node literal-node literal-tag
+result-final table k (leaf e) = ap (λ (l : List Node). node (EntryIndex k) ∷ l) (place-final table (k + 1) (e .body))
+result-final table k (literal x) = refl
+result-final table k (apply o s t) =
+    let e : k + 0 ≡ k = omega arith in
+    ap (λ (l : List Node). node (ResultApply o) ∷ l)
+    (selected-append 1 table (k + 0) (result-nodes s) (result-nodes t)
+    ∙ ap₂ _++_ (ap (λ (j : ℕ). selected 1 table j (result-nodes s)) e ∙ result-final table k s)
+    (ap₂ (λ (i j : ℕ). selected 1 table (i + j) (result-nodes t)) e (result-reduced s) ∙ result-final table (k + length (leaves s)) t))
+
+entries-append : (es ds : List (VertexReduction ℕ)) → entries-nodes (es ++ ds) ≡ entries-nodes es ++ entries-nodes ds
+entries-append [] ds = refl
+entries-append (e ∷ es) ds =
+    ap (λ (l : List Node). node (Entry (e .reduction)) ∷ l)
+    (ap (λ (l : List Node). entry-nodes (e .body) ++ l) (entries-append es ds) ∙ sym (append-assoc (entry-nodes (e .body)) (entries-nodes es) (entries-nodes ds)))
+
+-- over the different path reductions of the query
+module _ (cs : List PathReduction) (legal : All (PathFits 256) cs) (rest : List ℕ) where
+  abbrev table : List ℕ
+  table = map path-number cs ++ rest
+
+  abbrev Known : VertexTerm → Type 0
+  Known t = All (λ c. T (among c cs)) (leaves t)
+
+  pub place-entry : (k : ℕ) (t : VertexTerm) → Every (PathFits 256) t → Known t → selected 0 table k (place-nodes t) ≡ entry-nodes (rename (λ c. position c cs) t)
+  unfolding selected fused-term entry-term size apply-node literal-node literal-tag
+  place-entry k (leaf c) f h = ap (λ (i : ℕ). node (PathIndex i) ∷ []) (index-position c f cs legal rest (h .0))
+  place-entry k (literal x) f h = refl
+  place-entry k (apply o s t) f h =
+      let j = k + reduces (Apply o) in
+      ap (λ (l : List Node). node (Apply o) ∷ l)
+      (selected-append 0 table j (place-nodes s) (place-nodes t)
+      ∙ ap₂ _++_ (place-entry j s (f .2) (all-left _ (leaves s) (leaves t) h)) (place-entry (j + reduced (place-nodes s)) t (f .3) (all-right _ (leaves s) (leaves t) h)))
+
+  pub result-entries : (k : ℕ) (t : ResultTerm) → Every (EveryBody (PathFits 256)) t → All (λ e. Known (e .body)) (leaves t)
+      → selected 0 table k (result-nodes t) ≡ entries-nodes (map (entry cs) (leaves t))
+  unfolding selected fused-term entry-term size apply-node literal-node literal-tag
+  result-entries k (leaf e) f h =
+      ap (λ (l : List Node). node (Entry (e .reduction)) ∷ l)
+      (place-entry (k + reduces (Reduce (e .reduction))) (e .body) (f .2) (h .0) ∙ sym (append-nil (entry-nodes (rename (λ c. position c cs) (e .body)))))
+  result-entries k (literal x) f h = refl
+  result-entries k (apply o s t) f h =
+      let j = k + reduces (ResultApply o) in
+      selected-append 0 table j (result-nodes s) (result-nodes t)
+      ∙ ap₂ _++_ (result-entries j s (f .2) (all-left _ (leaves s) (leaves t) h)) (result-entries (j + reduced (result-nodes s)) t (f .3) (all-right _ (leaves s) (leaves t) h))
+      ∙ sym (entries-append (map (entry cs) (leaves s)) (map (entry cs) (leaves t)))
+      ∙ ap entries-nodes (sym (map-append (entry cs) (leaves s) (leaves t)))
+
+-- what holds of the path reductions of all bodies holds of those of each
+pub each-body : (P : PathReduction → Type 0) (es : List (VertexReduction PathReduction)) → All P (bodies es) → All (λ e. All P (leaves (e .body))) es
+each-body P [] h = tt
+each-body P (e ∷ es) h = (all-left P (leaves (e .body)) (bodies es) h, each-body P es (all-right P (leaves (e .body)) (bodies es) h))

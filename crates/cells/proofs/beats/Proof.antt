@@ -1,6 +1,9 @@
 -- `cells::beats` meets its contract. Assumes nothing.
+use Prim.Native.Nat.{_+_}
+use mathlib.Core.Path.{_≡_}
 use borrow.Author.Tests.{eq-eqb, ne-eqb}
-use Rattle.cells.specs.Cells.{displaces}
+use lib.ListN.{getD}
+use Rattle.cells.specs.Cells.{displaces, onward}
 use borrow.Author.Needs.{needs}
 use Rattle.cells.proofs.beats.Statement.{statement}
 use Rattle.cells.proofs.beats.Tie as tie
@@ -16,7 +19,10 @@ shared-slice-read-if1 c = search needs
 
 returns : tie.Need-returns
 unfolding displaces
-returns c = rw (eq-eqb _ _ (c .if1 .taken))
+returns c =
+    let a = c .before .before .before .before .args in
+    let z : getD (a .new .now) (a .t + 3) 0 ≡ 0 = c .if1 .taken in
+    rw (eq-eqb _ _ z)
 
 mul-extended : tie.Need-mul-extended
 mul-extended c = search needs
@@ -41,7 +47,11 @@ is-ahead-requires c κs = search needs
 
 returns-2 : tie.Need-returns-2
 unfolding displaces
-returns-2 c = rw (ne-eqb _ _ (c .before .before .before .before .before .before .before .if1 .left), ← (c .before .before .wide .ensures .0), ← (c .before .before .before .before .extended .ensures), ne-eqb _ _ (c .before .if2 .taken)) (c .is-ahead .ensures)
+returns-2 c =
+    let a = c .before .before .before .before .before .before .before .before .before .before .before .args in
+    let p1 : c .before .before .before .before .extended .result ≡ onward (a .keys .first) (a .weight) (a .capacity) (getD (a .old .now) (a .f) 0) = c .before .before .before .before .extended .ensures in
+    let q1 : c .before .before .wide .result ≡ getD (a .new .now) (a .t) 0 = c .before .before .wide .ensures .0 in
+    rw (ne-eqb _ _ (c .before .before .before .before .before .before .before .if1 .left), ← q1, ← p1, ne-eqb _ _ (c .before .if2 .taken)) (c .is-ahead .ensures)
 
 add-extended : tie.Need-add-extended
 add-extended c = search needs
@@ -72,7 +82,13 @@ is-ahead-requires-2 c κs = search needs
 
 returns-3 : tie.Need-returns-3
 unfolding displaces
-returns-3 c = rw (ne-eqb _ _ (c .before .before .before .before .before .before .before .before .before .before .before .before .before .if1 .left), ← (c .before .before .before .before .before .before .before .before .wide .ensures .0), ← (c .before .before .before .before .before .before .before .before .before .before .extended .ensures), eq-eqb _ _ (c .before .before .before .before .before .before .before .if2 .left), ← (c .before .before .wide2 .ensures .0), ← (c .before .before .before .before .extended2 .ensures), ne-eqb _ _ (c .before .if3 .taken)) (c .is-ahead2 .ensures)
+returns-3 c =
+    let a = c .before .before .before .before .before .before .before .before .before .before .before .before .before .before .before .before .before .args in
+    let p1 : c .before .before .before .before .before .before .before .before .before .before .extended .result ≡ onward (a .keys .first) (a .weight) (a .capacity) (getD (a .old .now) (a .f) 0) = c .before .before .before .before .before .before .before .before .before .before .extended .ensures in
+    let q1 : c .before .before .before .before .before .before .before .before .wide .result ≡ getD (a .new .now) (a .t) 0 = c .before .before .before .before .before .before .before .before .wide .ensures .0 in
+    let p2 : c .before .before .before .before .extended2 .result ≡ onward (a .keys .second) (a .weight) (a .capacity) (getD (a .old .now) (a .f + 1) 0) = c .before .before .before .before .extended2 .ensures in
+    let q2 : c .before .before .wide2 .result ≡ getD (a .new .now) (a .t + 1) 0 = c .before .before .wide2 .ensures .0 in
+    rw (ne-eqb _ _ (c .before .before .before .before .before .before .before .before .before .before .before .before .before .if1 .left), ← q1, ← p1, eq-eqb _ _ (c .before .before .before .before .before .before .before .if2 .left), ← q2, ← p2, ne-eqb _ _ (c .before .if3 .taken)) (c .is-ahead2 .ensures)
 
 add-extended-2 : tie.Need-add-extended-2
 add-extended-2 c = search needs
@@ -103,7 +119,15 @@ is-ahead-requires-3 c κs = search needs
 
 returns-4 : tie.Need-returns-4
 unfolding displaces
-returns-4 c = rw (ne-eqb _ _ (c .before .before .before .before .before .before .before .before .before .before .before .before .before .before .before .before .before .before .if1 .left), ← (c .before .before .before .before .before .before .before .before .before .before .before .before .before .wide .ensures .0), ← (c .before .before .before .before .before .before .before .before .before .before .before .before .before .before .before .extended .ensures), eq-eqb _ _ (c .before .before .before .before .before .before .before .before .before .before .before .before .if2 .left), ← (c .before .before .before .before .before .before .before .wide2 .ensures .0), ← (c .before .before .before .before .before .before .before .before .before .extended2 .ensures), eq-eqb _ _ (c .before .before .before .before .before .before .if3 .left), ← (c .before .wide3 .ensures .0), ← (c .before .before .before .extended3 .ensures)) (c .is-ahead3 .ensures)
+returns-4 c =
+    let a = c .before .before .before .before .before .before .before .before .before .before .before .before .before .before .before .before .before .before .before .before .before .before .args in
+    let p1 : c .before .before .before .before .before .before .before .before .before .before .before .before .before .before .before .extended .result ≡ onward (a .keys .first) (a .weight) (a .capacity) (getD (a .old .now) (a .f) 0) = c .before .before .before .before .before .before .before .before .before .before .before .before .before .before .before .extended .ensures in
+    let q1 : c .before .before .before .before .before .before .before .before .before .before .before .before .before .wide .result ≡ getD (a .new .now) (a .t) 0 = c .before .before .before .before .before .before .before .before .before .before .before .before .before .wide .ensures .0 in
+    let p2 : c .before .before .before .before .before .before .before .before .before .extended2 .result ≡ onward (a .keys .second) (a .weight) (a .capacity) (getD (a .old .now) (a .f + 1) 0) = c .before .before .before .before .before .before .before .before .before .extended2 .ensures in
+    let q2 : c .before .before .before .before .before .before .before .wide2 .result ≡ getD (a .new .now) (a .t + 1) 0 = c .before .before .before .before .before .before .before .wide2 .ensures .0 in
+    let p3 : c .before .before .before .extended3 .result ≡ onward (a .keys .third) (a .weight) (a .capacity) (getD (a .old .now) (a .f + 2) 0) = c .before .before .before .extended3 .ensures in
+    let q3 : c .before .wide3 .result ≡ getD (a .new .now) (a .t + 2) 0 = c .before .wide3 .ensures .0 in
+    rw (ne-eqb _ _ (c .before .before .before .before .before .before .before .before .before .before .before .before .before .before .before .before .before .before .if1 .left), ← q1, ← p1, eq-eqb _ _ (c .before .before .before .before .before .before .before .before .before .before .before .before .if2 .left), ← q2, ← p2, eq-eqb _ _ (c .before .before .before .before .before .before .if3 .left), ← q3, ← p3) (c .is-ahead3 .ensures)
 
 pub beats-spec : {M : Type 1} → statement M
 beats-spec =

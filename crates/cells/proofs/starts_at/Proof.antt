@@ -1,10 +1,13 @@
 -- `cells::starts_at` meets its contract. Assumes nothing.
+use mathlib.Core.Path.{_≡_}
 use borrow.Author.Tests.{eq-eqb, ne-eqb}
 use Rattle.cells.proofs.starts_at.Statement.{statement}
 use Rattle.cells.proofs.starts_at.Tie as tie
 
 returns : tie.Need-returns
-returns c = rw (eq-eqb _ _ (c .if1 .taken))
+returns c =
+    let z : c .before .args .source ≡ 65535 = c .if1 .taken in
+    rw (eq-eqb _ _ z)
 
 returns-2 : tie.Need-returns-2
 returns-2 c = rw (ne-eqb _ _ (c .if1 .left))

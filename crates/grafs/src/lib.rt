@@ -1,0 +1,23 @@
+// The two calls of the C service (document 01): "a result under 65,536 is the bytes written and 65,536 plus a number is a refusal".
+ghost use mathlib.Core.Path.{_≡_};
+ghost use mathlib.Core.Option.{none};
+ghost use lib.ListN.{length};
+ghost use Rattle.engine.specs.Run.{run-reply};
+ghost use Rattle.fusion.specs.Fusion.{fuse-reply};
+ghost use Rattle.wire.specs.Wire.{reply-number, reply-buffer};
+
+// A question is fused into a worksheet.
+#[no_mangle]
+pub extern "C" fn fuse(question: &[u8], out: &mut [u8]) -> u32
+    ensures { λ r. ⌜ (r ≡ reply-number (fuse-reply (now (question .entry)) (length (now (out .entry))))) × (now (out .exit) ≡ reply-buffer (fuse-reply (now (question .entry)) (length (now (out .entry)))) (now (out .entry))) ⌝ }
+{
+    fusion::fuse(question, out)
+}
+
+// A worksheet is run on a map, by push: the faster way, and the same bytes as by pull.
+#[no_mangle]
+pub extern "C" fn run(worksheet: &[u8], map: &[u8], out: &mut [u8]) -> u32
+    ensures { λ r. ⌜ (r ≡ reply-number (run-reply none (now (worksheet .entry)) (now (map .entry)) (length (now (out .entry))))) × (now (out .exit) ≡ reply-buffer (run-reply none (now (worksheet .entry)) (now (map .entry)) (length (now (out .entry)))) (now (out .entry))) ⌝ }
+{
+    engine::push(worksheet, map, out)
+}

@@ -1,0 +1,112 @@
+/* The two exported calls, from C: stored bytes in, stored bytes out, each with every lent length from 0 to some bytes more than needed.
+ * The rest of the buffer, the bytes before and behind it, and the inputs must be as they were. */
+#include <stdio.h>
+#include <stdlib.h>
+#include <string.h>
+#include "grafs.h"
+
+enum { GUARD = 64, FILL = 0xa5 };
+
+static unsigned tried, failed;
+
+static void expect(int held, const char *name, size_t lent)
+{
+    tried++;
+    if (held)
+        return;
+    failed++;
+    printf("differs: %s, lent %zu\n", name, lent);
+}
+
+/* A copy on the heap of just its length, so that a sanitizer sees any step outside. */
+static uint8_t *copy_of(const uint8_t *bytes, size_t len)
+{
+    uint8_t *p = malloc(len ? len : 1);
+    if (!p)
+        exit(2);
+    memcpy(p, bytes, len);
+    return p;
+}
+
+static int all(const uint8_t *p, size_t len)
+{
+    for (size_t i = 0; i < len; i++)
+        if (p[i] != FILL)
+            return 0;
+    return 1;
+}
+
+typedef struct {
+    const char *name;
+    const uint8_t *first;   /* a question; or a worksheet, with a map */
+    size_t first_len;
+    const uint8_t *map;     /* null for fuse */
+    size_t map_len;
+    uint32_t number;        /* 0, or the refusal */
+    const uint8_t *want;
+    size_t want_len;
+} test_case;
+
+static void try_with(const test_case *c, size_t lent)
+{
+    uint8_t *first = copy_of(c->first, c->first_len), *map = copy_of(c->map ? c->map : (const uint8_t *)"", c->map_len);
+    uint8_t *room = malloc(lent + 2 * GUARD), *out = room + GUARD;
+    if (!room)
+        exit(2);
+    memset(room, FILL, lent + 2 * GUARD);
+    uint32_t n = c->map ? run(first, c->first_len, map, c->map_len, out, lent) : fuse(first, c->first_len, out, lent);
+    uint32_t number = c->number ? c->number : lent < c->want_len ? GRAFS_BUFFER_SHORT : GRAFS_DONE;
+    size_t done = number == GRAFS_DONE ? c->want_len : 0;
+    expect(n == (number == GRAFS_DONE ? c->want_len : GRAFS_REFUSAL + number), c->name, lent);
+    expect(!memcmp(out, c->want, done), c->name, lent);
+    expect(all(room, GUARD) && all(out + done, lent - done + GUARD), c->name, lent);
+    expect(!memcmp(first, c->first, c->first_len) && !memcmp(map, c->map ? c->map : map, c->map_len), c->name, lent);
+    free(first), free(map), free(room);
+}
+
+static void try_case(const test_case *c)
+{
+    for (size_t lent = 0; lent <= c->want_len + 3; lent++)
+        try_with(c, lent);
+    try_with(c, 4096);
+}
+
+#define BYTES(...) (const uint8_t[]){ __VA_ARGS__ }, sizeof((const uint8_t[]){ __VA_ARGS__ })
+#define MAP_A BYTES('L', 'P', 'M', 1, 0, 4, 0, 4, 0, 0, 0, 1, 0, 5, 0, 10, 0, 0, 0, 2, 0, 2, 0, 4, 0, 2, 0, 1, 0, 3, 0, 20, 0, 1, 0, 3, 0, 0, 0, 7, 0)
+#define NUMBER(x) 1, (x) & 255, (x) >> 8, 0, 0, 0, 0, 0, 0
+#define ABSENT 0, 0, 0, 0, 0, 0, 0, 0, 0
+#define NO_MAP NULL, 0
+#define NOTHING (const uint8_t *)"", 0
+
+/* A chain of one key from a start, at each place: question and worksheet. */
+#define PLACE_Q(key, start) BYTES('L', 'P', 'Q', 1, 0, 0, 0x10, 1, key, start, 0)
+#define PLACE_W(key, start) BYTES('L', 'P', 'W', 1, 0, 0, 1, 1, key, 0, 0, start, 0, 1, 0, 0x30, 0)
+
+int main(void)
+{
+    const test_case cases[] = {
+        { "key 2 fused", PLACE_Q(2, 0), NO_MAP, 0, PLACE_W(2, 0) },
+        { "the byte case fused", BYTES(0x4c, 0x50, 0x51, 1, 0, 1, 0x20, 2, 0x10, 1, 1, 0, 0), NO_MAP, 0,
+            BYTES(0x4c, 0x50, 0x57, 1, 0, 1, 1, 1, 1, 0, 0, 0, 0, 1, 2, 0x30, 0, 0x31, 0) },
+        { "equal chains put together", BYTES('L', 'P', 'Q', 1, 0, 0, 0x12, 3, 0x10, 2, 2, 5, 1, 0, 0x10, 2, 2, 5, 1, 0), NO_MAP, 0,
+            BYTES('L', 'P', 'W', 1, 0, 0, 1, 2, 2, 5, 0, 1, 0, 1, 0, 0x12, 3, 0x30, 0, 0x30, 0) },
+        { "minus, chains in order of writing", BYTES('L', 'P', 'Q', 1, 0, 1, 0x22, 4, 0x20, 2, 0x10, 1, 2, 0, 0, 0x20, 1, 0x10, 1, 1, 0, 0), NO_MAP, 0,
+            BYTES('L', 'P', 'W', 1, 0, 1, 2, 1, 2, 0, 0, 0, 0, 1, 1, 0, 0, 0, 0, 2, 2, 0x30, 0, 1, 0x30, 1, 0x22, 4, 0x31, 0, 0x31, 1) },
+        { "no question", NOTHING, NO_MAP, GRAFS_SHORT, NOTHING },
+        { "keys 5,2", BYTES('L', 'P', 'Q', 1, 0, 0, 0x10, 2, 5, 2, 0, 0), NO_MAP, GRAFS_KEY_ORDER, NOTHING },
+        { "key 2 from 0 on map A", PLACE_W(2, 0), MAP_A, 0, BYTES('L', 'P', 'A', 1, 0, 4, 0, 3, 0, 0, NUMBER(0), NUMBER(5), NUMBER(2), NUMBER(5)) },
+        { "key 6 from 0 on map A", PLACE_W(6, 0), MAP_A, 0, BYTES('L', 'P', 'A', 1, 0, 4, 0, 4, 0, 0, NUMBER(65535), NUMBER(4), NUMBER(4), NUMBER(4)) },
+        { "key 1 from 3 on map A", PLACE_W(1, 3), MAP_A, 0, BYTES('L', 'P', 'A', 1, 0, 4, 0, 1, 0, 0, ABSENT, ABSENT, ABSENT, NUMBER(0)) },
+        { "the byte case run", BYTES(0x4c, 0x50, 0x57, 1, 0, 1, 1, 1, 1, 0, 0, 0, 0, 1, 2, 0x30, 0, 0x31, 0), MAP_A, 0,
+            BYTES('L', 'P', 'A', 1, 0, 4, 0, 3, 0, 1, NUMBER(2)) },
+        { "start 4 on map A", PLACE_W(2, 4), MAP_A, GRAFS_START, NOTHING },
+        { "a worksheet before its map", BYTES('L', 'P', 'Q', 1, 0), BYTES('L'), GRAFS_MARK, NOTHING },
+        { "no map", PLACE_W(2, 4), (const uint8_t *)"", 0, GRAFS_SHORT, NOTHING },
+    };
+    for (size_t i = 0; i < sizeof cases / sizeof *cases; i++)
+        try_case(&cases[i]);
+    if (fuse(NULL, 0, NULL, 0) != GRAFS_REFUSAL + GRAFS_SHORT || run(NULL, 0, NULL, 0, NULL, 0) != GRAFS_REFUSAL + GRAFS_SHORT)
+        failed++, printf("differs: null pointers with length 0\n");
+    printf("c: %u comparisons, %u differ\n", tried + 2, failed);
+    return failed != 0;
+}

@@ -3,13 +3,13 @@ use Prim.Native.Nat.{ℕ, zero, suc, _+_, _-_, _*_, _≤_, _<_}
 use mathlib.Core.Path.{_≡_, refl, sym, ap, _∙_, subst}
 use mathlib.Core.Logic.{inl, inr}
 use mathlib.Core.Bool.{Bool, true, false}
-use mathlib.Core.List.{List, [], _∷_, map}
+use mathlib.Core.List.{List, [], _∷_, _++_, map}
 use mathlib.Core.Option.{Option}
 use native.Mathlib.Omega.{arith}
 use native.Mathlib.Nat.{not-suc-le-zero, le-of-suc-le-suc}
 use lib.Dec.{T}
 use lib.ListN.{length, getD, take, length-map}
-use lib.Seq.{getD-take, length-take-le}
+use lib.Seq.{getD-take, length-take-le, take-at}
 use Rattle.value.specs.declared.Value.{Value}
 use Rattle.value.specs.declared.Value.the-variants.{Absent}
 use Rattle.walks.specs.Lists.{All}
@@ -53,6 +53,11 @@ pub record Ready (s : List ℕ) (p : Plan) (paths : ℕ) (table : List ℕ) : Ty
   pub few : paths ≤ 8
   pub eight : length table ≡ 8
   pub named : take paths table ≡ map path-number (p .paths)
+
+-- as a reader of plans leaves it
+pub named-first : (p : Plan) (paths : ℕ) (table rest : List ℕ) → paths ≡ length (p .paths) → table ≡ map path-number (p .paths) ++ rest
+    → take paths table ≡ map path-number (p .paths)
+named-first p paths table rest e f = ap (take paths) f ∙ take-at (map path-number (p .paths)) rest paths (length-map (p .paths) path-number ∙ sym e)
 
 module _ (s : List ℕ) (p : Plan) (paths : ℕ) (table : List ℕ) (ready : Ready s p paths table) where
   abbrev g : Graph
@@ -98,6 +103,10 @@ module _ (s : List ℕ) (p : Plan) (paths : ℕ) (table : List ℕ) (ready : Rea
     shown =
         subst (λ (k : ℕ). Shown by-push s (p .paths) table plans limit (ran by-push s k table limit l)) (sym paths-count)
         (ran-shown s (ready .accepted-map) (p .paths) table plans l long by-push limit (omega arith))
+
+    -- never more rounds than the number given
+    pub run-within : ran by-push s paths table limit l .count ≤ limit
+    run-within = shown .within
 
     -- once quiet, always so: the figures after the given number of rounds are those of the rounds done
     settled : (j : ℕ) → j < length (p .paths) → (v : ℕ) → v < at16 s 5 → Ended by-push s (p .paths) table plans limit (R .count)

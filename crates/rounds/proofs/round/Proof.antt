@@ -2,6 +2,7 @@
 use native.Mathlib.Omega.{arith}
 use Prim.Native.Nat.{_≤_, _-_, _*_}
 use mathlib.Core.Path.{_≡_, sym, refl, _∙_}
+use mathlib.Core.Bool.{_||_}
 use native.Mathlib.Numerals.{add-one}
 use lib.ListN.{length}
 use Rattle.wire.specs.Wire.{at16}
@@ -45,14 +46,15 @@ loop-again : tie.Need-loop-again Inv-loop μ-loop
 unfolding turned-upto
 loop-again c =
     let l = c .before .before .before .before .before .before .before .before .before .before .before .before .loop in
-    let t = c .before .before .before .before .before .before .before .turn in (
+    let t = c .before .before .before .before .before .before .before .turn in
+    let e : c .either .result ≡ (l .changed || t .result) = c .either .ensures in (
       omega arith,
       t .kept .1 .1 .1 .1 .1 .0 ∙ l .inv .1,
       t .kept .1 .1 .1 .1 .1 .1 .0 ∙ l .inv .2,
       t .kept .1 .1 .1 .1 .1 .1 .1 .0 ∙ l .inv .3,
       t .ensures .1 ∙ rw (add-one (l .j), l .inv .4, l .inv .5),
       t .ensures .2 ∙ rw (add-one (l .j), l .inv .4, l .inv .5),
-      c .either .ensures ∙ rw (add-one (l .j), t .ensures .0, l .inv .4, l .inv .5, l .inv .6),
+      e ∙ rw (add-one (l .j), t .ensures .0, l .inv .4, l .inv .5, l .inv .6),
     )
 
 same-length : tie.Need-same-length Inv-loop μ-loop

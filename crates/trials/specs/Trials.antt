@@ -1,9 +1,9 @@
--- The trials of document 01 that are marked P, as one table. (The one about the bytes of a worksheet joins with fusing.)
+-- The trials of document 01 that are marked P, as one table.
 use Prim.Native.Nat.{ℕ}
 use mathlib.Core.List.{List, [], _∷_}
 use mathlib.Core.Option.{Option, none, some}
 use Rattle.meaning.specs.Plan.{fuse}
-use Rattle.meaning.specs.Query.{Query, each, leaf}
+use Rattle.meaning.specs.Query.{Query, each, leaf, single}
 use Rattle.meaning.specs.Run.{Way, run}
 use Rattle.value.specs.declared.Value.{Value}
 use Rattle.value.specs.declared.Value.the-variants.{Absent, Number}
@@ -44,6 +44,10 @@ trial g ks s r xs = record {
 abbrev pub graph-a : Graph
 graph-a = graph 4 (edge 0 1 5 10 ∷ edge 0 2 2 4 ∷ edge 2 1 3 20 ∷ edge 1 3 0 7 ∷ [])
 
+-- the greatest number of passages from 0 to any place, over least walks: the question of the trial by bytes
+abbrev pub least-edges : Query
+least-edges = single (leaf (record { reduction = 2; body = leaf (record { keys = 1 ∷ []; source = 0 }) }))
+
 abbrev pub trials : List Trial
 trials =
     -- "keys 2 from 0: 0, 5, 2, 5; rounds 3"
@@ -61,6 +65,22 @@ trials =
     ∷ trial (graph 1 []) (6 ∷ []) 0 (some 1) (Number 65535 ∷ [])
     -- "0→1 size 9, 1→0 size 2, key 6 from 0: 2, 2; rounds 4, which is 2 × n"
     ∷ trial (graph 2 (edge 0 1 0 9 ∷ edge 1 0 0 2 ∷ [])) (6 ∷ []) 0 (some 4) (Number 2 ∷ Number 2 ∷ [])
+    -- "on map A the result is 2, rounds 3", of the question below
+    ∷ record { graph = graph-a; query = least-edges; expected = record { rows = Number 2 ∷ []; rounds = some 3 } }
+    ∷ []
+
+-- "`4C 50 51 01 00 01 20 02 10 01 01 00 00` fuses to `4C 50 57 01 00 01 01 01 01 00 00 00 00 01 02 30 00 31 00`"
+pub record Fusing : Type 0 where
+  pub question : List ℕ
+  pub worksheet : List ℕ
+
+abbrev pub fusings : List Fusing
+fusings =
+    record {
+      question = 0x4c ∷ 0x50 ∷ 0x51 ∷ 0x01 ∷ 0x00 ∷ 0x01 ∷ 0x20 ∷ 0x02 ∷ 0x10 ∷ 0x01 ∷ 0x01 ∷ 0x00 ∷ 0x00 ∷ [];
+      worksheet =
+          0x4c ∷ 0x50 ∷ 0x57 ∷ 0x01 ∷ 0x00 ∷ 0x01 ∷ 0x01 ∷ 0x01 ∷ 0x01 ∷ 0x00 ∷ 0x00 ∷ 0x00 ∷ 0x00 ∷ 0x01 ∷ 0x02 ∷ 0x30 ∷ 0x00 ∷ 0x31 ∷ 0x00 ∷ [];
+    }
     ∷ []
 
 -- "keys 5,2: refused 10. Keys 2,5: read": a question of one chain from 0, with the number that reading it gives

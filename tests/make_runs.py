@@ -1,0 +1,549 @@
+#!/usr/bin/env python3
+"""Writes the cases on which the program `runs` tries the runs: by pull, by push, and stopped after a number of rounds.
+
+    python3 tests/make_runs.py           writes crates/runs/data/runs.bin and crates/runs/stdout
+    python3 tests/make_runs.py list      prints each case: index, kind, call, rounds, length lent, what is expected, name
+
+Worksheets and maps are written by hand as bytes. Rows, rounds and refusals are written by hand from document 01 too; none is
+what a run said. So that no slip of the hand stays, the script walks every walk outright (`outright` below: sets of walks, no
+rounds and no table of figures) and stops where the hand and the walks differ.
+
+In the file a case is a kind byte (its place in KINDS), a 16-bit length and as many bytes: the call (0 pull, 1 push, 2 pull
+stopped, 3 push stopped), the rounds at which it is stopped, the length lent, the refusal (0 for none), the lengths of worksheet
+and map, all of 16 bits but the call and the refusal; then worksheet, map and answer (none where refused). All integers low byte
+first. The program's buffer is longer than what is lent: every byte of it behind the answer must stay as it was filled.
+"""
+import os
+import sys
+
+FOLDER = os.path.join(os.path.dirname(os.path.abspath(__file__)), "..", "crates", "runs")
+MOST = 131071  # the program's buffer has one byte more
+CALLS = ("pull", "push", "pull stopped", "push stopped")
+ANYWHERE = 65535
+_ = None  # absent
+
+# ------------------------------------------------------------------------------------------------ layouts
+
+
+def u16(x):
+    return x.to_bytes(2, "little")
+
+
+def hexed(text):
+    return bytes.fromhex(text)
+
+
+def map_file(n, *rows):
+    """Rows: from, to, seconds, crate size."""
+    return b"LPM" + u16(1) + u16(n) + u16(len(rows)) + b"".join(u16(x) for row in rows for x in row)
+
+
+def answer(n, rounds, kind, values):
+    rows = b"".join(b"\0" + bytes(8) if v is None else b"\1" + v.to_bytes(8, "little") for v in values)
+    return b"LPA" + u16(1) + u16(n) + u16(rounds) + bytes([kind]) + rows
+
+
+def slots(*keys, start=0):
+    """A chain of a worksheet: six bytes."""
+    return bytes([len(keys), *keys]).ljust(4, b"\0") + u16(start)
+
+
+W0, W1 = hexed("4C 50 57 01 00 00"), hexed("4C 50 57 01 00 01")  # a worksheet of either kind; the chain count is due
+
+
+def at_each(*chains, term=hexed("30 00")):
+    """A worksheet of kind 0: the chains, and one entry; chain 0 where no other term is given."""
+    return W0 + bytes([len(chains)]) + b"".join(chains) + hexed("01 00") + term
+
+
+def one_result(chains, entries, final):
+    """A worksheet of kind 1; an entry is a reduction byte and a term."""
+    return W1 + bytes([len(chains)]) + b"".join(chains) + bytes([len(entries)]) + b"".join(entries) + final
+
+
+def lit(x):
+    return b"\x11" + x.to_bytes(4, "little")
+
+
+def rlit(x):
+    return b"\x21" + x.to_bytes(4, "little")
+
+
+def op(number, a, b):
+    return bytes([0x12, number]) + a + b
+
+
+def rop(number, a, b):
+    return bytes([0x22, number]) + a + b
+
+
+def chain(i):
+    return bytes([0x30, i])
+
+
+def entry(i):
+    return bytes([0x31, i])
+
+
+MIN, MAX, PLUS, MINUS, TIMES, DIVIDE, EQUAL, LESS, GREATER, AND, OR = range(1, 12)
+
+MAP_A = map_file(4, (0, 1, 5, 10), (0, 2, 2, 4), (2, 1, 3, 20), (1, 3, 0, 7))
+LOOP = map_file(1, (0, 0, 1, 3))
+LONE = map_file(1)
+TWO = map_file(2, (0, 1, 1, 9), (1, 0, 1, 2))
+NARROW = map_file(3, (0, 1, 9, 10), (0, 1, 1, 5), (1, 2, 1, 3))  # the trap of keys 5,2
+LINE = ((0, 1, 3, 9), (1, 2, 3, 9), (2, 3, 3, 9))
+RING = map_file(3, (0, 1, 1, 9), (1, 2, 1, 8), (2, 0, 1, 2))
+
+# ------------------------------------------------------------------------------------------------ outright
+# What document 01, "Meaning", says, over sets of walks. Only for files that are accepted.
+
+# the table of keys: the value of a walk (its start, passages, seconds, smallest crate size), and whether the greatest is kept
+KEYS = {1: (1, min), 2: (2, min), 3: (0, min), 4: (0, max), 5: (3, max), 6: (3, min)}
+
+
+def numbers(data, at, count):
+    return [int.from_bytes(data[at + 2 * i:at + 2 * i + 2], "little") for i in range(count)]
+
+
+class Sheet:
+    """An accepted worksheet taken apart."""
+
+    def __init__(self, data):
+        self.data, self.at = data, 7
+        self.kind = data[5]
+        self.chains = [self.chain() for _unused in range(data[6])]
+        count = self.byte()
+        self.entries = [(self.byte(), self.term()) for _unused in range(count)]
+        self.final = self.term() if self.kind == 1 else None
+        assert self.at == len(data)
+
+    def byte(self):
+        self.at += 1
+        return self.data[self.at - 1]
+
+    def chain(self):
+        count, *keys = (self.byte() for _unused in range(4))
+        self.at += 2
+        return keys[:count], numbers(self.data, self.at - 2, 1)[0]
+
+    def term(self):
+        tag = self.byte()
+        if tag in (0x30, 0x31):
+            return "leaf", self.byte()
+        if tag in (0x11, 0x21):
+            self.at += 4
+            return "number", int.from_bytes(self.data[self.at - 4:self.at], "little")
+        assert tag in (0x12, 0x22)
+        return "operator", self.byte(), self.term(), self.term()
+
+
+def kept_by(keys, walks):
+    """The figure of each key: of the walks those with the best first key are kept, of these those with the best second, and so
+    on. None with no walk."""
+    found = []
+    for key in keys:
+        place, best = KEYS[key]
+        if walks:
+            found.append(best(w[place] for w in walks))
+            walks = {w for w in walks if w[place] == found[-1]}
+    return found or None
+
+
+def figures(n, rows, keys, start, most):
+    """For each number of passages up to `most`, the figures at each place over all walks of no more passages. A walk is its four
+    values; `ends` has those of just so many passages, by the place where they end."""
+    ends = {v: {(v, 0, 0, 65535)} for v in range(n) if start in (v, ANYWHERE)}
+    reached = [ends.get(v, set()) for v in range(n)]
+    found = [[kept_by(keys, walks) for walks in reached]]
+    for _unused in range(most):
+        longer = {}
+        for a, b, seconds, size in rows:
+            for s, p, t, c in ends.get(a, ()):
+                longer.setdefault(b, set()).add((s, p + 1, t + seconds, min(c, size)))
+        ends = longer
+        reached = [walks | ends.get(v, set()) for v, walks in enumerate(reached)]
+        found.append([kept_by(keys, walks) for walks in reached])
+    return found
+
+
+def compute(number, a, b):
+    if a is None or b is None:
+        return None
+    value = {MIN: min(a, b), MAX: max(a, b), PLUS: a + b, MINUS: a - b, TIMES: a * b, DIVIDE: a // b if b else -1,
+             EQUAL: int(a == b), LESS: int(a < b), GREATER: int(a > b), AND: int(a != 0 and b != 0), OR: int(a != 0 or b != 0)}[number]
+    return value if 0 <= value < 2 ** 64 else None
+
+
+def worth(term, leaves):
+    if term[0] == "leaf":
+        return leaves[term[1]]
+    if term[0] == "number":
+        return term[1]
+    return compute(term[1], worth(term[2], leaves), worth(term[3], leaves))
+
+
+def reduced(number, values):
+    there = [v for v in values if v is not None]
+    if not there:
+        return None
+    value = {1: min(there), 2: max(there), 3: sum(there), 4: int(all(there)), 5: int(any(there))}[number]
+    return value if value < 2 ** 64 else None
+
+
+def outright(sheet, graph, stop=None):
+    """n, rounds, kind and values of an answer."""
+    plan = Sheet(sheet)
+    n, m = numbers(graph, 5, 2)
+    flat = numbers(graph, 9, 4 * m)
+    rows = [flat[4 * i:4 * i + 4] for i in range(m)]
+    most = 2 * n + 1  # longer walks change no figure: looked at up to here
+    found = [figures(n, rows, keys, start, most) for keys, start in plan.chains]
+    quiet = next(r for r in range(1, most + 1) if all(f[r] == f[r - 1] for f in found))
+    assert quiet <= 2 * n and all(f[r] == f[quiet] for f in found for r in range(quiet, most + 1))
+    rounds = quiet if stop is None else stop
+    reached = [f[most if stop is None else min(stop, most)] for f in found]
+    places = [[f[v] and f[v][-1] for f in reached] for v in range(n)]
+    results = [[worth(term, leaves) for leaves in places] for _unused, term in plan.entries]
+    if plan.kind == 0:
+        return n, rounds, 0, results[0]
+    return n, rounds, 1, [worth(plan.final, [reduced(r, values) for (r, _unused), values in zip(plan.entries, results)])]
+
+
+# ------------------------------------------------------------------------------------------------ cases
+# (name, call, rounds at which it is stopped, lent, refusal, worksheet, map, answer)
+
+
+def one(name, sheet, graph, call, stop, expected, lent=None):
+    """A run that answers; expected are n, rounds, kind and values. It is lent what the answer takes."""
+    assert outright(sheet, graph, stop if call > 1 else None) == expected, (name, CALLS[call], stop, expected)
+    whole = answer(*expected)
+    return name, call, stop, len(whole) if lent is None else lent, 0, sheet, graph, whole
+
+
+def runs(name, sheet, graph, after):
+    """By pull, by push and stopped after 0, 1, 2, .. rounds. `after` has the values after so many; the last are the answer's, and
+    one less than how many there are is one more than the rounds reported: a run stopped that late changes nothing any more."""
+    n, kind, rounds = numbers(graph, 5, 1)[0], sheet[5], len(after) - 2
+    assert after[rounds - 1] == after[rounds] == after[rounds + 1]
+    for call in (0, 1):
+        yield one(name, sheet, graph, call, 0, (n, rounds, kind, after[-1]))
+    for stop, values in enumerate(after):
+        for call in (2, 3):
+            yield one(name, sheet, graph, call, stop, (n, stop, kind, values))
+
+
+def ends(name, sheet, graph, rounds, values, *stops):
+    """By pull and by push, with the rounds reported; then stopped late: at each of `stops` the answer is the same."""
+    n, kind = numbers(graph, 5, 1)[0], sheet[5]
+    for call in (0, 1):
+        yield one(name, sheet, graph, call, 0, (n, rounds, kind, values))
+    for stop in stops:
+        for call in (2, 3):
+            yield one(name, sheet, graph, call, stop, (n, stop, kind, values))
+
+
+def refused(number, name, sheet, graph, lent=46):
+    """By each call."""
+    for call in range(4):
+        yield name, call, 2 if call > 1 else 0, lent, number, sheet, graph, b""
+
+
+# ---- "Marked and other trials"
+
+
+def trials():
+    yield from runs("key 2 from 0", at_each(slots(2)), MAP_A,
+                    [[0, _, _, _], [0, 5, 2, _], [0, 5, 2, 5], [0, 5, 2, 5], [0, 5, 2, 5]])
+    full = 65535
+    yield from runs("keys 2,5 from 0", at_each(slots(2, 5)), MAP_A,
+                    [[full, _, _, _], [full, 10, 4, _], [full, 10, 4, 7], [full, 10, 4, 7], [full, 10, 4, 7]])
+    narrow = [[full, _, _, _], [full, 10, 4, _], [full, 4, 4, 7], [full, 4, 4, 4], [full, 4, 4, 4], [full, 4, 4, 4]]
+    yield from runs("keys 2,6 from 0", at_each(slots(2, 6)), MAP_A, narrow)
+    yield from runs("key 6 from 0", at_each(slots(6)), MAP_A, narrow)
+    yield from runs("key 1 from 3", at_each(slots(1, start=3)), MAP_A, [[_, _, _, 0]] * 3)
+    yield from runs("one place, self-passage size 3, key 6", at_each(slots(6)), LOOP, [[full], [3], [3], [3]])
+    yield from runs("one place, no passage, key 6", at_each(slots(6)), LONE, [[full]] * 3)
+    yield from runs("two places, key 6 from 0", at_each(slots(6)), TWO, [[full, _], [full, 9], [2, 9], [2, 2], [2, 2], [2, 2]])
+    yield from refused(10, "keys 5,2", at_each(slots(5, 2)), MAP_A)
+    yield from runs("marked: max of key 1 from 0", hexed("4C 50 57 01 00 01 01 01 01 00 00 00 00 01 02 30 00 31 00"), MAP_A,
+                    [[0], [1], [2], [2], [2]])
+    yield from trial_limits()
+
+
+def deep(levels):
+    """1 + (1 + (.. + chain 0)): of so many levels."""
+    return (hexed("12 03") + lit(1)) * (levels - 1) + chain(0)
+
+
+def wide(terms):
+    """A sum of an odd number of terms, in a tree of little depth, all but the last 1, the last chain 0."""
+    if terms == 1:
+        return chain(0)
+    left = (terms - 1) // 2 | 1
+    return op(PLUS, wide(left).replace(chain(0), lit(1)), wide(terms - 1 - left))
+
+
+def trial_limits():
+    """"Depth 16, 64 terms, 256 places read; 17, 65, 257 refused 11, 12, 4.\""""
+    yield from ends("depth 16", at_each(slots(2), term=deep(16)), MAP_A, 3, [15, 20, 17, 20])
+    yield from refused(11, "depth 17", at_each(slots(2), term=deep(17)), MAP_A)
+    # 63 terms have 32 leaves, 31 of them 1; the 64th term is the final one
+    many = [bytes([2]) + wide(63)]
+    yield from ends("64 terms", one_result([slots(2)], many, entry(0)), MAP_A, 3, [36])
+    yield from refused(12, "65 terms", one_result([slots(2)], [b"\1" + lit(0)] + many, entry(1)), MAP_A)
+    far = at_each(slots(3, start=ANYWHERE))
+    yield from ends("256 places", far, map_file(256, (255, 0, 1, 1)), 1, list(range(256)))
+    yield from refused(4, "257 places", far, map_file(257, (255, 0, 1, 1)), 2400)
+
+
+# ---- "Traps on the route", and what a run of that kind would say
+
+
+def traps():
+    # Stopping after n rounds: after 3 rounds of 3 places the narrow passage has come back to place 0 only.
+    full = 65535
+    yield from runs("stopping after n rounds", at_each(slots(6)), RING,
+                    [[full, _, _], [full, 9, _], [full, 9, 8], [2, 9, 8], [2, 2, 8], [2, 2, 2], [2, 2, 2], [2, 2, 2]])
+    ring = [(v, (v + 1) % 256, 1, 2 if v == 255 else 9) for v in range(256)]
+    yield from ends("stopping after n rounds: 256 places, rounds 512", at_each(slots(6)), map_file(256, *ring), 512, [2] * 256)
+    # Keeping only the best pair: keys 5,2 are refused, and of the keys that there are none forgets the quick narrow passage.
+    yield from refused(10, "the best pair: keys 5,2", at_each(slots(5, 2)), NARROW)
+    yield from runs("the best pair: key 2", at_each(slots(2)), NARROW, [[0, _, _], [0, 1, _], [0, 1, 2], [0, 1, 2], [0, 1, 2]])
+    yield from runs("the best pair: key 5", at_each(slots(5)), NARROW,
+                    [[full, _, _], [full, 10, _], [full, 10, 3], [full, 10, 3], [full, 10, 3]])
+    yield from runs("the best pair: keys 2,5", at_each(slots(2, 5)), NARROW,
+                    [[full, _, _], [full, 5, _], [full, 5, 3], [full, 5, 3], [full, 5, 3]])
+    both = at_each(slots(5), slots(2), term=op(PLUS, op(TIMES, chain(0), lit(100)), chain(1)))
+    yield from runs("the best pair: keys 5 and 2 apart", both, NARROW,
+                    [[6553500, _, _], [6553500, 1001, _], [6553500, 1001, 302], [6553500, 1001, 302], [6553500, 1001, 302]])
+    # Letting absent count as 0 in a min over places: from place 2 there is no walk to place 0.
+    five = op(PLUS, chain(0), lit(5))
+    for number, reduction, after in (
+        (1, "min", [5, 5, 5, 5, 5]), (2, "max", [5, 6, 7, 7, 7]), (3, "sum", [5, 11, 18, 18, 18]), (4, "and", [1] * 5), (5, "or", [1] * 5),
+    ):
+        yield from runs(f"absent as 0 in a {reduction}", one_result([slots(1, start=2)], [bytes([number]) + five], entry(0)), MAP_A,
+                        [[x] for x in after])
+    lost = op(MINUS, chain(0), lit(1))  # from place 3 there is the empty walk only
+    for number in (1, 2, 3, 4, 5):
+        yield from ends(f"all absent, reduction {number}", one_result([slots(1, start=3)], [bytes([number]) + lost], entry(0)), MAP_A, 1, [_])
+    yield from ends("absent as 0 in a min of two terms", at_each(slots(1, start=2), term=op(MIN, chain(0), lit(9))), MAP_A, 3, [_, 1, 0, 2])
+    # Reading a neighbour's new value within a round: a place further each round, in whichever order the rows stand.
+    for name, rows in (("forward", LINE), ("backward", LINE[::-1])):
+        yield from runs(f"a neighbour's new value, rows {name}", at_each(slots(1)), map_file(4, *rows),
+                        [[0, _, _, _], [0, 1, _, _], [0, 1, 2, _], [0, 1, 2, 3], [0, 1, 2, 3], [0, 1, 2, 3]])
+    loop = [[full, _], [1, 1], [1, 1], [1, 1]]
+    yield from runs("a neighbour's new value, a self-passage first", at_each(slots(6)), map_file(2, (0, 0, 0, 1), (0, 1, 0, 9)),
+                    [[full, _], [1, 9], *loop[1:]])
+
+
+# ---- worksheets that no fusing writes, and each part of a worksheet
+
+
+def sheets():
+    yield from sheet_chains()
+    yield from sheet_keys()
+    yield from sheet_entries()
+    yield from sheet_operators()
+    yield from sheet_stops()
+
+
+def sheet_chains():
+    twice = op(PLUS, chain(0), chain(1))
+    yield from runs("equal chains", at_each(slots(2), slots(2), term=twice), MAP_A,
+                    [[0, _, _, _], [0, 10, 4, _], [0, 10, 4, 10], [0, 10, 4, 10], [0, 10, 4, 10]])
+    # key 6 from 0 takes 4 rounds, key 2 from 0 takes 3, key 1 from 3 takes 1
+    still = [[_, _, _, 0]] * 6
+    yield from runs("an unused chain behind, which takes longer", at_each(slots(1, start=3), slots(6)), MAP_A, still)
+    yield from runs("an unused chain before, which takes longer", at_each(slots(6), slots(1, start=3), term=chain(1)), MAP_A, still)
+    yield from runs("an unused chain, and a literal", at_each(slots(2), term=lit(8)), MAP_A, [[8] * 4] * 5)
+    yield from runs("no chain", at_each(term=lit(4294967295)), MAP_A, [[4294967295] * 4] * 3)
+    yield from runs("no chain, kind 1", one_result([], [b"\3" + lit(7)], entry(0)), MAP_A, [[28]] * 3)
+    yield from runs("no chain, one place", at_each(term=lit(0)), LOOP, [[0]] * 3)
+    eight = [slots(1, start=3), slots(2), slots(6), slots(5), slots(2, 5), slots(3, start=ANYWHERE), slots(4, start=ANYWHERE), slots(1)]
+    for i, values in enumerate(([_, _, _, 0], [0, 5, 2, 5], [65535, 4, 4, 4], [65535, 10, 4, 7], [65535, 10, 4, 7],
+                                [0, 0, 0, 0], [0, 2, 2, 3], [0, 1, 1, 2])):
+        yield from ends(f"8 chains, chain {i}", at_each(*eight, term=chain(i)), MAP_A, 4, values)
+
+
+def sheet_keys():
+    # From anywhere each place has the empty walk. Key 1, 2: 0. Key 3: the least place from which there is a walk; key 4 the greatest.
+    for keys, rounds, values in (
+        ((1,), 1, [0, 0, 0, 0]), ((2,), 1, [0, 0, 0, 0]), ((3,), 3, [0, 0, 0, 0]), ((4,), 2, [0, 2, 2, 3]),
+        ((5,), 1, [65535] * 4), ((6,), 4, [65535, 4, 4, 4]),
+    ):
+        yield from ends(f"key {keys[0]} from anywhere", at_each(slots(*keys, start=ANYWHERE)), MAP_A, rounds, values)
+    # Walks to place 3 in 0 s: the empty one and that from place 1. Keys 2,3 keep the latter, keys 2,4 the former; 2,1 the former.
+    yield from runs("keys 2,3 from anywhere", at_each(slots(2, 3, start=ANYWHERE)), MAP_A, [[0, 1, 2, 3]] + [[0, 1, 2, 1]] * 3)
+    yield from runs("keys 2,4 from anywhere", at_each(slots(2, 4, start=ANYWHERE)), MAP_A, [[0, 1, 2, 3]] * 3)
+    yield from runs("keys 2,6 from anywhere", at_each(slots(2, 6, start=ANYWHERE)), MAP_A, [[65535] * 4] + [[65535, 65535, 65535, 7]] * 3)
+    yield from runs("keys 2,5 from anywhere", at_each(slots(2, 5, start=ANYWHERE)), MAP_A, [[65535] * 4] * 3)
+    # Of the walks to place 1 in 5 s, that of one passage and that of two: keys 2,1,5 keep the former, keys 2,5,1 too (size 10).
+    for keys, values in (((2, 1), [0, 1, 1, 2]), ((2, 1, 5), [65535, 10, 4, 7]), ((2, 1, 6), [65535, 10, 4, 7]),
+                         ((2, 2, 2), [0, 5, 2, 5]), ((1, 2), [0, 5, 2, 5]), ((4, 3, 2), [0, 5, 2, 5]), ((3, 1), [0, 1, 1, 2])):
+        yield from ends(f"keys {keys}", at_each(slots(*keys)), MAP_A, 3, values)
+    # An earlier key's figure may change while the last one's stays: 0→1 9 s, 0→2 1 s, 2→1 1 s, all of size 4. In round 2 the
+    # seconds at place 1 fall from 9 to 2 and the size stays: so round 2 is not quiet, and 3 are reported.
+    bypass = map_file(3, (0, 1, 9, 4), (0, 2, 1, 4), (2, 1, 1, 4))
+    yield from runs("keys 2,5: only the first figure changes in round 2", at_each(slots(2, 5)), bypass,
+                    [[65535, _, _]] + [[65535, 4, 4]] * 4)
+    # Seconds 65,535 each: sums beyond 16 bits.
+    far = map_file(3, (0, 1, 65535, 65534), (1, 2, 65535, 1))
+    yield from runs("seconds beyond 16 bits", at_each(slots(2)), far, [[0, _, _], [0, 65535, _]] + [[0, 65535, 131070]] * 3)
+    yield from runs("size 65,534", at_each(slots(5)), far, [[65535, _, _], [65535, 65534, _]] + [[65535, 65534, 1]] * 3)
+    # Repeated rows, and two passages between the same places.
+    yield from runs("repeated rows", at_each(slots(2, 6)), map_file(2, (0, 1, 2, 8), (0, 1, 2, 8), (0, 1, 2, 5)),
+                    [[65535, _], [65535, 5], [65535, 5], [65535, 5]])
+
+
+def sheet_entries():
+    yield from runs("kind 1, no entry", one_result([], [], rlit(4294967295)), MAP_A, [[4294967295]] * 3)
+    yield from runs("kind 1, no entry, an unused chain", one_result([slots(6)], [], rop(PLUS, rlit(2), rlit(3))), MAP_A, [[5]] * 6)
+    yield from runs("an unused entry", one_result([slots(1)], [b"\1" + chain(0), b"\2" + chain(0)], entry(1)), MAP_A, [[0], [1], [2], [2], [2]])
+    yield from runs("an entry twice", one_result([slots(1)], [b"\3" + chain(0)], rop(TIMES, entry(0), entry(0))), MAP_A,
+                    [[0], [4], [16], [16], [16]])
+    five = [bytes([r]) + op(PLUS, chain(0), lit(3)) for r in (1, 2, 3, 4, 5)]  # 3, 8, 5, 8 in the end
+    for i, value in enumerate((3, 8, 24, 1, 1)):
+        yield from ends(f"5 reductions, entry {i}", one_result([slots(2)], five, entry(i)), MAP_A, 3, [value])
+    false = [bytes([r]) + chain(0) for r in (4, 5)]  # 0, 5, 2, 5
+    yield from ends("and of a 0", one_result([slots(2)], false, entry(0)), MAP_A, 3, [0])
+    yield from ends("or of a 0", one_result([slots(2)], false, entry(1)), MAP_A, 3, [1])
+    yield from ends("or of nothing but 0", one_result([slots(1, start=3)], [b"\5" + chain(0)], entry(0)), MAP_A, 1, [0])
+    eight = [bytes([3]) + op(TIMES, chain(0), lit(i)) for i in range(8)]  # 12 times i
+    yield from ends("8 entries", one_result([slots(2)], eight, rop(MINUS, entry(7), entry(2))), MAP_A, 3, [60])
+    # 4,294,967,295 squared is 18,446,744,065,119,617,025, and 8,589,934,590 less than the greatest number: at one place it is a
+    # sum, at two places too large, and stays so.
+    square = op(TIMES, lit(4294967295), lit(4294967295))
+    yield from ends("a sum just small enough", one_result([], [b"\3" + square], entry(0)), LONE, 1, [18446744065119617025])
+    yield from ends("a sum too large", one_result([], [b"\3" + square], entry(0)), TWO, 1, [_])
+    yield from ends("a sum too large, of 4 places", one_result([], [b"\3" + square], entry(0)), MAP_A, 1, [_])
+    yield from ends("a sum too large in a final term", one_result([], [b"\3" + square], rop(MIN, entry(0), rlit(1))), TWO, 1, [_])
+
+
+def sheet_operators():
+    # Chain 0 is 0, 5, 2, 5 and chain 1, key 1 from 2, is absent, 1, 0, 2.
+    both = [slots(2), slots(1, start=2)]
+    for number, values in ((MIN, [_, 1, 0, 2]), (MAX, [_, 5, 2, 5]), (PLUS, [_, 6, 2, 7]), (MINUS, [_, 4, 2, 3]), (TIMES, [_, 5, 0, 10]),
+                           (DIVIDE, [_, 5, _, 2]), (EQUAL, [_, 0, 0, 0]), (LESS, [_, 0, 0, 0]), (GREATER, [_, 1, 1, 1]),
+                           (AND, [_, 1, 0, 1]), (OR, [_, 1, 1, 1])):
+        yield from ends(f"operator {number}", at_each(*both, term=op(number, chain(0), chain(1))), MAP_A, 3, values)
+        turned = {MINUS: [_, _, _, _], DIVIDE: [_, 0, 0, 0], LESS: [_, 1, 1, 1], GREATER: [_, 0, 0, 0]}.get(number, values)
+        yield from ends(f"operator {number}, turned", at_each(*both, term=op(number, chain(1), chain(0))), MAP_A, 3, turned)
+    # At the edge of 64 bits: 4,294,967,295 × 4,294,967,295 + 2 × 4,294,967,295 is the greatest number.
+    big = 4294967295
+    greatest = op(PLUS, op(TIMES, lit(big), lit(big)), op(TIMES, lit(big), lit(2)))
+    yield from ends("the greatest number", at_each(term=greatest), LONE, 1, [2 ** 64 - 1])
+    yield from ends("plus too large", at_each(term=op(PLUS, greatest, lit(1))), LONE, 1, [_])
+    yield from ends("times too large", at_each(term=op(TIMES, greatest, lit(2))), LONE, 1, [_])
+    yield from ends("times 1", at_each(term=op(TIMES, greatest, lit(1))), LONE, 1, [2 ** 64 - 1])
+    yield from ends("too large, then times 0", at_each(term=op(TIMES, op(PLUS, greatest, lit(1)), lit(0))), LONE, 1, [_])
+    yield from ends("final: minus below 0", one_result([slots(2)], [b"\2" + chain(0)], rop(MINUS, rlit(4), entry(0))), MAP_A, 3, [_])
+    yield from ends("final: divided by 0", one_result([slots(2)], [b"\1" + chain(0)], rop(DIVIDE, rlit(4), entry(0))), MAP_A, 3, [_])
+
+
+def sheet_stops():
+    """Stopped long after the first quiet round: the number given is reported, both bytes of it."""
+    yield from ends("stopped late, key 6", at_each(slots(6)), TWO, 4, [2, 2], 5, 255, 256, 257, 512, 65535)
+    yield from ends("stopped late, no chain", at_each(term=lit(1)), LOOP, 1, [1], 2, 256, 65535)
+
+
+# ---- refusals: "A run judges the worksheet, the map, starts in chain order, then 15."
+
+
+def refusals():
+    good = at_each(slots(2))
+    bad_map = map_file(4, (0, 1, 5, 0))  # crate 0
+    yield from refused(1, "no worksheet, no map, nothing lent", b"", b"", 0)
+    yield from refused(3, "worksheet of version 2, map of wrong letters", good.replace(b"LPW\1", b"LPW\2"), b"XYZ" + MAP_A[3:])
+    yield from refused(2, "a map for a worksheet, and the worksheet for a map", MAP_A, good)
+    yield from refused(16, "worksheet's index, and the map's crate", at_each(slots(2), term=chain(1)), bad_map)
+    yield from refused(6, "worksheet with a byte left over, no map", good + b"\0", b"")
+    yield from refused(10, "worksheet's key order, and a start, and nothing lent", at_each(slots(5, 2, start=200)), MAP_A, 0)
+    yield from refused(13, "worksheet's start 256, and the map's crate", at_each(slots(2, start=256)), bad_map)
+    yield from refused(13, "worksheet's start 65,534, and no map", at_each(slots(2, start=65534)), b"")
+    yield from refused(9, "worksheet's kind 2", good[:5] + b"\2" + good[6:], MAP_A)
+    yield from refused(1, "no map", good, b"")
+    yield from refused(2, "map of wrong letters, and a start, and nothing lent", at_each(slots(2, start=9)), b"LPW" + MAP_A[3:], 0)
+    yield from refused(8, "the map's crate, and a start", at_each(slots(2, start=4)), bad_map)
+    yield from refused(7, "the map's place, and a start", at_each(slots(2, start=200)), map_file(4, (0, 4, 5, 1)))
+    yield from refused(4, "no place, start 0", good, map_file(0))
+    yield from refused(6, "map with a byte missing, and nothing lent", good, MAP_A[:-1], 0)
+    yield from refusal_starts()
+
+
+def refusal_starts():
+    yield from ends("start n - 1", at_each(slots(1, start=3)), MAP_A, 1, [_, _, _, 0])
+    for start in (4, 5, 255):
+        yield from refused(13, f"start {start} of 4 places", at_each(slots(1, start=start)), MAP_A)
+    yield from refused(13, "start 1 of one place", at_each(slots(1, start=1)), LONE)
+    yield from refused(13, "start 255 of 255 places", at_each(slots(1, start=255)), map_file(255), 2400)
+    yield from ends("start 65,535 is anywhere", at_each(slots(1, start=ANYWHERE)), MAP_A, 1, [0, 0, 0, 0])
+    yield from ends("start 255 of 256 places", one_result([slots(1, start=255)], [b"\3" + chain(0)], entry(0)), map_file(256, (255, 7, 1, 1)), 2, [1])
+    yield from refused(13, "start 4 of the second chain, which is unused", at_each(slots(2), slots(1, start=4)), MAP_A)
+    yield from refused(13, "start 4 of the last of 8", at_each(*[slots(1, start=ANYWHERE)] * 7, slots(6, start=4), term=lit(1)), MAP_A)
+    yield from refused(13, "kind 1 with no entry, start 4", one_result([slots(1, start=4)], [], rlit(1)), MAP_A)
+    for lent in (0, 45, 46):
+        yield from refused(13, f"start 4, and lent {lent}", at_each(slots(1, start=4)), MAP_A, lent)
+
+
+# ---- the length lent
+
+
+def lengths():
+    """46 bytes for the 4 places of map A, 19 for one row: one byte short, none, as many, more. The rest stays as it was."""
+    for name, sheet, graph, kind, size, rounds, values in (
+        ("map A", at_each(slots(2)), MAP_A, 0, 46, 3, [0, 5, 2, 5]),
+        ("one place", at_each(slots(6)), LOOP, 0, 19, 2, [3]),
+        ("kind 1", one_result([slots(1)], [b"\2" + chain(0)], entry(0)), MAP_A, 1, 19, 3, [2]),
+        ("kind 1, no entry", one_result([], [], rlit(1)), MAP_A, 1, 19, 1, [1]),
+        ("absent", at_each(slots(1, start=3)), MAP_A, 0, 46, 1, [_, _, _, 0]),
+    ):
+        n = numbers(graph, 5, 1)[0]
+        for lent in (0, 9, 10, size - 9, size - 1):
+            yield from refused(15, f"{name}, lent {lent}", sheet, graph, lent)
+        for lent in (size, size + 1, size + 9, 2400):
+            for call in range(4):
+                case = one(f"{name}, lent {lent}", sheet, graph, call, rounds if call > 1 else 0, (n, rounds, kind, values), lent)
+                assert len(case[-1]) == size
+                yield case
+
+
+# ------------------------------------------------------------------------------------------------ the file
+
+KINDS = (("trials", trials), ("traps", traps), ("worksheets", sheets), ("refusals", refusals), ("lent lengths", lengths))
+
+
+def body(case):
+    _unused, call, stop, lent, refusal, sheet, graph, whole = case
+    return bytes([call]) + u16(stop) + u16(lent) + bytes([refusal]) + u16(len(sheet)) + u16(len(graph)) + sheet + graph + whole
+
+
+def table():
+    """All cases, each once: (kind, case)."""
+    seen = {}
+    for kind, (_unused, part) in enumerate(KINDS):
+        for case in part():
+            seen.setdefault(body(case), (kind, case))
+    return list(seen.values())
+
+
+def main():
+    cases = table()
+    if sys.argv[1:] == ["list"]:
+        for index, (kind, (name, call, stop, lent, refusal, sheet, graph, whole)) in enumerate(cases):
+            what = f"refused {refusal}" if refusal else whole.hex()
+            after = f" {stop}" if call > 1 else ""
+            print(f"{index:3} {KINDS[kind][0]:12} {CALLS[call]}{after}, lent {lent}: {name}: {what[:120]}")
+        return
+    data = b"".join(bytes([kind]) + u16(len(body(case))) + body(case) for kind, case in cases)
+    assert len(data) <= MOST, len(data)
+    os.makedirs(os.path.join(FOLDER, "data"), exist_ok=True)
+    with open(os.path.join(FOLDER, "data", "runs.bin"), "wb") as f:
+        f.write(data)
+    with open(os.path.join(FOLDER, "stdout"), "w") as f:
+        for kind, (word, _unused) in enumerate(KINDS):
+            f.write(f"{word} {sum(case[0] == kind for case in cases)}\n")
+        f.write("differences 0\n")
+
+
+main()

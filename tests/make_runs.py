@@ -382,6 +382,11 @@ def sheet_keys():
     for keys, values in (((2, 1), [0, 1, 1, 2]), ((2, 1, 5), [65535, 10, 4, 7]), ((2, 1, 6), [65535, 10, 4, 7]),
                          ((2, 2, 2), [0, 5, 2, 5]), ((1, 2), [0, 5, 2, 5]), ((4, 3, 2), [0, 5, 2, 5]), ((3, 1), [0, 1, 1, 2])):
         yield from ends(f"keys {keys}", at_each(slots(*keys)), MAP_A, 3, values)
+    # Five passages between the same places: the second and the third key decide, whichever row stands first.
+    five = map_file(2, (0, 1, 4, 5), (0, 1, 4, 8), (0, 1, 4, 3), (0, 1, 6, 9), (0, 1, 6, 2))
+    for keys, first, value in (((1, 2), 0, 4), ((1, 5), 65535, 9), ((1, 6), 65535, 2), ((1, 2, 5), 65535, 8), ((1, 2, 6), 65535, 3),
+                               ((3, 2, 5), 65535, 8), ((4, 2, 6), 65535, 3)):
+        yield from runs(f"keys {keys} of five passages", at_each(slots(*keys)), five, [[first, _]] + [[first, value]] * 3)
     # An earlier key's figure may change while the last one's stays: 0→1 9 s, 0→2 1 s, 2→1 1 s, all of size 4. In round 2 the
     # seconds at place 1 fall from 9 to 2 and the size stays: so round 2 is not quiet, and 3 are reported.
     bypass = map_file(3, (0, 1, 9, 4), (0, 2, 1, 4), (2, 1, 1, 4))

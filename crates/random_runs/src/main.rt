@@ -12,7 +12,7 @@ ghost use Prim.Native.Nat.{_≤_, _<_};
 
 const OUT: i32 = 1;
 
-const CASES: u64 = 10000;
+const CASES: u64 = 50000;
 
 const SEED: u64 = 20261115;
 
@@ -48,6 +48,7 @@ struct Score {
     seed: u64,
     cases: u64,
     refused: u64,
+    numbers: u64,
     long: u64,
     differences: u64,
 }
@@ -94,7 +95,7 @@ fn lesser(x: u16, y: u16) -> u16
     if x < y { x } else { y }
 }
 
-// A place in the trees.
+// A sum of two small numbers, else 0: a place in the trees, the rows or the chains.
 fn plus(base: usize, i: usize) -> usize {
     if base < 256 {
         if i < 256 {
@@ -149,7 +150,7 @@ fn set64(s: &mut [u64], at: usize, x: u64) {
     }
 }
 
-// From where the edge i goes on: only the first two may end where they start, if there is another vertex.
+// Where edge i ends: only the first two may end where they start, if there is another vertex.
 fn end_of(i: usize, from: u16, to: u16, n: u16) -> u16 {
     if from != to {
         return to;
@@ -832,12 +833,15 @@ fn line(name: &[u8], value: u64) {
     io::write_all(OUT, b"\n");
 }
 
-// One case more; the first that differ are named.
-fn scored(score: Score, e: Expected, n: u16, differences: u64) -> Score {
+// One case more, whose answer's first row starts with the byte `first`. The first cases that differ are named.
+fn scored(score: Score, e: Expected, n: u16, first: u8, differences: u64) -> Score {
     let mut r = score;
     r.cases = more(score.cases);
     if 65536 <= e.code {
         r.refused = more(score.refused);
+    }
+    if first == 1 {
+        r.numbers = more(score.numbers);
     }
     if n < e.rounds {
         r.long = more(score.long);
@@ -862,12 +866,9 @@ fn try_shape(score: Score, shape: Shape, rows: &[u16], chains: &[u16], trees: &[
     let most = 2 * lesser(shape.n, 4) as usize;
     let free = wanted(e.code, e.rounds, most, shape, rows, chains, trees);
     let stopped = wanted(e.code, e.stop, e.stop as usize, shape, rows, chains, trees);
-    scored(
-        score,
-        e,
-        shape.n,
-        try_files(e, &plan, p, &map, m, free, stopped),
-    )
+    let first = free[10];
+    let found = try_files(e, &plan, p, &map, m, free, stopped);
+    scored(score, e, shape.n, first, found)
 }
 
 fn try_case(score: Score) -> Score {
@@ -888,6 +889,7 @@ fn try_all() -> Score {
         seed: SEED,
         cases: 0,
         refused: 0,
+        numbers: 0,
         long: 0,
         differences: 0,
     };
@@ -903,6 +905,7 @@ fn main() {
     let score = try_all();
     line(b"cases ", score.cases);
     line(b"refused ", score.refused);
+    line(b"a number in the first row ", score.numbers);
     line(b"more rounds than vertices ", score.long);
     line(b"differences ", score.differences);
 }

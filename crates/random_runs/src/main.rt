@@ -750,10 +750,10 @@ fn wanted(
 
 fn run(call: u8, rounds: u16, plan: &[u8], map: &[u8], out: &mut [u8]) -> u32 {
     match call {
-        0 => engine_stub::pull(plan, map, out),
-        1 => engine_stub::push(plan, map, out),
-        2 => engine_stub::pull_rounds(plan, map, rounds, out),
-        3 => engine_stub::push_rounds(plan, map, rounds, out),
+        0 => engine::pull(plan, map, out),
+        1 => engine::push(plan, map, out),
+        2 => engine::pull_rounds(plan, map, rounds, out),
+        3 => engine::push_rounds(plan, map, rounds, out),
         _ => WRONG,
     }
 }

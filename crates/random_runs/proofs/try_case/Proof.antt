@@ -32,14 +32,8 @@ random-trees-requires c κs = search needs
 next-requires-2 : tie.Need-next-requires-2
 next-requires-2 c κs = search needs
 
-lesser-requires : tie.Need-lesser-requires
-lesser-requires c κs = search needs
-
-cast-used : tie.Need-cast-used
-cast-used c = search needs
-
-mul-used : tie.Need-mul-used
-mul-used c = search needs
+edge-numbers-requires : tie.Need-edge-numbers-requires
+edge-numbers-requires c κs = search needs
 
 array-share-prefix-rows : tie.Need-array-share-prefix-rows
 array-share-prefix-rows c = search needs
@@ -72,9 +66,7 @@ try-case-spec =
     slice-aggregate-random-trees
     random-trees-requires
     next-requires-2
-    lesser-requires
-    cast-used
-    mul-used
+    edge-numbers-requires
     array-share-prefix-rows
     slice-aggregate-try-shape
     slice-aggregate-try-shape-2

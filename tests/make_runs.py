@@ -285,7 +285,7 @@ def wide(terms):
 
 
 def trial_limits():
-    """"Depth 16, 64 terms, 256 places read; 17, 65, 257 refused 11, 12, 4.\""""
+    # "Depth 16, 64 terms, 256 places read; 17, 65, 257 refused 11, 12, 4."
     yield from ends("depth 16", at_each(slots(2), term=deep(16)), MAP_A, 3, [15, 20, 17, 20])
     yield from refused(11, "depth 17", at_each(slots(2), term=deep(17)), MAP_A)
     # 63 terms have 32 leaves, 31 of them 1; the 64th term is the final one
@@ -332,9 +332,8 @@ def traps():
     for name, rows in (("forward", LINE), ("backward", LINE[::-1])):
         yield from runs(f"a neighbour's new value, rows {name}", at_each(slots(1)), map_file(4, *rows),
                         [[0, _, _, _], [0, 1, _, _], [0, 1, 2, _], [0, 1, 2, 3], [0, 1, 2, 3], [0, 1, 2, 3]])
-    loop = [[full, _], [1, 1], [1, 1], [1, 1]]
     yield from runs("a neighbour's new value, a self-passage first", at_each(slots(6)), map_file(2, (0, 0, 0, 1), (0, 1, 0, 9)),
-                    [[full, _], [1, 9], *loop[1:]])
+                    [[full, _], [1, 9], [1, 1], [1, 1], [1, 1]])
 
 
 # ---- worksheets that no fusing writes, and each part of a worksheet

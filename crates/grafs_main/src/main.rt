@@ -1,0 +1,151 @@
+// The program (document 01): "reads `question.lpq` and `map.lpm` (an unreadable file counts as no bytes), judges the question first, runs by pull and prints a rounds
+// line, then place and value lines with `-` for absent; for kind 1 `result` and the value in their stead; or `refused` and the number alone. One space parts the
+// fields and a line feed ends each line."
+use value::Value;
+ghost use mathlib.Core.Path.{_≡_};
+ghost use Prim.Native.Nat.{_+_, _*_, _≤_};
+ghost use lib.ListN.{length};
+ghost use Rattle.io.specs.Counts.{Counts};
+ghost use Rattle.wire.specs.Wire.{at16, at32};
+ghost use Rattle.answer.specs.Decode.{at64, row-in};
+
+const OUT: i32 = 1;
+
+// The refusals of the calls start here.
+const REFUSAL: u32 = 65536;
+
+// Whether a file cannot be read on. At its end it can.
+fn broken(fd: i32) -> bool {
+    let mut next = [0u8; 1];
+    libc::read(fd, &mut next) < 0
+}
+
+// The bytes of a file, as many as the buffer takes; none where the file cannot be opened or read.
+fn load(path: &[u8], buf: &mut [u8]) -> usize
+    ensures { λ r. ⌜ Counts r (now (buf .exit)) ⌝ }
+{
+    let fd = os::open_read(path);
+    if fd < 0 {
+        return io::count(0, buf);
+    }
+    let n = io::read_full(fd, buf);
+    let bad = broken(fd);
+    libc::close(fd);
+    if bad {
+        return io::count(0, buf);
+    }
+    n
+}
+
+fn wide(b: u8) -> u64
+    ensures { λ r. ⌜ (r ≡ b) × (r ≤ 255) ⌝ }
+{
+    b as u64
+}
+
+// 16 bits, low byte first. The fields of an answer's head and of a row lie within ten bytes.
+fn half(s: &[u8], at: usize) -> u64
+    requires { ⌜ at ≤ 8 ⌝ }
+    ensures { λ r. ⌜ (r ≡ at16 (now (s .entry)) at) × (r ≤ 65535) ⌝ }
+{
+    wide(nodes::byte(s, at)) + 256 * wide(nodes::byte(s, at + 1))
+}
+
+fn word(s: &[u8], at: usize) -> u64
+    requires { ⌜ at ≤ 6 ⌝ }
+    ensures { λ r. ⌜ (r ≡ at32 (now (s .entry)) at) × (r ≤ 4294967295) ⌝ }
+{
+    half(s, at) + 65536 * half(s, at + 2)
+}
+
+fn number(row: &[u8]) -> u64
+    ensures { λ r. ⌜ r ≡ at64 (now (row .entry)) 1 ⌝ }
+{
+    word(row, 1) + 4294967296 * word(row, 5)
+}
+
+// The row at the front: "a byte, 1 for a number and 0 for absent, and 64 bits".
+fn first_row(rows: &[u8]) -> Value
+    ensures { λ r. ⌜ r ≡ row-in (now (rows .entry)) ⌝ }
+{
+    if nodes::byte(rows, 0) == 0 {
+        return Value::Absent;
+    }
+    Value::Number(number(rows))
+}
+
+fn line(name: &[u8], value: u64) {
+    io::write_all(OUT, name);
+    io::print_decimal(OUT, value);
+    io::write_all(OUT, b"\n");
+}
+
+// The end of a line: a value, with `-` for absent.
+fn print_value(v: Value) {
+    let Value::Number(x) = v else {
+        io::write_all(OUT, b" -\n");
+        return;
+    };
+    line(b" ", x);
+}
+
+// The place and value lines.
+fn print_rows(answer: &[u8], count: usize)
+    requires { ⌜ 10 + 9 * count ≤ length (now answer) ⌝ }
+{
+    let mut i: usize = 0;
+    while i < count {
+        let at = 10 + 9 * i;
+        io::print_decimal(OUT, i as u64);
+        print_value(first_row(&answer[at..]));
+        i += 1;
+    }
+}
+
+// An answer has n at 5, the rounds at 7, the kind at 9 and its rows from 10 on.
+fn print_answer(answer: &[u8])
+    requires { ⌜ 2314 ≤ length (now answer) ⌝ }
+{
+    line(b"rounds ", half(answer, 7));
+    if nodes::byte(answer, 9) != 0 {
+        io::write_all(OUT, b"result");
+        print_value(first_row(&answer[10..]));
+        return;
+    }
+    print_rows(answer, wire::lesser(half(answer, 5) as usize, 256));
+}
+
+// The longest answer, of 256 rows, has 2,314 bytes: 15 does not occur.
+fn run(worksheet: &[u8], map: &[u8]) {
+    let mut answer = [0u8; 2314];
+    let done = engine::pull(worksheet, map, &mut answer);
+    if REFUSAL <= done {
+        line(b"refused ", (done - REFUSAL) as u64);
+        return;
+    }
+    print_answer(&answer);
+}
+
+// The longest worksheet has 560 bytes: 15 does not occur here either.
+fn answer(question: &[u8], map: &[u8]) {
+    let mut worksheet = [0u8; 560];
+    let done = fusion::fuse(question, &mut worksheet);
+    if REFUSAL <= done {
+        line(b"refused ", (done - REFUSAL) as u64);
+        return;
+    }
+    let len = wire::lesser(done as usize, 560);
+    run(&worksheet[..len], map);
+}
+
+// A longer file is judged by its first bytes as it is whole:
+// - a question by 455 of them. Of 64 terms, at most 7 bytes each behind the first 6, nothing lies past 454; there a 65th term is refused for being there (12), and any
+//   other byte for being left over (6). So only the byte behind them is asked about, and whether it is there.
+// - a map by 8,202: none is longer than 9 + 8 * 1,024, so one with a byte more is refused 6 or before, and its head has 9.
+fn main() {
+    let mut question = io::buffer();
+    let n = load(b"question.lpq", &mut question);
+    let mut map = io::large_buffer();
+    let m = load(b"map.lpm", &mut map);
+    answer(&question[..n], &map[..m]);
+}

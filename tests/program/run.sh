@@ -1,0 +1,127 @@
+#!/bin/bash
+# The program on stored questions and maps: its whole output, byte for byte, in a folder that has nothing else.
+# Bytes are written in hexadecimal; what is expected is written by hand from document 01.
+set -eu
+cd "$(dirname "$0")/../.."
+rt check grafs_main >/dev/null
+program=$PWD/target/bin/grafs_main
+dir=$(mktemp -d)
+trap 'rm -rf "$dir"' EXIT
+cases=0
+differences=0
+
+# The bytes of a line of hexadecimal digits; blanks part them as they like.
+bytes() { local h=${1//[[:space:]]/}; printf "$(sed 's/../\\x&/g' <<<"$h")"; }
+
+# A text so many times.
+times() { local i; for ((i = 0; i < $1; i++)); do printf %s "$2"; done; }
+
+# A question or a map for a case: hexadecimal digits, `missing` for none, `folder` for what opens and cannot be read.
+put() {
+    case $2 in
+    missing) ;;
+    folder) mkdir "$1" ;;
+    *) bytes "$2" >"$1" ;;
+    esac
+}
+
+# try NAME QUESTION MAP LINE..
+try() {
+    local name=$1 question=$2 map=$3
+    shift 3
+    rm -rf "$dir/at"
+    mkdir "$dir/at"
+    put "$dir/at/question.lpq" "$question"
+    put "$dir/at/map.lpm" "$map"
+    printf '%s\n' "$@" >"$dir/expected"
+    cases=$((cases + 1))
+    if (cd "$dir/at" && "$program" >"$dir/output" 2>&1) && cmp -s "$dir/expected" "$dir/output"; then
+        return
+    fi
+    differences=$((differences + 1))
+    echo "differs: $name"
+    diff "$dir/expected" "$dir/output" | head -10 || true
+}
+
+# ---------------------------------------------------------------------------------------------- questions and maps
+each='4c5051 0100 00'   # a value at each place
+one='4c5051 0100 01'    # one result
+seconds="$each 10 01 02 0000"
+wrong_order="$each 10 02 05 02 0000"   # keys 5,2
+plus='12 03'
+chain='10 03 020205 0000'              # a term of the greatest length, 7 bytes
+apply() { echo "22 0$1 $2 $3"; }       # an operator and two result terms
+most='21 ffffffff'                     # the greatest literal
+
+# An odd number of place terms in a tree of little depth.
+tree() {
+    local left=$((($1 - 1) / 2 | 1))
+    if [ "$1" = 1 ]; then
+        echo "$chain"
+    else
+        echo "$plus $(tree $left) $(tree $(($1 - 1 - left)))"
+    fi
+}
+
+# Map A: 0→1 5 s size 10; 0→2 2 s size 4; 2→1 3 s size 20; 1→3 0 s size 7.
+map_a='4c504d 0100 0400 0400  0000 0100 0500 0a00  0000 0200 0200 0400  0200 0100 0300 1400  0100 0300 0000 0700'
+loop='4c504d 0100 0100 0100  0000 0000 0100 0300'                          # one place, self-passage size 3
+alone='4c504d 0100 0100 0000'
+back='4c504d 0100 0200 0200  0000 0100 0100 0900  0100 0000 0100 0200'     # 0→1 size 9, 1→0 size 2
+bad_map='4c5058 0100 0100 0000'                                            # the third letter differs
+widest='4c504d 0100 0001 0000'                                             # 256 places, no passage
+fullest="4c504d 0100 0100 0004 $(times 1024 '0000 0000 0100 0300')"        # 1,024 passages: 8,201 bytes
+
+# ---------------------------------------------------------------------------------------------- the marked trials
+try 'seconds from 0' "$seconds" "$map_a" 'rounds 3' '0 0' '1 5' '2 2' '3 5'
+try 'keys 2,5 from 0' "$each 10 02 0205 0000" "$map_a" 'rounds 3' '0 65535' '1 10' '2 4' '3 7'
+try 'keys 2,6 from 0' "$each 10 02 0206 0000" "$map_a" 'rounds 4' '0 65535' '1 4' '2 4' '3 4'
+try 'key 6 from 0' "$each 10 01 06 0000" "$map_a" 'rounds 4' '0 65535' '1 4' '2 4' '3 4'
+try 'absent rows: key 1 from 3' "$each 10 01 01 0300" "$map_a" 'rounds 1' '0 -' '1 -' '2 -' '3 0'
+try 'key 6 at a self-passage' "$each 10 01 06 0000" "$loop" 'rounds 2' '0 3'
+try 'key 6 with no passage' "$each 10 01 06 0000" "$alone" 'rounds 1' '0 65535'
+try 'key 6 there and back' "$each 10 01 06 0000" "$back" 'rounds 4' '0 2' '1 2'
+try 'keys 5,2' "$wrong_order" "$map_a" 'refused 10'
+try 'one result: greatest of key 1' "$one 20 02 10 01 01 0000" "$map_a" 'rounds 3' 'result 2'
+
+# ---------------------------------------------------------------------------------------------- rows
+try 'no chain' "$each 11 07000000" "$alone" 'rounds 1' '0 7'
+try 'a result that is absent: 1 - 2' "$one $(apply 4 '21 01000000' '21 02000000')" "$alone" 'rounds 1' 'result -'
+# (2^32 - 1) * (2^32 - 1) + ((2^32 - 1) + (2^32 - 1)) = 2^64 - 1
+try 'the greatest number' "$one $(apply 3 "$(apply 5 "$most" "$most")" "$(apply 3 "$most" "$most")")" "$alone" \
+    'rounds 1' 'result 18446744073709551615'
+mapfile -t itself < <(for ((i = 0; i < 256; i++)); do echo "$i $i"; done)
+try '256 places, each its own start' "$each 10 01 03 ffff" "$widest" 'rounds 1' "${itself[@]}"
+try '1,024 passages' "$each 10 01 06 0000" "$fullest" 'rounds 2' '0 3'
+
+# ---------------------------------------------------------------------------------------------- files, and the order of judging
+try 'no question' missing "$map_a" 'refused 1'
+try 'no map' "$seconds" missing 'refused 1'
+try 'neither' missing missing 'refused 1'
+try 'a question of no bytes' '' "$map_a" 'refused 1'
+try 'a question that cannot be read' folder "$map_a" 'refused 1'
+try 'a map that cannot be read' "$seconds" folder 'refused 1'
+try 'a bad map' "$seconds" "$bad_map" 'refused 2'
+try 'a bad question and a bad map' "$wrong_order" "$bad_map" 'refused 10'
+try 'a bad question and no map' "$wrong_order" missing 'refused 10'
+try 'a bad question with a start that the map has not' "$each 10 02 0502 0400" "$map_a" 'refused 10'
+try 'a start that the map has not' "$each 10 01 02 0400" "$map_a" 'refused 13'
+try 'a bad map and a start that it has not' "$each 10 01 02 0400" "$bad_map" 'refused 2'
+
+# ---------------------------------------------------------------------------------------------- longer files than any legal one
+long=$(times 6000 00)
+try 'a question and 1 byte' "$seconds 00" "$map_a" 'refused 6'
+try 'a question and 6,000 bytes' "$seconds $long" "$map_a" 'refused 6'
+try '63 terms and 6,000 bytes' "$each $(tree 63) $long" "$map_a" 'refused 6'
+try '65 terms and 6,000 bytes' "$each $(tree 65) $long" "$map_a" 'refused 12'
+try '64 terms, and a byte where the 65th is due' "$each $plus $(tree 63) ff" "$map_a" 'refused 12'
+try '64 terms, and nothing where the 65th is due' "$each $plus $(tree 63)" "$map_a" 'refused 1'
+try 'depth 17 and 6,000 bytes' "$each $(times 16 "$plus ") $chain $long" "$map_a" 'refused 11'
+try '6,000 bytes of no question' "$long" "$map_a" 'refused 2'
+try '1,024 passages and 1 byte' "$seconds" "$fullest 00" 'refused 6'
+try '1,024 passages and 70,000 bytes' "$seconds" "$fullest $(times 70000 00)" 'refused 6'
+try '1,025 passages' "$seconds" "${fullest/0100 0004/0100 0104} 0000 0000 0100 0300" 'refused 5'
+try 'a map of 70,000 bytes that has 1 place and no passage' "$seconds" "$alone $(times 70000 00)" 'refused 6'
+
+echo "$cases cases, $differences differ"
+[ "$differences" = 0 ]

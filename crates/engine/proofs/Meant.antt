@@ -229,6 +229,20 @@ module _ (p : Plan) (legal : PlanLegal 256 p) (m : List ℕ) (bytes : Bytes m) (
       let fits = sources-fit (at16 m 5) (p .paths) (legal .paths-legal) (rw paths-are-its at z) in
       run-answers fits (meant given limit) room ∙ sym (finished-encodes p legal m bytes map-ok fits push given limit room h)
 
+-- FOR ALL BYTES that are not refused before 15: they are those of a legal plan, and the reply is the encoding of its outcome, where it fits
+pub run-means : (s m : List ℕ) → Bytes s → Bytes m → run-code (plan-scan s) m ≡ 0
+    → (p : Plan) × PlanLegal 256 p × (encode p ≡ s)
+    × ((limit : Option ℕ) (room : ℕ) → run-reply limit s m room ≡ fitted (answer.encode (at16 m 5) (kind-of (p .body)) (outcome limit (graph-of m) p)) room)
+unfolding run-code
+run-means s m bs bm z =
+    let a = then-both (plan-code s) (then (graph-code m) (sources-code (at16 m 5) (paths-of (plan-scan s)))) z in
+    let b = then-both (graph-code m) (sources-code (at16 m 5) (paths-of (plan-scan s))) (a .1) in
+    let r = read-sound s bs (a .0) in
+    let p = r .0 in
+    let its = paths-held (plan-scan (encode p)) (p .paths) (read-complete p (r .1) .table) in
+    let fits = sources-fit (at16 m 5) (p .paths) (r .1 .paths-legal) (subst (λ (cs : List PathReduction). sources-code (at16 m 5) cs ≡ 0) its (subst (λ (t : List ℕ). sources-code (at16 m 5) (paths-of (plan-scan t)) ≡ 0) (sym (r .2)) (b .1))) in
+    (p, r .1, r .2, λ limit room. ap (λ (t : List ℕ). run-reply limit t m room) (sym (r .2)) ∙ run-answers p (r .1) m bm (b .0) fits limit room)
+
 pub finished-meant : (push given : Bool) (limit : ℕ) (s m : List ℕ) (room : ℕ) → limit < 65536 → Bytes s → Bytes m → run-code (plan-scan s) m ≡ 0
     → run-reply (meant given limit) s m room ≡ finished push given limit s (plan-scan s) m room
 unfolding run-code

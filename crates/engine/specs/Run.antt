@@ -39,7 +39,8 @@ abbrev pub rounds-done : Option ℕ → Graph → List PathReduction → ℕ
 rounds-done none g cs = rounds (g .vertices) (map (pull g) cs)
 rounds-done (some r) g cs = r
 
--- the worksheet's rows from the values of its chains after r rounds
+-- the worksheet's rows from the values of its chains after r rounds, evaluated from its bytes: those of the plan's tree (`run-answers`, proofs/Meant), so that nothing of
+-- `body-found` need be believed
 unfoldable pub rows-after : List ℕ → Graph → List PathReduction → ℕ → List Value
 rows-after s g cs r = values (body-found s (λ v. eight (values-at (pull g) cs r v)) (g .vertices))
 

@@ -3,7 +3,7 @@
 use Prim.Native.Nat.{ℕ, zero, _+_, _*_, _≤_}
 use mathlib.Core.Path.{_≡_, refl, sym, ap, _∙_, subst}
 use mathlib.Core.List.{List, _++_}
-use mathlib.Core.Option.{none}
+use mathlib.Core.Option.{none, some}
 use borrow.Author.Tests.{le-ltb}
 use lib.ListN.{length, take, drop}
 use lib.Seq.{take-at}
@@ -17,13 +17,13 @@ use Rattle.fusion.proofs.Exact.{fuse-fits}
 use Rattle.graph.specs.Graph.{graph-code, graph-of}
 use Rattle.graph.proofs.Exact as graph
 use Rattle.meaning.specs.Limits.{GraphFits, QueryFits, QueryLegal}
-use Rattle.meaning.specs.Meaning.{Correct, Outcome}
+use Rattle.meaning.specs.Meaning.{Correct, Outcome, UnfusedWithin}
 use Rattle.meaning.specs.Plan.{fuse}
 use Rattle.meaning.specs.Query.{Query, each, single}
 use Rattle.meaning.specs.Run.{pull, run, stopped}
 use Rattle.meaning.proofs.Limits.{fuse-legal}
 use Rattle.meaning.proofs.Lists.{tabulate-length}
-use Rattle.meaning.proofs.Main.{fused-fit, pull-correct}
+use Rattle.meaning.proofs.Main.{fused-fit, pull-correct, pull-within, stopped-count}
 use Rattle.plan.specs.Text.{kind-of}
 use Rattle.plan.specs.Text as plan
 use Rattle.query.specs.Query.{query-code}
@@ -86,6 +86,18 @@ module _ (q : Query) (legal : QueryLegal 256 q) (m : List ℕ) (bytes : Bytes m)
   -- how long the answer is: 10 bytes and 9 for each row
   pub answer-long : length (answer.encode (at16 m 5) (query-kind q) (outcome none (graph-of m) (fuse q))) ≡ answer-size (at16 m 5) (query-kind q)
   answer-long = encode-length (at16 m 5) (query-kind q) o ∙ ap (λ (k : ℕ). 10 + 9 * k) (rows-counted q (graph-of m) (rounds-done none (graph-of m) (fuse q .paths)))
+
+  -- DEMAND 2 over queries: stopped after r rounds, the fused worksheet is answered by the meaning over walks of at most r edges, and r is reported
+  pub answers-stopped : (r room : ℕ)
+      → (o : Outcome) × UnfusedWithin (graph-of m) r q (o .rows) × (o .count ≡ r) × (run-reply (some r) (plan.encode (fuse q)) m room ≡ fitted (answer.encode (at16 m 5) (query-kind q) o) room)
+  answers-stopped r room =
+      let s : Outcome = stopped (pull (graph-of m)) (at16 m 5) (fuse q) r in (
+        s,
+        pull-within (graph-of m) fits q starts r,
+        stopped-count (pull (graph-of m)) (at16 m 5) (fuse q) r,
+        run-answers (fuse q) (fuse-legal 256 q legal) m bytes map-ok (fused-fit (graph-of m) fits q starts) (some r) room
+            ∙ ap (λ (k : ℕ). fitted (answer.encode (at16 m 5) k s) room) (kind-fused q),
+      )
 
 -- DEMAND 3: every question and map that the readers accept, the map having each start that the question names
 pub answers : (question m : List ℕ) → Bytes question → Bytes m → query-code question ≡ 0 → graph-code m ≡ 0

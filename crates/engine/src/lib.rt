@@ -10,17 +10,11 @@ ghost use Rattle.wire.specs.Wire.{at16, reply-number, reply-buffer};
 ghost use Rattle.engine.specs.Run.{path-of, source-code, sources-code, run-reply};
 ghost use Rattle.engine.specs.Steps.{run-code, limit-of, count-of, finished, meant};
 
-fn wide(b: u8) -> u16
-    ensures { λ r. ⌜ (r ≡ b) × (r ≤ 255) ⌝ }
-{
-    b as u16
-}
-
 // How many vertices a map has, by its field.
 fn vertices(map: &[u8]) -> u16
     ensures { λ r. ⌜ r ≡ at16 (now (map .entry)) 5 ⌝ }
 {
-    wide(nodes::byte(map, 5)) + 256 * wide(nodes::byte(map, 6))
+    wire::half(map, 5) as u16
 }
 
 // 13 for a source that is no vertex and not anywhere.
@@ -105,7 +99,7 @@ fn finish(
     ensures { λ r. ⌜ (r ≡ reply-number (finished push given limit (now (plan .entry)) w (now (map .entry)) (length (now (out .entry))))) × (now (out .exit) ≡ reply-buffer (finished push given limit (now (plan .entry)) w (now (map .entry)) (length (now (out .entry)))) (now (out .entry))) ⌝ }
 {
     let n = vertices(map);
-    let kind = nodes::byte(plan, 5);
+    let kind = wire::byte(plan, 5);
     let k = answer::judge(n, kind, out.len());
     if k != 0 {
         return 65536 + k as u32;

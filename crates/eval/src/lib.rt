@@ -6,7 +6,6 @@ ghost use mathlib.Core.Path.{_≡_};
 ghost use Prim.Native.Nat.{_+_, _≤_};
 ghost use lib.ListN.{length, getD};
 ghost use Rattle.value.specs.Value.{values};
-ghost use Rattle.wire.specs.Wire.{at16, at32};
 ghost use Rattle.eval.specs.Eval.{one-of, head, evaluated};
 ghost use Rattle.eval.specs.Body.{expression-end};
 
@@ -20,28 +19,6 @@ pub struct Found {
 pub enum Head {
     Leaf(Found),
     Apply(u8, usize),
-}
-
-fn wide(b: u8) -> u64
-    ensures { λ r. ⌜ (r ≡ b) × (r ≤ 255) ⌝ }
-{
-    b as u64
-}
-
-// 16 bits at i.
-fn half(s: &[u8], i: usize) -> u64
-    requires { ⌜ i ≤ length (now s) + 4 ⌝ }
-    ensures { λ r. ⌜ (r ≡ at16 (now (s .entry)) i) × (r ≤ 65535) ⌝ }
-{
-    wide(nodes::byte(s, i)) + 256 * wide(nodes::byte(s, i + 1))
-}
-
-// 32 bits at i.
-fn word(s: &[u8], i: usize) -> u64
-    requires { ⌜ i ≤ length (now s) ⌝ }
-    ensures { λ r. ⌜ r ≡ at32 (now (s .entry)) i ⌝ }
-{
-    half(s, i) + 65536 * half(s, i + 2)
 }
 
 // The value of row i, absent where there is no such row.
@@ -78,18 +55,18 @@ fn head_of(s: &[u8], rows: [Row; 8], at: usize) -> Head
     let tag = s[at];
     if one_of(tag, 0x30, 0x31) {
         return Head::Leaf(Found {
-            value: value_at(rows, nodes::byte(s, at + 1)),
+            value: value_at(rows, wire::byte(s, at + 1)),
             next: at + 2,
         });
     }
     if one_of(tag, 0x11, 0x21) {
         return Head::Leaf(Found {
-            value: Value::Number(word(s, at + 1)),
+            value: Value::Number(wire::word(s, at + 1) as u64),
             next: at + 5,
         });
     }
     if one_of(tag, 0x12, 0x22) {
-        return Head::Apply(nodes::byte(s, at + 1), at + 2);
+        return Head::Apply(wire::byte(s, at + 1), at + 2);
     }
     Head::Leaf(Found {
         value: Value::Absent,

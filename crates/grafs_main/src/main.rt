@@ -6,7 +6,6 @@ ghost use mathlib.Core.Path.{_≡_};
 ghost use Prim.Native.Nat.{_+_, _*_, _≤_};
 ghost use lib.ListN.{length};
 ghost use Rattle.io.specs.Counts.{Counts};
-ghost use Rattle.wire.specs.Wire.{at16, at32};
 ghost use Rattle.answer.specs.Decode.{at64, row-in};
 
 const OUT: i32 = 1;
@@ -37,38 +36,23 @@ fn load(path: &[u8], buf: &mut [u8]) -> usize
     n
 }
 
-fn wide(b: u8) -> u64
-    ensures { λ r. ⌜ (r ≡ b) × (r ≤ 255) ⌝ }
+fn wide(x: u32) -> u64
+    ensures { λ r. ⌜ (r ≡ x) × (r ≤ 4294967295) ⌝ }
 {
-    b as u64
-}
-
-// 16 bits, low byte first. The fields of an answer's head and of a row lie within ten bytes.
-fn half(s: &[u8], at: usize) -> u64
-    requires { ⌜ at ≤ 8 ⌝ }
-    ensures { λ r. ⌜ (r ≡ at16 (now (s .entry)) at) × (r ≤ 65535) ⌝ }
-{
-    wide(nodes::byte(s, at)) + 256 * wide(nodes::byte(s, at + 1))
-}
-
-fn word(s: &[u8], at: usize) -> u64
-    requires { ⌜ at ≤ 6 ⌝ }
-    ensures { λ r. ⌜ (r ≡ at32 (now (s .entry)) at) × (r ≤ 4294967295) ⌝ }
-{
-    half(s, at) + 65536 * half(s, at + 2)
+    x as u64
 }
 
 fn number(row: &[u8]) -> u64
     ensures { λ r. ⌜ r ≡ at64 (now (row .entry)) 1 ⌝ }
 {
-    word(row, 1) + 4294967296 * word(row, 5)
+    wide(wire::word(row, 1)) + 4294967296 * wide(wire::word(row, 5))
 }
 
 // The row at the front: "a byte, 1 for a number and 0 for absent, and 64 bits".
 fn first_row(rows: &[u8]) -> Value
     ensures { λ r. ⌜ r ≡ row-in (now (rows .entry)) ⌝ }
 {
-    if nodes::byte(rows, 0) == 0 {
+    if wire::byte(rows, 0) == 0 {
         return Value::Absent;
     }
     Value::Number(number(rows))
@@ -106,13 +90,13 @@ fn print_rows(answer: &[u8], count: usize)
 fn print_answer(answer: &[u8])
     requires { ⌜ 2314 ≤ length (now answer) ⌝ }
 {
-    line(b"rounds ", half(answer, 7));
-    if nodes::byte(answer, 9) != 0 {
+    line(b"rounds ", wide(wire::half(answer, 7)));
+    if wire::byte(answer, 9) != 0 {
         io::write_all(OUT, b"result");
         print_value(first_row(&answer[10..]));
         return;
     }
-    print_rows(answer, wire::lesser(half(answer, 5) as usize, 256));
+    print_rows(answer, wire::lesser(wire::half(answer, 5) as usize, 256));
 }
 
 // The longest answer, of 256 rows, has 2,314 bytes: 15 does not occur.

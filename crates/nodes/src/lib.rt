@@ -4,7 +4,7 @@ ghost use mathlib.Core.Path.{_≡_};
 ghost use Prim.Native.Nat.{_+_, _≤_, _<_, min};
 ghost use lib.ListN.{length, getD, take};
 ghost use mathlib.Core.List.{_∷_};
-ghost use Rattle.wire.specs.Wire.{at16, at32, le32};
+ghost use Rattle.wire.specs.Wire.{le32};
 ghost use Rattle.nodes.specs.Nodes.{term-at, next-at, nodes-read};
 ghost use Rattle.nodes.specs.Text.{key-text, path-text, term-text, nodes-text};
 ghost use Rattle.draft.specs.Draft.{put-list};
@@ -27,35 +27,6 @@ pub struct Node {
     pub term: Term,
 }
 
-// The byte at i, or 0 past the end.
-pub fn byte(s: &[u8], i: usize) -> u8
-    ensures { λ r. ⌜ r ≡ getD (now (s .entry)) i 0 ⌝ }
-{
-    if i < s.len() { s[i] } else { 0 }
-}
-
-fn wide(b: u8) -> u32
-    ensures { λ r. ⌜ (r ≡ b) × (r ≤ 255) ⌝ }
-{
-    b as u32
-}
-
-// 16 bits at i.
-fn half(s: &[u8], i: usize) -> u32
-    requires { ⌜ i ≤ length (now s) + 4 ⌝ }
-    ensures { λ r. ⌜ (r ≡ at16 (now (s .entry)) i) × (r ≤ 65535) ⌝ }
-{
-    wide(byte(s, i)) + 256 * wide(byte(s, i + 1))
-}
-
-// 32 bits at i.
-fn word(s: &[u8], i: usize) -> u32
-    requires { ⌜ i ≤ length (now s) ⌝ }
-    ensures { λ r. ⌜ r ≡ at32 (now (s .entry)) i ⌝ }
-{
-    half(s, i) + 65536 * half(s, i + 2)
-}
-
 // The term that starts at i, by its tag.
 fn term_of(s: &[u8], i: usize) -> Term
     ensures { λ r. ⌜ r ≡ term-at (now (s .entry)) i ⌝ }
@@ -68,25 +39,25 @@ fn term_of(s: &[u8], i: usize) -> Term
         return Term::Path(fields::path_word(s, i + 1));
     }
     if tag == 0x11 {
-        return Term::Literal(word(s, i + 1));
+        return Term::Literal(wire::word(s, i + 1));
     }
     if tag == 0x12 {
-        return Term::Apply(byte(s, i + 1));
+        return Term::Apply(wire::byte(s, i + 1));
     }
     if tag == 0x20 {
-        return Term::Reduce(byte(s, i + 1));
+        return Term::Reduce(wire::byte(s, i + 1));
     }
     if tag == 0x21 {
-        return Term::ResultLiteral(word(s, i + 1));
+        return Term::ResultLiteral(wire::word(s, i + 1));
     }
     if tag == 0x22 {
-        return Term::ResultApply(byte(s, i + 1));
+        return Term::ResultApply(wire::byte(s, i + 1));
     }
     if tag == 0x30 {
-        return Term::PathIndex(byte(s, i + 1));
+        return Term::PathIndex(wire::byte(s, i + 1));
     }
     if tag == 0x31 {
-        return Term::EntryIndex(byte(s, i + 1));
+        return Term::EntryIndex(wire::byte(s, i + 1));
     }
     if tag < 0x10 {
         return Term::Entry(tag);
@@ -103,7 +74,7 @@ fn next_of(s: &[u8], i: usize) -> usize
     }
     let tag = s[i];
     if tag == 0x10 {
-        return i + 4 + (byte(s, i + 1) as usize);
+        return i + 4 + (wire::byte(s, i + 1) as usize);
     }
     if tag == 0x11 {
         return i + 5;

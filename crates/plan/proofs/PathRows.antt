@@ -16,7 +16,7 @@ use Rattle.terms.specs.declared.Walk.{Walk}
 use Rattle.fields.specs.Fields.{code-of, key-code, source-code}
 use Rattle.terms.specs.Terms.{blank}
 use Rattle.term_text.specs.Text.{path-number}
-use Rattle.fields.proofs.Laws.{getD-any}
+use Rattle.wire.proofs.Past.{getD-any}
 use Rattle.term_text.proofs.Paths.{code-range, code-zero, drop-at, key-known, key-zero, legal-parts, nth, present, source-range, source-small, source-zero, two-bytes}
 use Rattle.term_text.proofs.Steps.{drop-on, there}
 use Rattle.term_text.proofs.Table.{Table}

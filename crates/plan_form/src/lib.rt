@@ -58,7 +58,7 @@ pub fn read(s: &[u8]) -> Reading
     let entries = wire::lesser(w.reductions, 8);
     let count = wire::lesser(w.terms, 64) + entries;
     let list = nodes::read_nodes(s, 8 + 6 * paths, count);
-    let kind = nodes::byte(s, 5);
+    let kind = wire::byte(s, 5);
     let table = w.table;
     Reading {
         code: 0,

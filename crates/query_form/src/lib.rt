@@ -54,7 +54,7 @@ pub fn read(s: &[u8]) -> Reading
     }
     let count = w.terms;
     let list = nodes::read_nodes(s, 6, count);
-    let kind = nodes::byte(s, 5);
+    let kind = wire::byte(s, 5);
     let table = w.table;
     Reading {
         code: 0,

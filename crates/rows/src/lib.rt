@@ -32,7 +32,7 @@ fn wide(b: u8) -> usize
 fn place_of(plan: &[u8]) -> usize
     ensures { λ r. ⌜ (r ≡ count-place (now (plan .entry))) × (r ≤ 1537) ⌝ }
 {
-    7 + 6 * wide(nodes::byte(plan, 6))
+    7 + 6 * wide(wire::byte(plan, 6))
 }
 
 // The values of the path reductions at the vertex v.
@@ -80,7 +80,7 @@ fn result_of(plan: &[u8], at: usize, figures: &[u32], paths: usize, n: usize) ->
     ensures { λ r. ⌜ r ≡ reduce (getD (now (plan .entry)) at 0) (values (entry-rows (now (plan .entry)) (at + 1) (rows-at (now (figures .entry)) paths) n)) ⌝ }
 {
     let rows = entry_rows(plan, at + 1, figures, paths, n);
-    value::reduce_rows(nodes::byte(plan, at), rows, n)
+    value::reduce_rows(wire::byte(plan, at), rows, n)
 }
 
 // The results of the e entries from `at` on.
@@ -134,9 +134,9 @@ pub fn body_rows(plan: &[u8], figures: &[u32], paths: usize, n: usize) -> [Row; 
 {
     let count = at_most(n, 256);
     let at = place_of(plan);
-    if nodes::byte(plan, 5) == 0 {
+    if wire::byte(plan, 5) == 0 {
         return entry_rows(plan, at + 2, figures, paths, count);
     }
-    let e = at_most(wide(nodes::byte(plan, at)), 8);
+    let e = at_most(wide(wire::byte(plan, at)), 8);
     single(final_of(plan, at + 1, figures, paths, count, e))
 }

@@ -15,7 +15,7 @@ use Rattle.terms.specs.declared.Walk.{Walk}
 use Rattle.fields.specs.Fields.{code-of, path-code}
 use Rattle.terms.specs.Terms.{advanced, blank, index-step, kept-path, leaf-step, leaf-tag, literal-tag, path-step, read, reduce-step, stopped, term-step}
 use Rattle.term_text.specs.Text.{path-bytes, path-number, place-bytes}
-use Rattle.fields.proofs.Laws.{getD-any}
+use Rattle.wire.proofs.Past.{getD-any}
 use Rattle.term_text.proofs.Paths.{code-range, code-zero, drop-at, nth, path-accepted, path-count, path-found, path-numbered, present}
 use Rattle.term_text.proofs.Shape.{After, Complete, LeafSound, Leaves, Room, Sound, term-complete, term-count, term-paths, term-sound}
 use Rattle.term_text.proofs.Steps.{drop-on, read-by, step-is, table-advanced, tag-there, there}

@@ -20,7 +20,7 @@ use Rattle.wire.specs.Wire.{Bytes, le16}
 use Rattle.wire.proofs.Codes.{then-both, then-zero}
 use Rattle.fields.specs.Fields.{code-of, key-code, keys-code, path-code, path-word, source-code, used}
 use Rattle.term_text.specs.Text.{path-bytes, path-number}
-use Rattle.fields.proofs.Laws.{getD-any, getD-past}
+use Rattle.wire.proofs.Past.{getD-any, getD-past}
 
 -- a byte by its place in the rest
 pub nth : (s : List ℕ) (i j k d : ℕ) → k ≡ i + j → getD s k d ≡ getD (drop i s) j d

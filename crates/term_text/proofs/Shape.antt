@@ -17,7 +17,7 @@ use Rattle.terms.specs.declared.Walk.{Walk}
 use Rattle.fields.specs.Fields.{code-of}
 use Rattle.terms.specs.Terms.{advanced, apply-step, blank, leaf-tag, literal-step, literal-tag, read, stopped, term-step}
 use Rattle.term_text.specs.Text.{term-bytes}
-use Rattle.fields.proofs.Laws.{getD-any}
+use Rattle.wire.proofs.Past.{getD-any}
 use Rattle.terms.proofs.Laws.{handed-on}
 use Rattle.term_text.proofs.Paths.{code-range, code-zero, drop-at, nth, present}
 use Rattle.term_text.proofs.Steps.{drop-on, four-bytes, read-by, read-flat, read-starts, step-is, table-advanced, tag-there, there}

@@ -1,3 +1,4 @@
 pub mod Laid
 pub mod Codes
 pub mod Header
+pub mod Past

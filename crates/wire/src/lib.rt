@@ -2,9 +2,9 @@
 // "Numbers at the desk").
 ghost use mathlib.Core.Path.{_≡_};
 ghost use Prim.Native.Nat.{_≤_, min};
-ghost use lib.ListN.{length, take};
+ghost use lib.ListN.{length, getD, take};
 ghost use Rattle.wire.specs.Header.{header-code};
-ghost use Rattle.wire.specs.Wire.{fitted, reply-number, reply-buffer};
+ghost use Rattle.wire.specs.Wire.{at16, at32, fitted, reply-number, reply-buffer};
 
 // The refusal of a file's first five bytes, or 0: short (under five bytes, or under `least`), other letters, another version.
 pub fn judge_header(s: &[u8], letter: u8, least: usize) -> u8
@@ -32,6 +32,39 @@ pub fn judge_header(s: &[u8], letter: u8, least: usize) -> u8
         return 3;
     }
     0
+}
+
+// The byte at i, or 0 past the end.
+pub fn byte(s: &[u8], i: usize) -> u8
+    ensures { λ r. ⌜ r ≡ getD (now (s .entry)) i 0 ⌝ }
+{
+    if i < s.len() { s[i] } else { 0 }
+}
+
+fn wide(b: u8) -> u32
+    ensures { λ r. ⌜ (r ≡ b) × (r ≤ 255) ⌝ }
+{
+    b as u32
+}
+
+// 16 bits at i; bytes past the end read as 0.
+pub fn half(s: &[u8], i: usize) -> u32
+    ensures { λ r. ⌜ (r ≡ at16 (now (s .entry)) i) × (r ≤ 65535) ⌝ }
+{
+    if s.len() <= i {
+        return 0;
+    }
+    wide(s[i]) + 256 * wide(byte(s, i + 1))
+}
+
+// 32 bits at i.
+pub fn word(s: &[u8], i: usize) -> u32
+    ensures { λ r. ⌜ r ≡ at32 (now (s .entry)) i ⌝ }
+{
+    if s.len() <= i {
+        return 0;
+    }
+    half(s, i) + 65536 * half(s, i + 2)
 }
 
 // The lesser of two.

@@ -40,8 +40,11 @@ add-word c = search needs
 word-requires : tie.Need-word-requires
 word-requires c κs = search needs
 
-add-t21 : tie.Need-add-t21
-add-t21 c = search needs
+cast-t20 : tie.Need-cast-t20
+cast-t20 c = search needs
+
+add-t22 : tie.Need-add-t22
+add-t22 c = search needs
 
 returns-3 : tie.Need-returns-3
 unfolding head
@@ -56,8 +59,8 @@ add-byte-2 c = search needs
 byte-requires-2 : tie.Need-byte-requires-2
 byte-requires-2 c κs = search needs
 
-add-t26 : tie.Need-add-t26
-add-t26 c = search needs
+add-t27 : tie.Need-add-t27
+add-t27 c = search needs
 
 returns-4 : tie.Need-returns-4
 unfolding head
@@ -82,11 +85,12 @@ head-of-spec =
     one-of-requires-2
     add-word
     word-requires
-    add-t21
+    cast-t20
+    add-t22
     returns-3
     one-of-requires-3
     add-byte-2
     byte-requires-2
-    add-t26
+    add-t27
     returns-4
     returns-5)

@@ -1,7 +1,7 @@
 -- `fields::byte` meets its contract. Assumes nothing.
 use native.Mathlib.Omega.{arith}
 use borrow.Author.Needs.{needs}
-use Rattle.fields.proofs.Laws.{getD-any, getD-past}
+use Rattle.wire.proofs.Past.{getD-any, getD-past}
 use Rattle.fields.proofs.byte.Statement.{statement}
 use Rattle.fields.proofs.byte.Tie as tie
 

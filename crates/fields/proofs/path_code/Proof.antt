@@ -4,7 +4,7 @@ use borrow.Author.Needs.{needs}
 use native.Mathlib.Omega.{arith}
 use borrow.Author.Tests.{eq-eqb, ne-eqb}
 use Rattle.fields.specs.Fields.{path-code}
-use Rattle.fields.proofs.Laws.{getD-past}
+use Rattle.wire.proofs.Past.{getD-past}
 use Rattle.fields.proofs.path_code.Statement.{statement}
 use Rattle.fields.proofs.path_code.Tie as tie
 

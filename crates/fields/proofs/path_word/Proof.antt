@@ -3,7 +3,7 @@ use Prim.Native.Nat.{_+_}
 use borrow.Author.Needs.{needs}
 use native.Mathlib.Omega.{arith}
 use Rattle.fields.specs.Fields.{path-word}
-use Rattle.fields.proofs.Laws.{getD-past}
+use Rattle.wire.proofs.Past.{getD-past}
 use Rattle.fields.proofs.path_word.Statement.{statement}
 use Rattle.fields.proofs.path_word.Tie as tie
 

@@ -1,8 +1,8 @@
--- `nodes::byte` meets its contract. Assumes nothing.
+-- `wire::byte` meets its contract. Assumes nothing.
 use borrow.Author.Needs.{needs}
-use Rattle.fields.proofs.Laws.{getD-past}
-use Rattle.nodes.proofs.byte.Statement.{statement}
-use Rattle.nodes.proofs.byte.Tie as tie
+use Rattle.wire.proofs.Past.{getD-past}
+use Rattle.wire.proofs.byte.Statement.{statement}
+use Rattle.wire.proofs.byte.Tie as tie
 
 shared-slice-read-result : tie.Need-shared-slice-read-result
 shared-slice-read-result c = search needs

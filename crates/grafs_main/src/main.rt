@@ -122,10 +122,10 @@ fn answer(question: &[u8], map: &[u8]) {
     run(&worksheet[..len], map);
 }
 
-// A longer file is judged by its first bytes as it is whole:
-// - a question by 455 of them. Of 64 terms, at most 7 bytes each behind the first 6, nothing lies past 454; there a 65th term is refused for being there (12), and any
-//   other byte for being left over (6). So only the byte behind them is asked about, and whether it is there.
-// - a map by 8,202: none is longer than 9 + 8 * 1,024, so one with a byte more is refused 6 or before, and its head has 9.
+// A longer file is answered as its first bytes are (crate first_bytes, `long-question` and `long-map`):
+// - a question as 455 of them or more. Of 64 terms, at most 7 bytes each behind the first 6, nothing lies past 454; what stands there is refused for being there, as a
+//   65th term (12) or as left over (6), if nothing before it is refused.
+// - a map as 8,202 or more: none is longer than 9 + 8 * 1,024, so one with a byte more is refused by its head or for its length (6).
 fn main() {
     let mut question = io::buffer();
     let n = load(b"question.lpq", &mut question);

@@ -99,7 +99,7 @@ fn print_answer(answer: &[u8])
     print_rows(answer, wire::lesser(wire::half(answer, 5) as usize, 256));
 }
 
-// The longest answer, of 256 rows, has 2,314 bytes: 15 does not occur.
+// No answer is longer than 2,314 bytes (`size-most` of crate answer): 15 does not occur.
 fn run(worksheet: &[u8], map: &[u8]) {
     let mut answer = [0u8; 2314];
     let done = engine::pull(worksheet, map, &mut answer);
@@ -110,7 +110,7 @@ fn run(worksheet: &[u8], map: &[u8]) {
     print_answer(&answer);
 }
 
-// The longest worksheet has 560 bytes: 15 does not occur here either.
+// No worksheet is longer than 560 bytes (`fuse-fits` of crate fusion): 15 does not occur here either.
 fn answer(question: &[u8], map: &[u8]) {
     let mut worksheet = [0u8; 560];
     let done = fusion::fuse(question, &mut worksheet);

@@ -1,0 +1,63 @@
+-- A RUN IS DONE EXACTLY WHERE ITS NUMBER IS UNDER 65,536: what it leaves is shorter. Assumes nothing.
+use Prim.Native.Nat.{ℕ, _+_, _≤_, _<_}
+use mathlib.Core.Path.{_≡_, refl, ap, _∙_}
+use mathlib.Core.Bool.{Bool, true, false, cond}
+use mathlib.Core.List.{List}
+use mathlib.Core.Option.{Option}
+use native.Mathlib.Omega.{arith}
+use borrow.Author.Tests.{eqb-true, le-ltb, lt-ltb}
+use lib.Dec.{ltb, eqb}
+use lib.ListN.{length, getD, length-take}
+use Rattle.answer.specs.Answer.{answer-bytes, answer-reply, answer-rows, fields-code, row-count}
+use Rattle.answer.proofs.Bytes.{count-most, encode-length}
+use Rattle.answer.proofs.Reply.{fields}
+use Rattle.counters.specs.Counted.{counted-by}
+use Rattle.counters.specs.declared.Counters.{Counters}
+use Rattle.engine.specs.Run.{answered, paths-of, rounds-done, rows-after, run-reply}
+use Rattle.engine.specs.Steps.{run-code}
+use Rattle.engine.proofs.Meant.{run-judged}
+use Rattle.graph.specs.Graph.{graph-of}
+use Rattle.plan.specs.Plan.{plan-scan}
+use Rattle.value.specs.declared.Value.{Value}
+use Rattle.wire.specs.Wire.{Reply, done, fitted, refused, reply-number, unless}
+use Rattle.counted.specs.Counted.{counters-after, is-done}
+
+-- a reply whose number tells
+abbrev Told : Reply → Type 0
+Told r = ltb (reply-number r) 65536 ≡ is-done r
+
+told-refused : (k : ℕ) → Told (refused k)
+told-refused k = le-ltb (65536 + k) 65536 (omega arith)
+
+told-unless : (k : ℕ) (r : Reply) → (k ≡ 0 → Told r) → Told (unless k r)
+told-unless k r h = go (eqb k 0) refl
+  where
+    go : (t : Bool) → eqb k 0 ≡ t → Told (cond t r (refused k))
+    go true e = h (eqb-true _ _ e)
+    go false e = told-refused k
+
+told-fitted : (bs : List ℕ) (room : ℕ) → length bs < 65536 → Told (fitted bs room)
+told-fitted bs room h = go (ltb room (length bs))
+  where
+    go : (t : Bool) → Told (cond t (refused 15) (done bs))
+    go true = told-refused 15
+    go false = lt-ltb _ _ h
+
+told-answer : (n rounds kind : ℕ) (vs : List Value) (room : ℕ) → Told (answer-reply n rounds kind vs room)
+unfolding answer-reply answer-bytes
+told-answer n rounds kind vs room =
+    told-unless (fields-code n kind) _ (λ z. told-fitted (answer-bytes n rounds kind vs) room
+    (omega (arith, encode-length n kind (record { count = rounds; rows = answer-rows n kind vs }), length-take (row-count n kind) vs, count-most n kind 256 (fields n kind z .few-vertices) (omega arith))))
+
+told-run : (limit : Option ℕ) (s m : List ℕ) (room : ℕ) → Told (run-reply limit s m room)
+unfolding answered
+told-run limit s m room =
+    let g = graph-of m in
+    let cs = paths-of (plan-scan s) in
+    rw (run-judged limit s m room)
+    (told-unless (run-code (plan-scan s) m) (answered limit s g cs room) (λ _. told-answer (g .vertices) (rounds-done limit g cs) (getD s 5 0) (rows-after s g cs (rounds-done limit g cs)) room))
+
+-- THE COUNTERS BY THE NUMBER ARE THOSE BY THE REPLY
+pub counted-told : (limit : Option ℕ) (s m : List ℕ) (room : ℕ) (c : Counters) (n : ℕ) → n ≡ reply-number (run-reply limit s m room)
+    → counted-by c (ltb n 65536) ≡ counters-after (run-reply limit s m room) c
+counted-told limit s m room c n e = ap (λ (k : ℕ). counted-by c (ltb k 65536)) e ∙ ap (counted-by c) (told-run limit s m room)

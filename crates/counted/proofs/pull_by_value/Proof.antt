@@ -1,0 +1,27 @@
+-- `counted::pull_by_value` meets its contract. Assumes nothing.
+use mathlib.Core.Path.{_∙_}
+use mathlib.Core.Option.{none}
+use lib.ListN.{length}
+use Rattle.counted.proofs.Numbers.{counted-told}
+use borrow.Author.Needs.{needs}
+use Rattle.counted.proofs.pull_by_value.Statement.{statement}
+use Rattle.counted.proofs.pull_by_value.Tie as tie
+
+pull-requires : tie.Need-pull-requires
+pull-requires c κs = search needs
+
+counted-requires : tie.Need-counted-requires
+counted-requires c κs = search needs
+
+same-length : tie.Need-same-length
+same-length c = search needs
+
+returns : tie.Need-returns
+returns c =
+    let a = c .before .before .before .before .before .before .before .before .args in
+    let run = c .before .before .before .pull .ensures in
+    let e = c .counted .ensures in
+    (e .0 ∙ run .0, run .1, e .1 ∙ counted-told none (a .plan .now) (a .map .now) (length (a .out .now)) (a .c) _ (run .0))
+
+pub pull-by-value-spec : {M : Type 1} → statement M
+pull-by-value-spec = tie.close (tie.spec pull-requires counted-requires same-length returns)

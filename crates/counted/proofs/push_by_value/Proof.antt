@@ -1,0 +1,27 @@
+-- `counted::push_by_value` meets its contract. Assumes nothing.
+use mathlib.Core.Path.{_∙_}
+use mathlib.Core.Option.{none}
+use lib.ListN.{length}
+use Rattle.counted.proofs.Numbers.{counted-told}
+use borrow.Author.Needs.{needs}
+use Rattle.counted.proofs.push_by_value.Statement.{statement}
+use Rattle.counted.proofs.push_by_value.Tie as tie
+
+push-requires : tie.Need-push-requires
+push-requires c κs = search needs
+
+counted-requires : tie.Need-counted-requires
+counted-requires c κs = search needs
+
+same-length : tie.Need-same-length
+same-length c = search needs
+
+returns : tie.Need-returns
+returns c =
+    let a = c .before .before .before .before .before .before .before .before .args in
+    let run = c .before .before .before .push .ensures in
+    let e = c .counted .ensures in
+    (e .0 ∙ run .0, run .1, e .1 ∙ counted-told none (a .plan .now) (a .map .now) (length (a .out .now)) (a .c) _ (run .0))
+
+pub push-by-value-spec : {M : Type 1} → statement M
+push-by-value-spec = tie.close (tie.spec push-requires counted-requires same-length returns)

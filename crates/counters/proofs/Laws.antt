@@ -11,11 +11,11 @@ use Rattle.counters.specs.declared.Counters.{Counters}
 
 module _ (c : Counters) (done : Bool) where
   -- at a full one the counters stay
-  asked-full : c .asked ≡ most → counted-by c done ≡ c
+  pub asked-full : c .asked ≡ most → counted-by c done ≡ c
   unfolding counted-by
   asked-full e = rw (eq-eqb _ _ e)
 
-  answered-full : c .answered ≡ most → counted-by c done ≡ c
+  pub answered-full : c .answered ≡ most → counted-by c done ≡ c
   unfolding counted-by
   answered-full e = rw (eq-eqb _ _ e) (go (eqb (c .asked) most))
     where
@@ -23,7 +23,7 @@ module _ (c : Counters) (done : Bool) where
       go true = refl
       go false = refl
 
-  refused-full : c .refused ≡ most → counted-by c done ≡ c
+  pub refused-full : c .refused ≡ most → counted-by c done ≡ c
   unfolding counted-by
   refused-full e = rw (eq-eqb _ _ e) (go (eqb (c .asked) most) (eqb (c .answered) most))
     where

@@ -1,5 +1,5 @@
 -- A RUN IS DONE EXACTLY WHERE ITS NUMBER IS UNDER 65,536: what it leaves is shorter. Assumes nothing.
-use Prim.Native.Nat.{ℕ, _+_, _≤_, _<_}
+use Prim.Native.Nat.{ℕ, _+_, _<_}
 use mathlib.Core.Path.{_≡_, refl, ap, _∙_}
 use mathlib.Core.Bool.{Bool, true, false, cond}
 use mathlib.Core.List.{List}

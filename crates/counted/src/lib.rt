@@ -1,4 +1,5 @@
-// Counted runs (document 01): a run that is lent the tally and adds one to it.
+// Counted runs (document 01): "The tally is one record, lent to each counted run and changed in place".
+// The number and the buffer are those of the run that is not counted.
 use counters::Counters;
 ghost use mathlib.Core.Path.{_≡_};
 ghost use mathlib.Core.Option.{none};
@@ -40,7 +41,7 @@ fn push_by_value(plan: &[u8], map: &[u8], out: &mut [u8], c: Counters) -> Ended
     counted(engine::push(plan, map, out), c)
 }
 
-// The counted run by pull: a thin function that changes the counters lent to it in place.
+// The counted run by pull: thin, since a struct lent by `&mut` is proved by hand (proofs/Thin, once for both runs).
 pub fn pull(plan: &[u8], map: &[u8], out: &mut [u8], counters: &mut Counters) -> u32
     ensures { λ r. ⌜ (r ≡ reply-number (run-reply none (now (plan .entry)) (now (map .entry)) (length (now (out .entry))))) × (now (out .exit) ≡ reply-buffer (run-reply none (now (plan .entry)) (now (map .entry)) (length (now (out .entry)))) (now (out .entry))) × (now (counters .exit) ≡ counters-after (run-reply none (now (plan .entry)) (now (map .entry)) (length (now (out .entry)))) (now (counters .entry))) ⌝ }
 {

@@ -2,10 +2,10 @@
 ghost use mathlib.Core.Path.{_≡_};
 ghost use Rattle.counters.specs.Counted.{counted-by};
 
-// the greatest number of 64 bits
+// The greatest number of 64 bits.
 const MOST: u64 = 18446744073709551615;
 
-// "asked, answered, refused, 64 bits each"
+// The tally: "asked, answered, refused, 64 bits each".
 pub struct Counters {
     pub asked: u64,
     pub answered: u64,

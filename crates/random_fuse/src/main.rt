@@ -10,7 +10,7 @@ ghost use Prim.Native.Nat.{_≤_, _<_};
 
 const OUT: i32 = 1;
 
-const CASES: u64 = 20000;
+const CASES: u64 = 50000;
 
 const SEED: u64 = 20261115;
 
@@ -69,6 +69,7 @@ struct Score {
     damaged: u64,
     read: u64,
     shared: u64,
+    several: u64,
     numbers: u64,
     full: u64,
     deep: u64,
@@ -155,6 +156,19 @@ fn get16(s: &[u16], at: usize) -> u16 {
 
 // ---- random cases
 
+// Of eight place terms, how many are operators: few in most questions of kind 1, so that terms are left for more reductions.
+fn random_odds(seed: u64, kind: u8, large: bool) -> u64 {
+    if kind != 0 {
+        if seed / 8 % 4 != 0 {
+            return 1 + seed % 4;
+        }
+    }
+    if large {
+        return 4 + seed % 5;
+    }
+    3 + seed % 5
+}
+
 // Three quarters are small, the rest go to the limits of 64 terms and depth 16.
 fn random_shape(seed: u64) -> Shape {
     let a = next(seed);
@@ -163,15 +177,16 @@ fn random_shape(seed: u64) -> Shape {
     let d = next(c);
     let e = next(d);
     let f = next(e);
+    let kind = (b / 8 % 2) as u8;
     let shape = Shape {
         n: 1 + below(a, 4),
         edges: below(b, 7),
-        kind: (b / 8 % 2) as u8,
+        kind,
         paths: 1 + below(c, 8),
-        free: d % 24,
-        depth: 1 + below(d / 24, 7),
-        odds: 2 + e % 6,
-        joins: 2 + e / 8 % 6,
+        free: d % 32,
+        depth: 1 + below(d / 32, 8),
+        odds: random_odds(e, kind, false),
+        joins: 4 + e / 32 % 4,
         mild: f % 3 != 0,
     };
     if f / 4 % 4 != 0 {
@@ -180,7 +195,7 @@ fn random_shape(seed: u64) -> Shape {
     let mut r = shape;
     r.free = 63;
     r.depth = 16;
-    r.odds = 4 + e % 5;
+    r.odds = random_odds(e, kind, true);
     r
 }
 
@@ -1189,6 +1204,9 @@ fn scored_question(score: Score, m: Made, named: u64) -> Score {
     if named < m.chains {
         r.shared = more(score.shared);
     }
+    if m.reductions < 7 {
+        r.several = more(score.several);
+    }
     r
 }
 
@@ -1272,6 +1290,7 @@ fn try_all() -> Score {
         damaged: 0,
         read: 0,
         shared: 0,
+        several: 0,
         numbers: 0,
         full: 0,
         deep: 0,
@@ -1293,7 +1312,8 @@ fn main() {
     line(b"refused ", score.refused);
     line(b"damaged ", score.damaged);
     line(b"damaged and read ", score.read);
-    line(b"chains shared ", score.shared);
+    line(b"a chain written twice ", score.shared);
+    line(b"two reductions or more ", score.several);
     line(b"largest number of terms ", score.most);
     line(b"of 64 terms ", score.full);
     line(b"deepest ", score.deepest);

@@ -1,0 +1,102 @@
+#!/usr/bin/env python3
+"""Writes the first inputs of the fuzz harness into a folder: document 01's trials, the limits and some files beyond them.
+
+    python3 tests/fuzz/seeds.py FOLDER
+
+An input is a selector byte (0 fuse, 1 run, 2 fuse then run), a 16-bit number for the length lent, a 16-bit length of the question or
+worksheet, its bytes, and the map's bytes.
+"""
+import os
+import sys
+
+
+def u16(x):
+    return x.to_bytes(2, "little")
+
+
+def u32(x):
+    return x.to_bytes(4, "little")
+
+
+def map_file(n, *rows):
+    return b"LPM" + u16(1) + u16(n) + u16(len(rows)) + b"".join(u16(x) for row in rows for x in row)
+
+
+def chain(*keys, start=0):
+    return bytes([0x10, len(keys), *keys]) + u16(start)
+
+
+def slots(*keys, start=0):
+    return bytes([len(keys), *keys]).ljust(4, b"\0") + u16(start)
+
+
+def lit(x, tag=0x11):
+    return bytes([tag]) + u32(x)
+
+
+def op(number, a, b, tag=0x12):
+    return bytes([tag, number]) + a + b
+
+
+def reduced(number, term):
+    return bytes([0x20, number]) + term
+
+
+def question(kind, term):
+    return b"LPQ" + u16(1) + bytes([kind]) + term
+
+
+def sheet(kind, chains, entries, final=b""):
+    return b"LPW" + u16(1) + bytes([kind, len(chains)]) + b"".join(chains) + bytes([len(entries)]) + b"".join(entries) + final
+
+
+def deep(depth, number=3):
+    """A tree of this depth, leaning to the left."""
+    return lit(1) if depth == 1 else op(number, deep(depth - 1), lit(depth))
+
+
+def broad(leaves, make):
+    """An even tree of so many leaves."""
+    return make(leaves) if leaves == 1 else op(3, broad(leaves // 2, make), broad(leaves - leaves // 2, make))
+
+
+MAP_A = map_file(4, (0, 1, 5, 10), (0, 2, 2, 4), (2, 1, 3, 20), (1, 3, 0, 7))
+MAPS = [MAP_A, map_file(1), map_file(1, (0, 0, 1, 3)), map_file(2, (0, 1, 1, 9), (1, 0, 1, 2)),
+        map_file(3, (0, 1, 9, 10), (0, 1, 1, 5), (1, 2, 1, 3)),
+        map_file(16, *((i, (i + 1) % 16, 65535, 65534 - i) for i in range(16))),
+        map_file(256, *((i, i + 1, 65535, 1 + i) for i in range(255))),
+        map_file(257), map_file(4, (0, 4, 1, 1)), map_file(4, (0, 1, 1, 0)), map_file(4, (0, 1, 1, 65535)), MAP_A + b"\0", MAP_A[:-1], b"LPM"]
+
+counter = iter(range(1000))
+eight = [chain(1 + i % 6, start=i) for i in range(8)]
+QUESTIONS = [question(0, term) for term in (
+    chain(2), chain(2, 5), chain(2, 6), chain(6), chain(1, start=3), chain(5, 2), chain(1, 2, 4, start=65535), chain(3, 4, 6, start=65535),
+    chain(1, start=256), lit(4294967295), op(5, lit(4294967295), op(5, lit(4294967295), lit(2))), op(6, chain(2), chain(1)),
+    op(4, chain(5, start=1), chain(6, start=1)), deep(16), deep(17), broad(32, lit), broad(33, lit),
+    broad(8, lambda _one: eight[next(counter) % 8]), broad(9, lambda _one: chain(1, start=next(counter) % 256)))]
+QUESTIONS += [question(1, term) for term in (
+    bytes.fromhex("20 02 10 01 01 00 00"), lit(7, 0x21), reduced(1, chain(2)), reduced(3, lit(5)), reduced(4, chain(1, start=65535)),
+    op(6, reduced(3, chain(2)), reduced(5, chain(1, 5)), 0x22), op(8, lit(1, 0x21), reduced(1, op(7, chain(3, start=65535), lit(0))), 0x22))]
+QUESTIONS += [b"LPQ", b"LPQ\2\0\0", b"LPX\1\0\0", question(2, lit(1)), question(0, chain(2)) + b"\0", question(0, b"\x10\1\7\0\0"), question(0, b"\x12\x0c")]
+
+SHEETS = [sheet(0, [slots(2)], [b"\0\x30\0"]), sheet(0, [slots(2, 5), slots(2, 5), slots(6, start=9)], [b"\0\x30\1"]), sheet(0, [], [b"\0" + lit(9)]),
+          sheet(1, [], [], lit(9, 0x21)), sheet(1, [slots(1)], [b"\2\x30\0"], b"\x31\0"), sheet(1, [slots(1)], [b"\2\x30\1"], b"\x31\0"),
+          sheet(1, [slots(1, 2, 3, start=65535)] * 8, [b"\3" + op(5, b"\x30\7", b"\x30\0")] * 8, op(3, b"\x31\0", b"\x31\7", 0x22)),
+          sheet(1, [slots(4, start=65535)], [b"\1\x30\0"], b"\x31\1"), sheet(0, [b"\1\2\0\1\0\0"], [b"\0\x30\0"]), sheet(0, [slots(2)], []),
+          sheet(0, [], [b"\0" + deep(16)]), sheet(0, [], [b"\0" + deep(17)]), sheet(0, [], [b"\0" + broad(32, lit)]), sheet(0, [], [b"\0" + broad(33, lit)]),
+          sheet(1, [slots(2)] * 9, [], lit(1, 0x21)), sheet(1, [], [b"\1" + lit(1)] * 9, b"\x31\0")]
+
+
+def main():
+    folder = sys.argv[1]
+    os.makedirs(folder, exist_ok=True)
+    inputs = [(0, 560, q, b"") for q in QUESTIONS]
+    inputs += [(1, 2314, s, m) for s in SHEETS for m in MAPS]
+    inputs += [(2, 2314, q, m) for q in QUESTIONS for m in MAPS]
+    inputs += [(2, lent, QUESTIONS[0], MAP_A) for lent in (0, 45, 46, 47)]
+    for i, (selector, lent, first, chart) in enumerate(inputs):
+        with open(os.path.join(folder, f"{i:04}"), "wb") as f:
+            f.write(bytes([selector]) + u16(lent) + u16(len(first)) + first + chart)
+
+
+main()

@@ -1,0 +1,524 @@
+/* Random cases, legal and damaged, for the library and the plain implementation alike: the number returned and every byte of the buffer,
+ * with guard bytes on both sides, must be the same.
+ *
+ *     driver CASES [FIRST]     cases FIRST, FIRST + 1, ..; a case depends on its number alone, so one can be tried again by itself
+ *
+ * Stops at the first difference and prints the case in hexadecimal. */
+#include <stdio.h>
+#include <stdlib.h>
+#include <string.h>
+#include "grafs.h"
+#include "plain.h"
+
+enum { SEED = 20261115, MOST = 16384, GUARD = 64, ANYWHERE = 65535 };
+
+/* ---------------------------------------------------------------- chance */
+
+static uint64_t state;
+
+static uint64_t chance(void)
+{
+    uint64_t z = state += 0x9e3779b97f4a7c15u;
+    z = (z ^ (z >> 30)) * 0xbf58476d1ce4e5b9u;
+    z = (z ^ (z >> 27)) * 0x94d049bb133111ebu;
+    return z ^ (z >> 31);
+}
+
+static unsigned below(unsigned n)
+{
+    return (unsigned)(chance() % n);
+}
+
+static unsigned between(unsigned low, unsigned high)
+{
+    return low + below(high - low + 1);
+}
+
+static int one_in(unsigned n)
+{
+    return below(n) == 0;
+}
+
+#define ONE_OF(...) ((const unsigned[]){ __VA_ARGS__ }[below(sizeof((const unsigned[]){ __VA_ARGS__ }) / sizeof(unsigned))])
+
+/* ---------------------------------------------------------------- files */
+
+typedef struct {
+    uint8_t b[MOST];
+    size_t len;
+} file;
+
+static void put(file *f, unsigned width, uint32_t x)
+{
+    for (unsigned i = 0; i < width && f->len < MOST; i++)
+        f->b[f->len++] = (uint8_t)(x >> (8 * i));
+}
+
+static void put_head(file *f, char letter)
+{
+    f->len = 0;
+    put(f, 1, 'L'), put(f, 1, 'P'), put(f, 1, (uint8_t)letter), put(f, 2, 1);
+}
+
+typedef struct {
+    unsigned count, keys[3], start;
+} chain;
+
+/* What a question or worksheet is made of. A wild one keeps no limit: of terms, depth, chains, reductions. */
+typedef struct {
+    file *f;
+    int worksheet, wild;
+    unsigned chains, reductions, n;
+    chain chain[12];
+    unsigned entries; /* of a worksheet */
+    unsigned terms;   /* still allowed for reductions' place terms */
+} maker;
+
+static chain some_chain(unsigned n, int wild)
+{
+    chain c = { between(1, 3), { 0, 0, 0 }, 0 };
+    for (unsigned i = 0; i < c.count; i++)
+        c.keys[i] = between(1, i == c.count - 1 || (wild && one_in(40)) ? 6 : 4);
+    c.start = one_in(3) ? ANYWHERE : below(n > 256 ? 256 : n);
+    if (one_in(60))
+        c.start = below(256);
+    if (wild && one_in(40))
+        c.start = ONE_OF(255, 256, 257, 65534, 32768);
+    return c;
+}
+
+static uint32_t some_literal(void)
+{
+    switch (below(6)) {
+    case 0: return ONE_OF(0, 1, 2);
+    case 1: return 4294967295u;
+    case 2: return ONE_OF(65534, 65535, 65536, 2147483647, 2147483648u);
+    case 3: return (uint32_t)chance();
+    default: return below(20);
+    }
+}
+
+static void put_keys(file *f, const chain *c, unsigned slots)
+{
+    put(f, 1, c->count);
+    for (unsigned i = 0; i < slots; i++)
+        put(f, 1, i < c->count ? c->keys[i] : 0);
+    put(f, 2, c->start);
+}
+
+static void put_operator(file *f, unsigned tag)
+{
+    put(f, 1, tag), put(f, 1, between(1, 11));
+}
+
+/* How many of the leaves go to the left, so that both sides fit into the depth left; a wild tree, or one in three, leans. */
+static unsigned left_share(const maker *k, unsigned leaves, unsigned depth)
+{
+    unsigned most = depth >= 2 && depth < 12 ? 1u << (depth - 2) : 1024;
+    unsigned low = leaves > most ? leaves - most : 1, high = leaves - 1 < most ? leaves - 1 : most;
+    if (k->wild)
+        return one_in(3) ? between(1, leaves - 1) : leaves - 1;
+    return one_in(3) ? high : one_in(2) ? low : between(low, high);
+}
+
+static void place_leaf(maker *k)
+{
+    if (!k->chains || one_in(4)) {
+        put(k->f, 1, 0x11), put(k->f, 4, some_literal());
+        return;
+    }
+    unsigned i = below(k->chains);
+    if (k->worksheet)
+        put(k->f, 1, 0x30), put(k->f, 1, k->wild && one_in(40) ? below(10) : i);
+    else
+        put(k->f, 1, 0x10), put_keys(k->f, &k->chain[i], k->chain[i].count);
+}
+
+/* 2^64 - 1 exactly: (2^32 - 1) * (2^32 - 1) + ((2^32 - 1) + (2^32 - 1)); four leaves. */
+static void greatest(file *f, unsigned operator, unsigned literal)
+{
+    const uint32_t x = 4294967295u;
+    put(f, 1, operator), put(f, 1, 3);
+    put(f, 1, operator), put(f, 1, 5), put(f, 1, literal), put(f, 4, x), put(f, 1, literal), put(f, 4, x);
+    put(f, 1, operator), put(f, 1, 3), put(f, 1, literal), put(f, 4, x), put(f, 1, literal), put(f, 4, x);
+}
+
+/* A place term, or an entry's expression, of so many leaves. */
+static void place_term(maker *k, unsigned leaves, unsigned depth)
+{
+    if (leaves <= 1)
+        place_leaf(k);
+    else if (leaves == 4 && depth >= 3 && one_in(6))
+        greatest(k->f, 0x12, 0x11);
+    else {
+        unsigned left = left_share(k, leaves, depth);
+        put_operator(k->f, 0x12);
+        place_term(k, left, depth - 1);
+        place_term(k, leaves - left, depth - 1);
+    }
+}
+
+/* The most leaves that fit into a depth and a number of terms. */
+static unsigned most_leaves(unsigned depth, unsigned terms)
+{
+    unsigned by_terms = terms ? (terms + 1) / 2 : 1, by_depth = depth < 8 ? 1u << (depth - 1) : 128;
+    return by_terms < by_depth ? by_terms : by_depth;
+}
+
+static unsigned some_leaves(const maker *k, unsigned depth, unsigned terms)
+{
+    unsigned most = most_leaves(depth, terms);
+    if (k->wild && one_in(4))
+        return between(1, 40);
+    return one_in(6) ? most : between(1, most < 6 ? most : 6);
+}
+
+/* A leaf of a result term: a reduction while there are terms and reductions left, else a literal; in a worksheet a reference. */
+static void result_leaf(maker *k, unsigned depth)
+{
+    if (k->worksheet && k->entries && !one_in(4)) {
+        put(k->f, 1, 0x31), put(k->f, 1, k->wild && one_in(40) ? below(10) : below(k->entries));
+        return;
+    }
+    if (k->worksheet || (!k->wild && (k->terms == 0 || k->reductions == 0 || depth < 2)) || one_in(6)) {
+        put(k->f, 1, 0x21), put(k->f, 4, some_literal());
+        return;
+    }
+    unsigned leaves = some_leaves(k, depth > 1 ? depth - 1 : 1, k->terms ? k->terms : 1);
+    put(k->f, 1, 0x20), put(k->f, 1, between(1, 5));
+    k->terms -= 2 * leaves - 1 < k->terms ? 2 * leaves - 1 : k->terms;
+    k->reductions -= k->reductions > 0;
+    place_term(k, leaves, depth > 1 ? depth - 1 : 1);
+}
+
+static void result_term(maker *k, unsigned leaves, unsigned depth)
+{
+    if (leaves <= 1)
+        result_leaf(k, depth);
+    else if (leaves == 4 && depth >= 3 && one_in(12))
+        greatest(k->f, 0x22, 0x21);
+    else {
+        unsigned left = left_share(k, leaves, depth);
+        put_operator(k->f, 0x22);
+        result_term(k, left, depth - 1);
+        result_term(k, leaves - left, depth - 1);
+    }
+}
+
+static maker some_maker(file *f, unsigned n, int worksheet)
+{
+    maker k = { .f = f, .worksheet = worksheet, .wild = one_in(12), .n = n, .reductions = 8 };
+    k.chains = one_in(10) ? 0 : one_in(3) ? 8 : between(1, 4);
+    if (k.wild && one_in(3))
+        k.chains = between(7, 12);
+    for (unsigned i = 0; i < k.chains; i++)
+        k.chain[i] = i && one_in(6) ? k.chain[below(i)] : some_chain(n, k.wild);
+    return k;
+}
+
+static void some_question(file *f, unsigned n)
+{
+    maker k = some_maker(f, n, 0);
+    unsigned kind = below(2), depth = one_in(4) ? 16 : between(1, 16);
+    put_head(f, 'Q'), put(f, 1, kind);
+    if (kind == 0) {
+        place_term(&k, some_leaves(&k, depth, 64), depth);
+        return;
+    }
+    unsigned leaves = some_leaves(&k, depth, one_in(3) ? 15 : 31);
+    k.terms = leaves <= 32 ? 64 - (2 * leaves - 1) : 0;
+    if (k.wild)
+        k.terms += below(10);
+    result_term(&k, leaves, depth);
+}
+
+/* Also such as no fusing writes: equal and unused chains, unused entries. */
+static void some_worksheet(file *f, unsigned n)
+{
+    maker k = some_maker(f, n, 1);
+    unsigned kind = below(2), terms = 64;
+    k.entries = kind == 0 ? 1 : one_in(3) ? 8 : below(6);
+    if (k.wild && one_in(3))
+        k.entries = below(11);
+    put_head(f, 'W'), put(f, 1, kind), put(f, 1, k.chains);
+    for (unsigned i = 0; i < k.chains; i++)
+        put_keys(f, &k.chain[i], 3);
+    put(f, 1, k.entries);
+    for (unsigned i = 0; i < k.entries; i++) {
+        /* a term for each entry behind this one, and for the final expression */
+        unsigned depth = between(1, 16), spare = terms - (k.entries - i), leaves = some_leaves(&k, depth, spare < terms ? spare : 1);
+        put(f, 1, kind ? between(1, 5) : 0);
+        place_term(&k, leaves, depth);
+        terms -= 2 * leaves - 1 < terms ? 2 * leaves - 1 : terms - 1;
+    }
+    if (kind == 1) {
+        unsigned depth = between(1, 16);
+        result_term(&k, some_leaves(&k, depth, terms), depth);
+    }
+}
+
+/* ---------------------------------------------------------------- maps */
+
+static unsigned some_places(void)
+{
+    switch (below(12)) {
+    case 0: return 1;
+    case 1: return 256;
+    case 2: return between(65, 256);
+    case 3: case 4: return between(9, 64);
+    default: return between(2, 8);
+    }
+}
+
+static unsigned some_seconds(unsigned manner)
+{
+    return manner == 0 ? below(4) : manner == 1 ? 0 : manner == 2 ? 65535 : manner == 3 ? below(65536) : below(50);
+}
+
+static unsigned some_size(unsigned manner)
+{
+    return manner == 0 ? between(1, 5) : manner == 1 ? ONE_OF(1, 2, 65533, 65534) : between(1, manner == 2 ? 65534 : 40);
+}
+
+/* Passages at random, in a ring, in a line, back and forth, or from a place to one close by. */
+static void some_map(file *f, unsigned n)
+{
+    unsigned manner = below(6), seconds = below(5), size = below(4);
+    unsigned m = manner >= 1 && manner <= 3 ? n + below(4) : one_in(12) ? 1024 : below((one_in(4) ? 4 : 2) * n + 3);
+    if (m > 1024)
+        m = 1024;
+    put_head(f, 'M'), put(f, 2, n), put(f, 2, m);
+    for (unsigned i = 0; i < m; i++) {
+        unsigned from = below(n), to = below(n);
+        if (manner == 1 && i < n)
+            from = i, to = (i + 1) % n;
+        else if (manner == 2 && i + 1 < n)
+            from = n - 1 - i, to = n - 2 - i;
+        else if (manner == 3 && i + 1 < n)
+            from = i % 2 ? i + 1 : i, to = i % 2 ? i : i + 1;
+        else if (manner == 4)
+            to = (from + below(3)) % n;
+        put(f, 2, from), put(f, 2, to), put(f, 2, some_seconds(seconds)), put(f, 2, some_size(size));
+    }
+}
+
+/* ---------------------------------------------------------------- damage */
+
+static unsigned boundary_byte(void)
+{
+    return ONE_OF(0, 1, 2, 3, 4, 5, 6, 7, 8, 9, 10, 11, 12, 0x10, 0x11, 0x12, 0x20, 0x21, 0x22, 0x30, 0x31, 127, 128, 254, 255);
+}
+
+static unsigned boundary_number(void)
+{
+    return ONE_OF(0, 1, 2, 7, 8, 9, 63, 64, 65, 255, 256, 257, 258, 1023, 1024, 1025, 1026, 32767, 32768, 65533, 65534, 65535);
+}
+
+/* Shifts the bytes behind `at` and leaves `len` new ones there. */
+static void insert(file *f, size_t at, size_t len)
+{
+    if (f->len + len > MOST)
+        return;
+    memmove(f->b + at + len, f->b + at, f->len - at);
+    for (size_t i = 0; i < len; i++)
+        f->b[at + i] = (uint8_t)(one_in(2) ? boundary_byte() : below(256));
+    f->len += len;
+}
+
+static void delete(file *f, size_t at, size_t len)
+{
+    if (len > f->len - at)
+        len = f->len - at;
+    memmove(f->b + at, f->b + at + len, f->len - at - len);
+    f->len -= len;
+}
+
+static void swap_pieces(file *f)
+{
+    size_t len = between(1, 8), a, b;
+    if (f->len < 2 * len)
+        return;
+    a = below((unsigned)(f->len - 2 * len + 1));
+    b = a + len + below((unsigned)(f->len - 2 * len - a + 1));
+    for (size_t i = 0; i < len; i++) {
+        uint8_t kept = f->b[a + i];
+        f->b[a + i] = f->b[b + i], f->b[b + i] = kept;
+    }
+}
+
+static void damage_once(file *f)
+{
+    if (f->len == 0) {
+        insert(f, 0, between(1, 12));
+        return;
+    }
+    size_t head = f->len < 14 ? f->len : 14, at = one_in(3) ? below((unsigned)head) : below((unsigned)f->len);
+    switch (below(12)) {
+    case 0: f->b[at] ^= (uint8_t)(1u << below(8)); break;
+    case 1: case 2: case 3: f->b[at] = (uint8_t)boundary_byte(); break;
+    case 4: f->b[at] = (uint8_t)below(256); break;
+    case 5: f->len = at; break;
+    case 6: f->len -= below(f->len < 12 ? (unsigned)f->len : 12); break;
+    case 7: insert(f, at, between(1, 4)); break;
+    case 8: insert(f, f->len, between(1, 9)); break;
+    case 9: delete(f, at, between(1, 8)); break;
+    case 10: swap_pieces(f); break;
+    default:
+        if (at + 2 <= f->len) {
+            unsigned x = boundary_number();
+            f->b[at] = (uint8_t)x, f->b[at + 1] = (uint8_t)(x >> 8);
+        }
+    }
+}
+
+static void damage(file *f)
+{
+    for (unsigned i = one_in(3) ? between(2, 4) : 1; i > 0; i--)
+        damage_once(f);
+}
+
+/* A map's own: its counts, with or without rows to go with them, and the fields of a row at their limits. */
+static void damage_map(file *f)
+{
+    unsigned n = f->b[5] + 256u * f->b[6], m = f->b[7] + 256u * f->b[8], x = boundary_number();
+    switch (below(4)) {
+    case 0:
+        f->b[5] = (uint8_t)x, f->b[6] = (uint8_t)(x >> 8);
+        break;
+    case 1:
+        f->b[7] = (uint8_t)x, f->b[8] = (uint8_t)(x >> 8);
+        if (one_in(2) && 9 + 8 * x <= MOST && x > m)
+            insert(f, f->len, 8 * (x - m));
+        break;
+    case 2:
+        if (m) {
+            uint8_t *field = f->b + 9 + 8 * below(m) + 2 * below(4);
+            x = one_in(2) ? x : ONE_OF(n - 1, n, n + 1, 0, 65534, 65535);
+            field[0] = (uint8_t)x, field[1] = (uint8_t)(x >> 8);
+        }
+        break;
+    default:
+        damage(f);
+    }
+}
+
+/* ---------------------------------------------------------------- comparing */
+
+static unsigned long long numbers[2][17], numbered, most_rounds, past_places;
+
+static void print_file(const char *name, const file *f)
+{
+    printf("%s", name);
+    for (size_t i = 0; i < f->len; i++)
+        printf(" %02x", f->b[i]);
+    printf("\n");
+}
+
+static uint8_t *copy_of(const uint8_t *p, size_t len)
+{
+    uint8_t *q = malloc(len ? len : 1);
+    if (!q)
+        exit(2);
+    memcpy(q, p, len);
+    return q;
+}
+
+/* Both implementations on the same bytes, in buffers filled alike; `map` is null for fuse. Returns the number of bytes written, or 65,536 + number. */
+static uint32_t compare(unsigned long long index, const file *first, const file *map, size_t lent)
+{
+    size_t room = lent + 2 * GUARD, map_len = map ? map->len : 0;
+    uint8_t *a = copy_of(first->b, first->len), *b = map ? copy_of(map->b, map_len) : NULL;
+    uint8_t *theirs = malloc(room), *ours = malloc(room), fill = (uint8_t)below(256);
+    if (!theirs || !ours)
+        exit(2);
+    memset(theirs, fill, room), memset(ours, fill, room);
+    uint32_t x = map ? run(a, first->len, b, map_len, theirs + GUARD, lent) : fuse(a, first->len, theirs + GUARD, lent);
+    int kept = !memcmp(a, first->b, first->len) && (!map || !memcmp(b, map->b, map_len));
+    uint32_t y = map ? plain_run(a, first->len, b, map_len, ours + GUARD, lent) : plain_fuse(a, first->len, ours + GUARD, lent);
+    size_t differs = 0;
+    while (differs < room && theirs[differs] == ours[differs])
+        differs++;
+    if (x != y || differs < room || !kept) {
+        printf("case %llu differs: %s, lent %zu: library %u, plain %u; first byte that differs %ld; inputs %s\n", index, map ? "run" : "fuse", lent, x, y,
+            differs < room ? (long)differs - GUARD : -1L, kept ? "as they were" : "changed");
+        print_file("first", first);
+        if (map)
+            print_file("map", map);
+        exit(1);
+    }
+    numbers[map != NULL][x < GRAFS_REFUSAL ? 0 : x - GRAFS_REFUSAL]++;
+    if (map && x < GRAFS_REFUSAL) {
+        const uint8_t *answer = ours + GUARD;
+        unsigned n = answer[5] + 256u * answer[6], rounds = answer[7] + 256u * answer[8];
+        numbered += answer[10] == 1;
+        past_places += rounds > n;
+        most_rounds = rounds > most_rounds ? rounds : most_rounds;
+    }
+    free(a), free(b), free(theirs), free(ours);
+    return x;
+}
+
+/* Around what is needed: exact, one short, none, some more, much more. */
+static size_t some_lent(size_t need)
+{
+    switch (below(8)) {
+    case 0: return need - 1;
+    case 1: return one_in(3) ? 0 : below((unsigned)need);
+    case 2: return need + below(40);
+    case 3: return one_in(4) ? between(60000, 70000) : between(0, 3000);
+    default: return need;
+    }
+}
+
+/* The length of the answer, as far as these bytes tell; 1 where they do not. */
+static size_t answer_length(const file *worksheet, const file *map)
+{
+    if (worksheet->len < 6 || map->len < 9)
+        return 1;
+    return 10 + 9 * (size_t)(worksheet->b[5] ? 1 : map->b[5] + 256u * map->b[6]);
+}
+
+/* A question fused and, where it is accepted, its worksheet as it stands run on a map; or a worksheet that no fusing wrote. Every other case has damaged files. */
+static void try_case(unsigned long long index)
+{
+    static file question, worksheet, map;
+    static uint8_t room[GRAFS_WORKSHEET_MAX];
+    state = SEED + index * 0x2545f4914f6cdd1du;
+    unsigned n = some_places();
+    int damaged = one_in(2);
+    some_map(&map, n);
+    if (one_in(2)) {
+        some_question(&question, n);
+        if (damaged && one_in(2))
+            damage(&question);
+        uint32_t need = plain_fuse(question.b, question.len, room, sizeof room);
+        compare(index, &question, NULL, some_lent(need < GRAFS_REFUSAL ? need : 40));
+        if (need >= GRAFS_REFUSAL)
+            return;
+        memcpy(worksheet.b, room, need);
+        worksheet.len = need;
+    } else
+        some_worksheet(&worksheet, n);
+    if (damaged && one_in(2))
+        damage(&worksheet);
+    if (damaged && one_in(2))
+        damage_map(&map);
+    compare(index, &worksheet, &map, some_lent(answer_length(&worksheet, &map)));
+}
+
+int main(int argc, char **argv)
+{
+    unsigned long long cases = argc > 1 ? strtoull(argv[1], NULL, 10) : 100000, first = argc > 2 ? strtoull(argv[2], NULL, 10) : 0;
+    for (unsigned long long i = first; i < first + cases; i++)
+        try_case(i);
+    for (int call = 0; call < 2; call++) {
+        printf(call ? "run:  answered %llu; refused" : "fuse: answered %llu; refused", numbers[call][0]);
+        for (int number = 1; number <= 16; number++)
+            if (numbers[call][number])
+                printf(" %d: %llu", number, numbers[call][number]);
+        printf("\n");
+    }
+    printf("answers that start with a number %llu, with more rounds than places %llu, most rounds %llu\n", numbered, past_places, most_rounds);
+    printf("%llu cases, 0 differences\n", cases);
+    return 0;
+}

@@ -78,7 +78,7 @@ static chain some_chain(unsigned n, int wild)
 {
     chain c = { between(1, 3), { 0, 0, 0 }, 0 };
     for (unsigned i = 0; i < c.count; i++)
-        c.keys[i] = between(1, i == c.count - 1 || (wild && one_in(40)) ? 6 : 4);
+        c.keys[i] = between(1, i == c.count - 1 || (wild && one_in(15)) ? 6 : 4);
     c.start = one_in(3) ? ANYWHERE : below(n > 256 ? 256 : n);
     if (one_in(60))
         c.start = below(256);
@@ -168,7 +168,7 @@ static unsigned most_leaves(unsigned depth, unsigned terms)
 static unsigned some_leaves(const maker *k, unsigned depth, unsigned terms)
 {
     unsigned most = most_leaves(depth, terms);
-    if (k->wild && one_in(4))
+    if (k->wild && one_in(2))
         return between(1, 40);
     return one_in(6) ? most : between(1, most < 6 ? most : 6);
 }
@@ -185,7 +185,7 @@ static void result_leaf(maker *k, unsigned depth)
         return;
     }
     unsigned leaves = some_leaves(k, depth > 1 ? depth - 1 : 1, k->terms ? k->terms : 1);
-    put(k->f, 1, 0x20), put(k->f, 1, between(1, 5));
+    put(k->f, 1, 0x20), put(k->f, 1, k->wild && one_in(20) ? ONE_OF(0, 6, 255) : between(1, 5));
     k->terms -= 2 * leaves - 1 < k->terms ? 2 * leaves - 1 : k->terms;
     k->reductions -= k->reductions > 0;
     place_term(k, leaves, depth > 1 ? depth - 1 : 1);
@@ -209,8 +209,8 @@ static maker some_maker(file *f, unsigned n, int worksheet)
 {
     maker k = { .f = f, .worksheet = worksheet, .wild = one_in(12), .n = n, .reductions = 8 };
     k.chains = one_in(10) ? 0 : one_in(3) ? 8 : between(1, 4);
-    if (k.wild && one_in(3))
-        k.chains = between(7, 12);
+    if (k.wild && one_in(2))
+        k.chains = between(9, 12);
     for (unsigned i = 0; i < k.chains; i++)
         k.chain[i] = i && one_in(6) ? k.chain[below(i)] : some_chain(n, k.wild);
     return k;
@@ -225,7 +225,7 @@ static void some_question(file *f, unsigned n)
         place_term(&k, some_leaves(&k, depth, 64), depth);
         return;
     }
-    unsigned leaves = some_leaves(&k, depth, one_in(3) ? 15 : 31);
+    unsigned leaves = k.wild && one_in(4) ? between(9, 12) : some_leaves(&k, depth, one_in(3) ? 15 : 31);
     k.terms = leaves <= 32 ? 64 - (2 * leaves - 1) : 0;
     if (k.wild)
         k.terms += below(10);
@@ -381,7 +381,7 @@ static void damage(file *f)
 static void damage_map(file *f)
 {
     unsigned n = f->b[5] + 256u * f->b[6], m = f->b[7] + 256u * f->b[8], x = boundary_number();
-    switch (below(4)) {
+    switch (below(6)) {
     case 0:
         f->b[5] = (uint8_t)x, f->b[6] = (uint8_t)(x >> 8);
         break;
@@ -391,6 +391,8 @@ static void damage_map(file *f)
             insert(f, f->len, 8 * (x - m));
         break;
     case 2:
+    case 3:
+    case 4:
         if (m) {
             uint8_t *field = f->b + 9 + 8 * below(m) + 2 * below(4);
             x = one_in(2) ? x : ONE_OF(n - 1, n, n + 1, 0, 65534, 65535);

@@ -67,7 +67,7 @@ typedef struct {
 /* What a question or worksheet is made of. A wild one keeps no limit: of terms, depth, chains, reductions. */
 typedef struct {
     file *f;
-    int worksheet, wild;
+    int worksheet, wild, many; /* many: more reductions than there may be, each of one leaf */
     unsigned chains, reductions, n;
     chain chain[12];
     unsigned entries; /* of a worksheet */
@@ -180,11 +180,11 @@ static void result_leaf(maker *k, unsigned depth)
         put(k->f, 1, 0x31), put(k->f, 1, k->wild && one_in(40) ? below(10) : below(k->entries));
         return;
     }
-    if (k->worksheet || (!k->wild && (k->terms == 0 || k->reductions == 0 || depth < 2)) || one_in(6)) {
+    if (k->worksheet || (!k->wild && (k->terms == 0 || k->reductions == 0 || depth < 2)) || (!k->many && one_in(6))) {
         put(k->f, 1, 0x21), put(k->f, 4, some_literal());
         return;
     }
-    unsigned leaves = some_leaves(k, depth > 1 ? depth - 1 : 1, k->terms ? k->terms : 1);
+    unsigned leaves = k->many ? 1 : some_leaves(k, depth > 1 ? depth - 1 : 1, k->terms ? k->terms : 1);
     put(k->f, 1, 0x20), put(k->f, 1, k->wild && one_in(20) ? ONE_OF(0, 6, 255) : between(1, 5));
     k->terms -= 2 * leaves - 1 < k->terms ? 2 * leaves - 1 : k->terms;
     k->reductions -= k->reductions > 0;
@@ -225,7 +225,8 @@ static void some_question(file *f, unsigned n)
         place_term(&k, some_leaves(&k, depth, 64), depth);
         return;
     }
-    unsigned leaves = k.wild && one_in(4) ? between(9, 12) : some_leaves(&k, depth, one_in(3) ? 15 : 31);
+    k.many = k.wild && one_in(3);
+    unsigned leaves = k.many ? between(8, 12) : some_leaves(&k, depth, one_in(3) ? 15 : 31);
     k.terms = leaves <= 32 ? 64 - (2 * leaves - 1) : 0;
     if (k.wild)
         k.terms += below(10);

@@ -94,6 +94,7 @@ def main():
     inputs += [(1, 2314, s, m) for s in SHEETS for m in MAPS]
     inputs += [(2, 2314, q, m) for q in QUESTIONS for m in MAPS]
     inputs += [(2, lent, QUESTIONS[0], MAP_A) for lent in (0, 45, 46, 47)]
+    inputs += [(1, 5, sheet(0, [slots(2, start=4)], [b"\0\x30\0"]), m) for m in MAPS]  # a start that most maps lack, and a short length
     for i, (selector, lent, first, chart) in enumerate(inputs):
         with open(os.path.join(folder, f"{i:04}"), "wb") as f:
             f.write(bytes([selector]) + u16(lent) + u16(len(first)) + first + chart)

@@ -62,8 +62,10 @@ static uint8_t *place(int placement, uint8_t *pages, size_t len)
 {
     if (placement != HEAP)
         return placement == TO_THE_END ? pages + ROOM - len : pages;
+    if (!len)
+        return NULL; /* "A null pointer may go with length 0." */
     uint8_t *p = malloc(len);
-    if (!p && len)
+    if (!p)
         exit(2);
     return p;
 }
@@ -86,7 +88,7 @@ static void call_at(int placement, bytes first, const bytes *map, size_t lent, r
     uint8_t fill = (uint8_t)(0xa5 + 0x31 * placement);
     size_t map_len = map ? map->len : 0;
     uint8_t *a = place(placement, pages[0], first.len), *b = place(placement, pages[1], map_len), *out = place(placement, pages[2], lent);
-    uint8_t *guard = placement == TO_THE_END ? out - GUARD : out + lent;
+    uint8_t *guard = placement == HEAP ? NULL : placement == TO_THE_END ? out - GUARD : out + lent;
     if (first.len)
         memcpy(a, first.p, first.len);
     if (map_len)
@@ -99,7 +101,7 @@ static void call_at(int placement, bytes first, const bytes *map, size_t lent, r
     calls++;
     size_t done = r->result < GRAFS_REFUSAL ? r->result : 0;
     expect(done <= lent, "no more bytes than lent");
-    expect(all(out + done, lent - done, fill), "the rest of the buffer, and all of it at a refusal, as it was");
+    expect(!lent || all(out + done, lent - done, fill), "the rest of the buffer, and all of it at a refusal, as it was");
     expect(placement == HEAP || all(guard, GUARD, fill), "bytes beside the buffer as they were");
     expect(!first.len || !memcmp(a, first.p, first.len), "the question or worksheet as it was");
     expect(!map_len || !memcmp(b, map->p, map_len), "the map as it was");

@@ -12,7 +12,7 @@
 #include <sys/mman.h>
 #include "grafs.h"
 
-enum { PAGE = 4096, ROOM = 24 * PAGE, GUARD = 64, PLACES_OFFSET = 5, CHAINS_OFFSET = 6, PREFIX = 5, ANSWER_HEAD = 10, ROW = 9 };
+enum { PAGE = 4096, ROOM = 24 * PAGE, GUARD = 64, PLACES_OFFSET = 5, CHAINS_OFFSET = 6, KIND_OFFSET = 5, ANSWER_HEAD = 10, ROW = 9 };
 enum { HEAP, TO_THE_END, FROM_THE_START, PLACEMENTS };
 
 typedef struct {
@@ -209,14 +209,14 @@ static uint32_t number_expected(bytes worksheet, bytes map, size_t lent)
         if (at >= n && at != 65535)
             return GRAFS_START;
     }
-    return lent < ANSWER_HEAD + ROW * (worksheet.p[PREFIX] ? 1 : n) ? GRAFS_BUFFER_SHORT : 0;
+    return lent < ANSWER_HEAD + ROW * (worksheet.p[KIND_OFFSET] ? 1 : n) ? GRAFS_BUFFER_SHORT : 0;
 }
 
 static void answer_checked(bytes worksheet, bytes map, const reply *r)
 {
     const uint8_t *a = r->out, *rows = a + ANSWER_HEAD;
     unsigned n = map.p[PLACES_OFFSET] + 256u * map.p[PLACES_OFFSET + 1], rounds = a[7] + 256u * a[8];
-    expect(!memcmp(a, "LPA\1\0", 5) && !memcmp(a + 5, map.p + PLACES_OFFSET, 2) && a[9] == worksheet.p[PREFIX], "head of the answer");
+    expect(!memcmp(a, "LPA\1\0", 5) && !memcmp(a + 5, map.p + PLACES_OFFSET, 2) && a[9] == worksheet.p[KIND_OFFSET], "head of the answer");
     expect(r->result == ANSWER_HEAD + ROW * (a[9] ? 1 : n), "length of the answer");
     expect(rounds >= 1 && rounds <= 2 * n, "rounds from 1 to 2n");
     expect(worksheet.p[CHAINS_OFFSET] || rounds == 1, "round 1 with no chain");

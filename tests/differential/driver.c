@@ -481,7 +481,8 @@ static size_t answer_length(const file *worksheet, const file *map)
     return 10 + 9 * (size_t)(worksheet->b[5] ? 1 : map->b[5] + 256u * map->b[6]);
 }
 
-/* A question fused and, where it is accepted, its worksheet as it stands run on a map; or a worksheet that no fusing wrote. Every other case has damaged files. */
+/* A question fused and, where it is accepted, its worksheet run on a map; or a worksheet that no fusing wrote. In every other case each
+ * file may be damaged. */
 static void try_case(unsigned long long index)
 {
     static file question, worksheet, map;

@@ -2,7 +2,10 @@
 // their end backwards, once for each key. Written from document 01, "Meaning", alone; it has no rounds and no table of figures.
 use value::Value;
 ghost use mathlib.Core.Path.{_≡_};
-ghost use Prim.Native.Nat.{_+_, _*_, _≤_, min};
+ghost use Prim.Native.Nat.{_+_, _*_, _≤_, _<_, min};
+ghost use lib.ListN.{getD};
+ghost use Rattle.walked.specs.Walked as spec;
+ghost use Rattle.walked.specs.Steps as steps;
 
 // A chain: the first `count` of the keys, and "a 16-bit start (0 to 255, or 65,535 for anywhere)".
 pub struct PathReduction {
@@ -17,8 +20,9 @@ pub struct Figures {
     pub figures: [u64; 3],
 }
 
-// "A walk is a run of passages": how many, their seconds added up, and the smallest crate size.
+// "A walk is a run of passages": where it starts, how many they are, their seconds added up, and the smallest crate size.
 pub struct Walk {
+    pub source: u16,
     pub edges: u64,
     pub weight: u64,
     pub capacity: u64,
@@ -42,63 +46,67 @@ fn wide(x: u16) -> u64
     x as u64
 }
 
+fn smaller(x: u64, y: u64) -> u64
+    ensures { λ r. ⌜ r ≡ min x y ⌝ }
+{
+    if x <= y { x } else { y }
+}
+
 fn least(x: usize, y: usize) -> usize
-    ensures { λ r. ⌜ (r ≡ min x y) × (r ≤ y) ⌝ }
+    ensures { λ r. ⌜ r ≡ min x y ⌝ }
 {
     if x <= y { x } else { y }
 }
 
 // A number of the rows, four a row: from, to, seconds, crate size; 0 past the end.
-fn number(rows: &[u16], i: usize) -> u16 {
+fn number(rows: &[u16], i: usize) -> u16
+    ensures { λ r. ⌜ r ≡ getD (now (rows .entry)) i 0 ⌝ }
+{
     if i < rows.len() { rows[i] } else { 0 }
 }
 
 // "The walk of no passages exists at each place; its crate size is 65,535."
-fn standing() -> Walk
-    ensures { λ r. ⌜ (r .edges ≡ 0) × (r .weight ≡ 0) ⌝ }
+fn standing(vertex: u16) -> Walk
+    ensures { λ r. ⌜ r ≡ spec.standing vertex ⌝ }
 {
     Walk {
+        source: vertex,
         edges: 0,
         weight: 0,
         capacity: 65535,
     }
 }
 
-// A walk with one edge more.
-fn longer(w: Walk, weight: u16, capacity: u16) -> Walk
+// A walk with one edge more before it.
+fn longer(w: Walk, from: u16, weight: u16, capacity: u16) -> Walk
     requires { ⌜ (w .edges ≤ 64) × (w .weight ≤ 65535 * w .edges) ⌝ }
-    ensures { λ r. ⌜ (r .edges ≡ w .edges + 1) × (r .weight ≤ 65535 * r .edges) ⌝ }
+    ensures { λ r. ⌜ (r ≡ spec.longer w from weight capacity) × (r .weight ≤ 65535 * r .edges) ⌝ }
 {
-    let edges = w.edges + 1;
-    let sum = w.weight + wide(weight);
-    let size = wide(capacity);
-    if size < w.capacity {
-        return Walk {
-            edges,
-            weight: sum,
-            capacity: size,
-        };
-    }
     Walk {
-        edges,
-        weight: sum,
-        capacity: w.capacity,
+        source: from,
+        edges: w.edges + 1,
+        weight: w.weight + wide(weight),
+        capacity: smaller(w.capacity, wide(capacity)),
     }
 }
 
 // "Value of a walk" in the table of keys.
-fn figure_of(key: u8, w: Walk, start: u16) -> u64 {
+fn figure_of(key: u8, w: Walk) -> u64
+    ensures { λ r. ⌜ r ≡ spec.figure-of key w ⌝ }
+{
     match key {
         1 => w.edges,
         2 => w.weight,
-        3 => wide(start),
-        4 => wide(start),
+        3 => wide(w.source),
+        4 => wide(w.source),
         _ => w.capacity,
     }
 }
 
 // "Kept": the greatest of keys 4 and 5, the least of every other.
-fn beats(key: u8, x: u64, y: u64) -> bool {
+fn beats(key: u8, x: u64, y: u64) -> bool
+    ensures { λ r. ⌜ r ≡ spec.beats key x y ⌝ }
+{
     match key {
         4 => y < x,
         5 => y < x,
@@ -106,33 +114,10 @@ fn beats(key: u8, x: u64, y: u64) -> bool {
     }
 }
 
-// Has the walk the best figure of each key before the one to be judged?
-fn is_kept(k: Kept, w: Walk, start: u16) -> bool {
-    let path = k.path;
-    let keys = path.keys;
-    let best = k.best;
-    let n = least(k.passed, 3);
-    let mut i: usize = 0;
-    while i < n {
-        let key = keys[i];
-        if figure_of(key, w, start) != best[i] {
-            return false;
-        }
-        i += 1;
-    }
-    true
-}
-
-// "from its start (or from anywhere)"
-fn may_start(source: u16, vertex: u16) -> bool {
-    if source == ANYWHERE {
-        return true;
-    }
-    source == vertex
-}
-
-// The better of a walk's figure and what was found before.
-fn better(key: u8, figure: u64, found: Value) -> Value {
+// The better of what was found before and a walk's figure.
+fn better(key: u8, found: Value, figure: u64) -> Value
+    ensures { λ r. ⌜ r ≡ spec.better key found figure ⌝ }
+{
     let Value::Number(x) = found else {
         return Value::Number(figure);
     };
@@ -142,29 +127,60 @@ fn better(key: u8, figure: u64, found: Value) -> Value {
     found
 }
 
-// What is found with the walk w from the vertex `start`: its figure counts where it may start there and is kept so far.
-fn judged(k: Kept, w: Walk, start: u16, found: Value) -> Value {
+// Has the walk the best figure of each key before the one to be judged?
+fn is_kept(k: Kept, w: Walk) -> bool
+    requires { ⌜ k .passed < 3 ⌝ }
+    ensures { λ r. ⌜ r ≡ steps.is-kept k w ⌝ }
+{
+    let path = k.path;
+    let keys = path.keys;
+    let best = k.best;
+    let n = k.passed;
+    let mut i: usize = 0;
+    while i < n {
+        let key = keys[i];
+        if figure_of(key, w) != best[i] {
+            return false;
+        }
+        i += 1;
+    }
+    true
+}
+
+// "from its start (or from anywhere)"
+fn may_start(source: u16, w: Walk) -> bool
+    ensures { λ r. ⌜ r ≡ spec.may-start source w ⌝ }
+{
+    if source == ANYWHERE {
+        return true;
+    }
+    source == w.source
+}
+
+// What is found with the walk w: its figure counts where it may start there and is kept so far.
+fn judged(k: Kept, found: Value, w: Walk) -> Value
+    requires { ⌜ k .passed < 3 ⌝ }
+    ensures { λ r. ⌜ r ≡ steps.judged k found w ⌝ }
+{
     let path = k.path;
     let keys = path.keys;
     let i = k.passed;
-    if 3 <= i {
-        return found;
-    }
-    if may_start(path.source, start) {
-        if is_kept(k, w, start) {
+    if may_start(path.source, w) {
+        if is_kept(k, w) {
             let key = keys[i];
-            return better(key, figure_of(key, w, start), found);
+            return better(key, found, figure_of(key, w));
         }
     }
     found
 }
 
-// The best figure of the next key over `found` and all walks that end with the walk w from the vertex `at`, with at most `left` edges
-// before it: w itself, and for each edge that ends at `at` the walks that end with it and w.
-fn best_of(rows: &[u16], k: Kept, w: Walk, at: u16, left: usize, found: Value) -> Value
-    requires { ⌜ (w .edges + left ≤ 64) × (w .weight ≤ 65535 * w .edges) ⌝ }
+// The best figure of the next key over `found` and all walks that end with w, with at most `left` edges before it: w itself, and for
+// each edge that ends where w starts the walks that end with it and w.
+fn best_of(rows: &[u16], k: Kept, w: Walk, left: usize, found: Value) -> Value
+    requires { ⌜ (k .passed < 3) × (w .edges + left ≤ 64) × (w .weight ≤ 65535 * w .edges) ⌝ }
+    ensures { λ r. ⌜ r ≡ steps.best-of (now (rows .entry)) k w left found ⌝ }
 {
-    let mut best = judged(k, w, at, found);
+    let mut best = judged(k, found, w);
     if left == 0 {
         return best;
     }
@@ -172,17 +188,19 @@ fn best_of(rows: &[u16], k: Kept, w: Walk, at: u16, left: usize, found: Value) -
     while i < rows.len() / 4 {
         let j = 4 * i;
         i += 1;
-        if number(rows, j + 1) != at {
+        if number(rows, j + 1) != w.source {
             continue;
         }
-        let more = longer(w, number(rows, j + 2), number(rows, j + 3));
-        best = best_of(rows, k, more, number(rows, j), left - 1, best);
+        let more = longer(w, number(rows, j), number(rows, j + 2), number(rows, j + 3));
+        best = best_of(rows, k, more, left - 1, best);
     }
     best
 }
 
 // The figures of a path reduction at a vertex over all walks of at most `most` edges: key by key, the best among the walks kept so far.
-pub fn figures_at(rows: &[u16], path: PathReduction, vertex: u16, most: usize) -> Figures {
+pub fn figures_at(rows: &[u16], path: PathReduction, vertex: u16, most: usize) -> Figures
+    ensures { λ r. ⌜ r ≡ spec.figures-at (now (rows .entry)) path vertex most ⌝ }
+{
     let mut best = [0u64; 3];
     let count = least(path.count, 3);
     let mut i: usize = 0;
@@ -192,14 +210,7 @@ pub fn figures_at(rows: &[u16], path: PathReduction, vertex: u16, most: usize) -
             best,
             passed: i,
         };
-        let found = best_of(
-            rows,
-            k,
-            standing(),
-            vertex,
-            least(most, MOST),
-            Value::Absent,
-        );
+        let found = best_of(rows, k, standing(vertex), least(most, MOST), Value::Absent);
         let Value::Number(x) = found else {
             let none = [0u64; 3];
             return Figures {
@@ -217,7 +228,9 @@ pub fn figures_at(rows: &[u16], path: PathReduction, vertex: u16, most: usize) -
 }
 
 // "its value is the last key's. With no walk it is absent."
-pub fn value_at(rows: &[u16], path: PathReduction, vertex: u16, most: usize) -> Value {
+pub fn value_at(rows: &[u16], path: PathReduction, vertex: u16, most: usize) -> Value
+    ensures { λ r. ⌜ r ≡ spec.value-at (now (rows .entry)) path vertex most ⌝ }
+{
     let found = figures_at(rows, path, vertex, most);
     let figures = found.figures;
     let count = least(path.count, 3);
@@ -229,7 +242,15 @@ pub fn value_at(rows: &[u16], path: PathReduction, vertex: u16, most: usize) -> 
     Value::Absent
 }
 
-fn same(a: Figures, b: Figures) -> bool {
+fn alike(a: bool, b: bool) -> bool
+    ensures { λ r. ⌜ r ≡ spec.alike a b ⌝ }
+{
+    if a { b } else { !b }
+}
+
+fn same(a: Figures, b: Figures) -> bool
+    ensures { λ r. ⌜ r ≡ spec.same a b ⌝ }
+{
     let x = a.figures;
     let y = b.figures;
     if x[0] != y[0] {
@@ -241,11 +262,13 @@ fn same(a: Figures, b: Figures) -> bool {
     if x[2] != y[2] {
         return false;
     }
-    a.present == b.present
+    alike(a.present, b.present)
 }
 
 // "each figure of [a] chain at each place is the same over walks of at most r passages as over walks of at most r - 1", r = before + 1.
-pub fn unchanged(rows: &[u16], n: u16, path: PathReduction, before: usize) -> bool {
+pub fn unchanged(rows: &[u16], n: u16, path: PathReduction, before: usize) -> bool
+    ensures { λ r. ⌜ r ≡ spec.unchanged (now (rows .entry)) n path before ⌝ }
+{
     let few = least(before, MOST);
     let mut v: u16 = 0;
     while v < n {

@@ -1,10 +1,17 @@
--- `walked::best_of` is total. Assumes nothing.
-use Prim.Native.Nat.{_≤_, _-_, _/_}
+-- `walked::best_of` meets its contract: what is found with all walks over the edges passed; the edges left fall at each call. Assumes nothing.
+use Prim.Native.Nat.{ℕ, _+_, _*_, _-_, _/_, _<_, _≤_}
+use mathlib.Core.Path.{_≡_, sym, ap, _∙_}
+use mathlib.Core.List.{foldl}
+use native.Mathlib.Omega.{arith}
 use borrow.Author.Needs.{needs}
-use lib.ListN.{length}
-use Prim.Native.Nat.{ℕ, _<_}
 use borrow.Fn.Kinds.{In}
 use borrow.Fn.PlainCycle.{Measures, is, falls, and}
+use lib.ListN.{length, getD}
+use Rattle.value.specs.declared.Value.{Value}
+use Rattle.walked.specs.declared.Walk.{Walk}
+use Rattle.walked.specs.Steps.{judged}
+use Rattle.walked.specs.Walked.{longer, walks}
+use Rattle.walked.proofs.Laws.{over, over-none, over-next, over-skip, walks-none, walks-next}
 use Rattle.walked.proofs.best_of.Reads as best-of
 use Rattle.walked.proofs.best_of.Kinds as best-of-kinds
 use Rattle.walked.proofs.+best_of.Lts-best_of as best-of-lts
@@ -15,7 +22,7 @@ use Rattle.walked.proofs.+best_of.{statement}
 use Rattle.walked.proofs.+best_of.Tie.{close}
 
 abbrev μ-best-of : Measures 1 best-of-kinds.ps ℕ
-μ-best-of κs a = a .1 .1 .1 .1 .0
+μ-best-of κs a = a .1 .1 .1 .0
 
 abbrev best-of-at : ℕ → In 1 best-of-kinds.ps
 best-of-at t = and 1 best-of-kinds.ps (is 1 best-of-kinds.ps μ-best-of t) best-of.Pre
@@ -24,10 +31,10 @@ abbrev best-of-below : ℕ → In 1 best-of-kinds.ps
 best-of-below t = and 1 best-of-kinds.ps (falls 1 best-of-kinds.ps _<_ μ-best-of t) best-of.Pre
 
 abbrev best-of-Inv-loop : best-of-lts.InvT-loop
-best-of-Inv-loop rows k w at left best₀ i₀ best i = (i ≤ length rows / 4)
+best-of-Inv-loop rows k w left best₀ i₀ best i = (i ≤ length rows / 4) × (best ≡ over rows k w (left - 1) best₀ i)
 
 abbrev best-of-μ-loop : best-of-lts.MeasureT-loop
-best-of-μ-loop rows k w at left best₀ i₀ best i = length rows / 4 - i
+best-of-μ-loop rows k w left best₀ i₀ best i = length rows / 4 - i
 
 best-of-judged-requires : (t : ℕ) → best-of-lts.Need-judged-requires (
   judged-reads.Asked,
@@ -51,7 +58,9 @@ best-of-returns : (t : ℕ) → best-of-lts.Need-returns (
   best-of-below t,
   best-of.Post,
 ) (best-of-at t) best-of.Post best-of-Inv-loop best-of-μ-loop
-best-of-returns t c = search needs
+best-of-returns t c =
+    let a = c .before .before .before .args in
+    c .before .judged .ensures ∙ sym (ap (foldl (judged (a .k)) (a .found)) (walks-none (a .rows .now) (a .left) (a .w) (c .if1 .taken)))
 
 best-of-loop-holds : (t : ℕ) → best-of-lts.Need-loop-holds (
   judged-reads.Asked,
@@ -63,7 +72,7 @@ best-of-loop-holds : (t : ℕ) → best-of-lts.Need-loop-holds (
   best-of-below t,
   best-of.Post,
 ) (best-of-at t) best-of.Post best-of-Inv-loop best-of-μ-loop
-best-of-loop-holds t c = search needs
+best-of-loop-holds t c = (search needs, sym (over-none _ _ _ _ _))
 
 best-of-mul-j : (t : ℕ) → best-of-lts.Need-mul-j (
   judged-reads.Asked,
@@ -135,19 +144,9 @@ best-of-loop-again : (t : ℕ) → best-of-lts.Need-loop-again (
   best-of-below t,
   best-of.Post,
 ) (best-of-at t) best-of.Post best-of-Inv-loop best-of-μ-loop
-best-of-loop-again t c = search needs
-
-best-of-add-number-2 : (t : ℕ) → best-of-lts.Need-add-number-2 (
-  judged-reads.Asked,
-  judged-reads.Learnt,
-  number-reads.Asked,
-  number-reads.Learnt,
-  longer-reads.Asked,
-  longer-reads.Learnt,
-  best-of-below t,
-  best-of.Post,
-) (best-of-at t) best-of.Post best-of-Inv-loop best-of-μ-loop
-best-of-add-number-2 t c = search needs
+best-of-loop-again t c =
+    let l = c .before .before .before .before .loop in
+    (search needs, l .inv .1 ∙ over-skip _ _ _ _ _ (l .i) (λ e. c .if2 .taken (c .before .before .number .ensures ∙ e)))
 
 best-of-number-requires-2 : (t : ℕ) → best-of-lts.Need-number-requires-2 (
   judged-reads.Asked,
@@ -161,7 +160,7 @@ best-of-number-requires-2 : (t : ℕ) → best-of-lts.Need-number-requires-2 (
 ) (best-of-at t) best-of.Post best-of-Inv-loop best-of-μ-loop
 best-of-number-requires-2 t c κs = search needs
 
-best-of-add-number-3 : (t : ℕ) → best-of-lts.Need-add-number-3 (
+best-of-add-number-2 : (t : ℕ) → best-of-lts.Need-add-number-2 (
   judged-reads.Asked,
   judged-reads.Learnt,
   number-reads.Asked,
@@ -171,7 +170,7 @@ best-of-add-number-3 : (t : ℕ) → best-of-lts.Need-add-number-3 (
   best-of-below t,
   best-of.Post,
 ) (best-of-at t) best-of.Post best-of-Inv-loop best-of-μ-loop
-best-of-add-number-3 t c = search needs
+best-of-add-number-2 t c = search needs
 
 best-of-number-requires-3 : (t : ℕ) → best-of-lts.Need-number-requires-3 (
   judged-reads.Asked,
@@ -185,7 +184,7 @@ best-of-number-requires-3 : (t : ℕ) → best-of-lts.Need-number-requires-3 (
 ) (best-of-at t) best-of.Post best-of-Inv-loop best-of-μ-loop
 best-of-number-requires-3 t c κs = search needs
 
-best-of-longer-requires : (t : ℕ) → best-of-lts.Need-longer-requires (
+best-of-add-number-3 : (t : ℕ) → best-of-lts.Need-add-number-3 (
   judged-reads.Asked,
   judged-reads.Learnt,
   number-reads.Asked,
@@ -195,7 +194,7 @@ best-of-longer-requires : (t : ℕ) → best-of-lts.Need-longer-requires (
   best-of-below t,
   best-of.Post,
 ) (best-of-at t) best-of.Post best-of-Inv-loop best-of-μ-loop
-best-of-longer-requires t c κs = search needs
+best-of-add-number-3 t c = search needs
 
 best-of-number-requires-4 : (t : ℕ) → best-of-lts.Need-number-requires-4 (
   judged-reads.Asked,
@@ -208,6 +207,18 @@ best-of-number-requires-4 : (t : ℕ) → best-of-lts.Need-number-requires-4 (
   best-of.Post,
 ) (best-of-at t) best-of.Post best-of-Inv-loop best-of-μ-loop
 best-of-number-requires-4 t c κs = search needs
+
+best-of-longer-requires : (t : ℕ) → best-of-lts.Need-longer-requires (
+  judged-reads.Asked,
+  judged-reads.Learnt,
+  number-reads.Asked,
+  number-reads.Learnt,
+  longer-reads.Asked,
+  longer-reads.Learnt,
+  best-of-below t,
+  best-of.Post,
+) (best-of-at t) best-of.Post best-of-Inv-loop best-of-μ-loop
+best-of-longer-requires t c κs = search needs
 
 best-of-sub-best-of : (t : ℕ) → best-of-lts.Need-sub-best-of (
   judged-reads.Asked,
@@ -231,7 +242,9 @@ best-of-best-of-requires : (t : ℕ) → best-of-lts.Need-best-of-requires (
   best-of-below t,
   best-of.Post,
 ) (best-of-at t) best-of.Post best-of-Inv-loop best-of-μ-loop
-best-of-best-of-requires t c κs = search needs
+best-of-best-of-requires t c κs =
+    let e = ap (λ (w : Walk). w .edges) (c .longer .ensures .0) in
+    search needs
 
 best-of-loop-less-2 : (t : ℕ) → best-of-lts.Need-loop-less-2 (
   judged-reads.Asked,
@@ -255,7 +268,18 @@ best-of-loop-again-2 : (t : ℕ) → best-of-lts.Need-loop-again-2 (
   best-of-below t,
   best-of.Post,
 ) (best-of-at t) best-of.Post best-of-Inv-loop best-of-μ-loop
-best-of-loop-again-2 t c = search needs
+best-of-loop-again-2 t c =
+    let a = c .before .before .before .before .before .before .before .before .before .before .before .before .before .args in
+    let l = c .before .before .before .before .before .before .before .before .before .loop in
+    let rows = a .rows .now in
+    let m : c .before .longer .result ≡ longer (a .w) (getD rows (4 * l .i) 0) (getD rows (4 * l .i + 2) 0) (getD rows (4 * l .i + 3) 0) =
+    c .before .longer .ensures .0 ∙ rw (c .before .before .before .before .number2 .ensures, c .before .before .before .number3 .ensures, c .before .before .number4 .ensures) in (
+      search needs,
+      c .best-of .ensures
+          ∙ ap (λ (w : Walk). foldl (judged (a .k)) (l .best) (walks rows (a .left - 1) w)) m
+          ∙ ap (λ (b : Value). foldl (judged (a .k)) b (walks rows (a .left - 1) (longer (a .w) (getD rows (4 * l .i) 0) (getD rows (4 * l .i + 2) 0) (getD rows (4 * l .i + 3) 0)))) (l .inv .1)
+          ∙ over-next rows (a .k) (a .w) (a .left - 1) _ (l .i) (sym (c .before .before .before .before .before .before .before .number .ensures) ∙ c .before .before .before .before .before .if2 .left),
+    )
 
 best-of-returns-2 : (t : ℕ) → best-of-lts.Need-returns-2 (
   judged-reads.Asked,
@@ -267,7 +291,15 @@ best-of-returns-2 : (t : ℕ) → best-of-lts.Need-returns-2 (
   best-of-below t,
   best-of.Post,
 ) (best-of-at t) best-of.Post best-of-Inv-loop best-of-μ-loop
-best-of-returns-2 t c = search needs
+best-of-returns-2 t c =
+    let a = c .before .before .before .before .before .args in
+    let l = c .before .loop in
+    let rows = a .rows .now in
+    let e : l .i ≡ length rows / 4 = omega arith in
+    l .inv .1
+    ∙ ap (over rows (a .k) (a .w) (a .left - 1) _) e
+    ∙ ap (λ (b : Value). over rows (a .k) (a .w) (a .left - 1) b (length rows / 4)) (c .before .before .before .judged .ensures)
+    ∙ sym (ap (foldl (judged (a .k)) (a .found)) (walks-next rows (a .left) (a .w) (c .before .before .if1 .left)))
 
 pub +best-of-spec : {M : Type 1} → statement M
 +best-of-spec = close μ-best-of λ t. best-of-lts.spec (
@@ -293,12 +325,12 @@ pub +best-of-spec : {M : Type 1} → statement M
     (best-of-number-requires t)
     (best-of-loop-less t)
     (best-of-loop-again t)
-    (best-of-add-number-2 t)
     (best-of-number-requires-2 t)
-    (best-of-add-number-3 t)
+    (best-of-add-number-2 t)
     (best-of-number-requires-3 t)
-    (best-of-longer-requires t)
+    (best-of-add-number-3 t)
     (best-of-number-requires-4 t)
+    (best-of-longer-requires t)
     (best-of-sub-best-of t)
     (best-of-best-of-requires t)
     (best-of-loop-less-2 t)

@@ -1,11 +1,16 @@
--- `walked::unchanged` is total. Assumes nothing.
-use Prim.Native.Nat.{_≤_, _-_}
+-- `walked::unchanged` meets its contract: no figure differs at the vertices passed. Assumes nothing.
+use Prim.Native.Nat.{ℕ, _+_, _-_, _≤_}
+use mathlib.Core.Path.{_≡_, sym, ap, _∙_}
+use mathlib.Core.Bool.{true}
+use native.Mathlib.Omega.{arith}
 use borrow.Author.Needs.{needs}
+use Rattle.walked.specs.Walked.{figures-at, same, unchanged}
+use Rattle.walked.proofs.Laws.{few-at, few-more-at, same-at, unchanged-next, unchanged-none, unchanged-not}
 use Rattle.walked.proofs.unchanged.Statement.{statement}
 use Rattle.walked.proofs.unchanged.Tie as tie
 
 abbrev Inv-loop : tie.InvT-loop
-Inv-loop rows n path before few v₀ v = (v ≤ n)
+Inv-loop rows n path before few v₀ v = (v ≤ n) × (unchanged rows v path before ≡ true)
 
 abbrev μ-loop : tie.MeasureT-loop
 μ-loop rows n path before few v₀ v = n - v
@@ -14,7 +19,7 @@ least-requires : tie.Need-least-requires Inv-loop μ-loop
 least-requires c κs = search needs
 
 loop-holds : tie.Need-loop-holds Inv-loop μ-loop
-loop-holds c = search needs
+loop-holds c = (search needs, unchanged-none _ _ _)
 
 figures-at-requires : tie.Need-figures-at-requires Inv-loop μ-loop
 figures-at-requires c κs = search needs
@@ -35,13 +40,30 @@ loop-less : tie.Need-loop-less Inv-loop μ-loop
 loop-less c = search needs
 
 loop-again : tie.Need-loop-again Inv-loop μ-loop
-loop-again c = search needs
+loop-again c =
+    let a = c .before .before .before .before .before .before .before .before .args in
+    let v = c .before .before .before .before .before .loop .v in
+    let f = c .before .before .before .before .before .before .least .ensures in
+    let e : c .before .same .result ≡ same-at (a .rows .now) (a .path) (a .before) v =
+    c .before .same .ensures
+    ∙ rw (c .before .before .before .figures-at .ensures, c .before .before .figures-at2 .ensures, f, few-at (a .rows .now) (a .path) (a .before) v, few-more-at (a .rows .now) (a .path) (a .before) v) in
+    (search needs, unchanged-next _ _ _ v (c .before .before .before .before .before .loop .inv .1) (sym e ∙ c .if1 .taken))
 
 returns : tie.Need-returns Inv-loop μ-loop
-returns c = search needs
+returns c =
+    let a = c .before .before .before .before .before .before .before .before .args in
+    let v = c .before .before .before .before .before .loop .v in
+    let f = c .before .before .before .before .before .before .least .ensures in
+    let e : c .before .same .result ≡ same-at (a .rows .now) (a .path) (a .before) v =
+    c .before .same .ensures
+    ∙ rw (c .before .before .before .figures-at .ensures, c .before .before .figures-at2 .ensures, f, few-at (a .rows .now) (a .path) (a .before) v, few-more-at (a .rows .now) (a .path) (a .before) v) in
+    sym (unchanged-not (a .rows .now) (a .path) (a .before) v (a .n) (omega arith) (sym e ∙ c .if1 .left))
 
 returns-2 : tie.Need-returns-2 Inv-loop μ-loop
-returns-2 c = search needs
+returns-2 c =
+    let a = c .before .before .before .before .args in
+    let e : c .before .loop .v ≡ a .n = omega arith in
+    sym (rw e at (c .before .loop .inv .1))
 
 pub unchanged-spec : {M : Type 1} → statement M
 unchanged-spec =

@@ -4,9 +4,9 @@
 #   tests/definitions/run.sh [CRATE | CRATE/LABEL]..      all, or those of some crates, or some
 #
 # CRATE.edits has a paragraph for each: a comment (the definition, and why the variant is wrong), 'edit: LABEL', and a must-fail edit's lines. Each is applied to a
-# copy of the repository. The crate itself is checked, and while all is proved the crates that stand on it, up the layers, to the first that refuses.
-# Crates that the edit does not reach are not proved again: their libraries are taken from target/ (run 'rt check' first).
-# RT is the command in place of 'rt'. The log of each stands in target/definitions/CRATE/LABEL.log.
+# copy of the repository. The crate itself is checked ('rt dev', whose incremental folder is kept), and while all is proved the crates that stand on it ('rt check'),
+# up the layers, to the first that refuses. Crates that the edit does not reach are not proved again: their libraries are taken from target/ ('rt check' first).
+# RT is the command in place of 'rt'. Copies and logs stand in target/definitions/CRATE.
 set -u
 here=$(cd "$(dirname "$0")" && pwd -P)
 root=$(cd "$here/../.." && pwd -P)
@@ -69,38 +69,46 @@ apply() { # CRATE-FOLDER
     [ "$pairs" -gt 0 ] || echo "no 'old:' and 'new:'"
 }
 
-try() { # CRATE LABEL
-    crate=$1 label=$2
-    log=$root/target/definitions/$crate/$label.log
-    mkdir -p "$(dirname "$log")"
-    work=$(mktemp -d) || exit 2
-    cp -R "$root/crates" "$root/crates.txt" "$work/"
+# a copy of the repository for a crate's edits, with the libraries that they do not reach; the crate as it is must be proved
+prepare() { # CRATE
+    work=$root/target/definitions/$1/work
+    mkdir -p "$work"
+    rm -rf "$work/crates" "$work/target/rlib" "$work/target/stamp"
     mkdir -p "$work/target/rlib" "$work/target/stamp" "$work/target/log"
-    to_try=$(reached "$crate")
+    cp -R "$root/crates" "$root/crates.txt" "$work/"
+    to_try=$(reached "$1")
     for d in $(printf '%s\n' "$layers" | cut -d' ' -f1); do
         case " $(echo $to_try) " in *" $d "*) continue ;; esac
         [ -d "$root/target/rlib/$d.rlib" ] && [ -f "$root/target/stamp/$d" ] || continue
         ln -s "$root/target/rlib/$d.rlib" "$work/target/rlib/$d.rlib"
         cp "$root/target/stamp/$d" "$work/target/stamp/$d"
     done
+    [ -d "$work/target/inc/$1" ] || (cd "$work" && RT_JOBS=1 $rt dev "$1") >"$work/.log" 2>&1 || { echo "$1 is not proved as it is: see $work/.log" >&2; exit 2; }
+}
+
+try() { # CRATE LABEL
+    crate=$1 label=$2
+    log=$root/target/definitions/$crate/$label.log
+    rm -rf "$work/crates/$crate"
+    cp -R "$root/crates/$crate" "$work/crates/$crate"
     wrong=$(paragraph "$here/$crate.edits" "$label" | apply "$work/crates/$crate")
-    said=SURVIVED
-    [ -z "$wrong" ] || { said="BAD EDIT: $wrong"; to_try=''; }
+    [ -z "$wrong" ] || { echo "$crate/$label: BAD EDIT: $wrong"; return; }
     for d in $to_try; do
-        (cd "$work" && RT_JOBS=1 RT_CUT=0 $rt check "$d") >"$log" 2>&1
+        verb=check
+        [ "$d" != "$crate" ] || verb=dev
+        (cd "$work" && RT_JOBS=1 RT_CUT=0 $rt $verb "$d") >"$log" 2>&1
         status=$?
         [ "$status" -ne 0 ] || continue
         first=$(sed -n 's/^\([^ ]*\): error.*/\1/p; s/^note: \([^ ]*:[0-9]*:[0-9]*\):.*/\1/p' "$log" | head -n 1)
         first=${first#"$work"/crates/}
-        said="refused by $d ($first)"
         case $first in
-        */specs/*) said="BAD EDIT: it does not reach a proof ($first)" ;;
-        '') said="BAD EDIT: refused by $d with status $status and no place" ;;
+        */specs/*) echo "$crate/$label: BAD EDIT: it does not reach a proof ($first)" ;;
+        '') echo "$crate/$label: BAD EDIT: $d ends with status $status and no place" ;;
+        *) echo "$crate/$label: refused by $d ($first)" ;;
         esac
-        break
+        return
     done
-    echo "$crate/$label: $said"
-    rm -rf "$work"
+    echo "$crate/$label: SURVIVED"
 }
 
 # the edits asked for
@@ -108,9 +116,11 @@ wanted=$(for f in "$here"/*.edits; do c=$(basename "$f" .edits); sed -n "s|^edit
 if [ $# -gt 0 ]; then
     wanted=$(for w in "$@"; do case $w in */*) echo "$w" ;; *) printf '%s\n' "$wanted" | grep "^$w/" ;; esac; done)
 fi
-tried=0 refused=0 survived=0 bad=0
+tried=0 refused=0 survived=0 bad=0 ready=''
 for w in $wanted; do
-    line=$(try "${w%%/*}" "${w#*/}")
+    [ "$ready" = "${w%%/*}" ] || prepare "${w%%/*}"
+    ready=${w%%/*}
+    line=$(try "$ready" "${w#*/}")
     printf '%s\n' "$line"
     tried=$((tried + 1))
     case $line in *': refused by '*) refused=$((refused + 1)) ;; *': SURVIVED') survived=$((survived + 1)) ;; *) bad=$((bad + 1)) ;; esac

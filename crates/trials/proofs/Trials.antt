@@ -5,7 +5,7 @@ use Rattle.meaning.specs.Run.{pull, push, run, stopped}
 use Rattle.query.specs.Query.{query-code, query-scan}
 use Rattle.query_form.specs.Form as query-form
 use Rattle.plan_form.specs.Form.{form-bytes, row-text, write-reply}
-use Rattle.plan.specs.Plan.{body-scan, entries-scan, entry-scan, final-scan, moved, plan-scan, row-code, row-step, row-word, rows-scan}
+use Rattle.plan.specs.Plan.{body-scan, plan-code, entries-scan, entry-scan, final-scan, moved, plan-scan, row-code, row-step, row-word, rows-scan}
 use Rattle.fusion.specs.Fusion.{entries-of, entry-term, final-term, fuse-reply, fused-form, fused-term, index-of, put-part, put-term, reduces, size}
 use Rattle.fusion.specs.Fusion as fusion
 use Rattle.nodes.specs.Nodes.{collected, next-at, nodes-read, term-at}
@@ -13,13 +13,13 @@ use Rattle.nodes.specs.Text.{term-text}
 use Rattle.draft.specs.Draft.{texts}
 use Rattle.wire.specs.Wire.{done}
 use Rattle.fields.specs.Fields.{keys-code, path-code, path-word}
-use Rattle.terms.specs.Terms.{advanced, blank, ended, kept-path, leaf-step, leaf-tag, literal-tag, path-step, read, reduce-step, index-step, slot-of, started, term-step}
+use Rattle.terms.specs.Terms.{advanced, blank, ended, kept-path, leaf-step, leaf-tag, literal-tag, path-step, read, reduce-step, index-step, literal-step, slot-of, started, term-step}
 use Rattle.value.specs.declared.Value.{Value}
 use Rattle.value.specs.Value.{combine, compute}
 use Rattle.walks.specs.Keys.{row}
 use Rattle.walks.specs.Rounds.{best, first, gather, marked, rounds, state}
 use Rattle.wire.specs.Header.{header-code}
-use Rattle.trials.specs.Samples.{samples}
+use Rattle.trials.specs.Samples.{Run, outcome-by, questions, runs, samples, worksheets}
 use Rattle.trials.specs.Trials.{Fusing, Reading, Trial, found, fusings, readings, trials}
 
 -- THE MARKED TRIALS: by pull, by push, what readers say, and what fusing gives
@@ -33,3 +33,12 @@ marked-trials = (refl, refl, refl, refl)
 pub samples-hold : map (λ (p : Value × Value). p .0) samples ≡ map (λ (p : Value × Value). p .1) samples
 unfolding compute combine
 samples-hold = refl
+
+pub runs-hold : (map (outcome-by pull) runs ≡ map (λ (s : Run). s .outcome) runs) × (map (outcome-by push) runs ≡ map (λ (s : Run). s .outcome) runs)
+unfolding run stopped rounds first state marked gather best row compute combine
+runs-hold = (refl, refl)
+
+pub numbers-hold : (map (λ (r : Reading). query-code (r .bytes)) questions ≡ map (λ (r : Reading). r .number) questions)
+    × (map (λ (r : Reading). plan-code (r .bytes)) worksheets ≡ map (λ (r : Reading). r .number) worksheets)
+unfolding query-scan header-code ended started blank read term-step leaf-step leaf-tag literal-tag path-step path-code keys-code kept-path slot-of advanced path-word reduce-step index-step literal-step row plan-scan rows-scan row-step row-code row-word body-scan moved entries-scan entry-scan final-scan
+numbers-hold = (refl, refl)

@@ -1,9 +1,18 @@
--- Samples of the operators and reductions of document 01, each with its value: the last number that fits, the first that does not, an absent operand, ties.
+-- Samples of document 01 beside the marked trials, each worked out by hand: operators and reductions, runs, and the numbers that readers give.
 use Prim.Native.Nat.{ℕ}
 use mathlib.Core.List.{List, [], _∷_}
+use mathlib.Core.Option.{Option, none, some}
+use Rattle.meaning.specs.Meaning.{Outcome}
+use Rattle.meaning.specs.Plan.{fuse}
+use Rattle.meaning.specs.Query.{PathReduction, Query, anywhere, apply, each, leaf, literal, single}
+use Rattle.meaning.specs.Run.{Way, run, stopped}
 use Rattle.value.specs.declared.Value.{Value}
 use Rattle.value.specs.declared.Value.the-variants.{Absent, Number}
 use Rattle.value.specs.Value.{operate, reduce}
+use Rattle.walks.specs.Walks.{Graph, edge}
+use Rattle.trials.specs.Trials.{Reading, graph-a}
+
+-- operators and reductions: the last number that fits, the first that does not, an absent operand, ties
 
 abbrev top : ℕ
 top = 18446744073709551615
@@ -44,4 +53,91 @@ samples =
     ∷ (reduce 5 (Number 0 ∷ Absent ∷ Number 9 ∷ []), Number 1)
     ∷ (reduce 5 (Number 0 ∷ []), Number 0)
     ∷ (reduce 6 (Number 9 ∷ []), Absent)
+    ∷ []
+
+-- a run: on a graph, of a fused query, to quiet or for a given number of rounds
+pub record Run : Type 0 where
+  pub graph : Graph
+  pub query : Query
+  pub limit : Option ℕ
+  pub outcome : Outcome
+
+abbrev limited : Way → Graph → Query → Option ℕ → Outcome
+limited way g q none = run way (g .vertices) (fuse q)
+limited way g q (some r) = stopped way (g .vertices) (fuse q) r
+
+abbrev pub outcome-by : (Graph → Way) → Run → Outcome
+outcome-by way s = limited (way (s .graph)) (s .graph) (s .query) (s .limit)
+
+abbrev sample : Graph → Query → Option ℕ → ℕ → List Value → Run
+sample g q limit rounds xs = record { graph = g; query = q; limit = limit; outcome = record { count = rounds; rows = xs } }
+
+abbrev path : List ℕ → ℕ → PathReduction
+path ks s = record { keys = ks; source = s }
+
+-- the sum over places of the seconds from 0, less the greatest sum of passages and seconds: 12 - 7
+abbrev two-paths : Query
+two-paths =
+    single (apply 4 (leaf (record { reduction = 3; body = leaf (path (2 ∷ []) 0) }))
+    (leaf (record { reduction = 2; body = apply 3 (leaf (path (1 ∷ []) 0)) (leaf (path (2 ∷ []) 0)) })))
+
+-- 0→1 9 s, 0→2 1 s, 2→1 1 s, all of size 3: in round 2 only the seconds at 1 change
+abbrev detour : Graph
+detour = record { vertices = 3; edges = edge 0 1 9 3 ∷ edge 0 2 1 3 ∷ edge 2 1 1 3 ∷ [] }
+
+abbrev pub runs : List Run
+runs =
+    -- keys 3 and 4: the least and the greatest place that a walk starts at
+    sample graph-a (each (leaf (path (3 ∷ []) anywhere))) none 3 (Number 0 ∷ Number 0 ∷ Number 0 ∷ Number 0 ∷ [])
+    ∷ sample graph-a (each (leaf (path (4 ∷ []) anywhere))) none 2 (Number 0 ∷ Number 2 ∷ Number 2 ∷ Number 3 ∷ [])
+    ∷ sample graph-a (each (leaf (path (4 ∷ []) 2))) none 3 (Absent ∷ Number 2 ∷ Number 2 ∷ Number 2 ∷ [])
+    -- three keys: of the quickest walks those of fewest passages
+    ∷ sample graph-a (each (leaf (path (2 ∷ 1 ∷ 6 ∷ []) 0))) none 3 (Number 65535 ∷ Number 10 ∷ Number 4 ∷ Number 7 ∷ [])
+    -- "when the figure of any of its keys changes, the earlier keys included"
+    ∷ sample detour (each (leaf (path (2 ∷ 6 ∷ []) 0))) none 3 (Number 65535 ∷ Number 3 ∷ Number 3 ∷ [])
+    -- two chains, three times written; operands in order
+    ∷ sample graph-a two-paths none 3 (Number 5 ∷ [])
+    ∷ sample graph-a (each (apply 6 (literal 7) (leaf (path (2 ∷ []) 0)))) none 3 (Absent ∷ Number 1 ∷ Number 3 ∷ Number 1 ∷ [])
+    -- "With no chain that is round 1."
+    ∷ sample graph-a (single (literal 9)) none 1 (Number 9 ∷ [])
+    -- "stopped after a given 16-bit number of rounds, 0 allowed; it then does that many, quiet or not"
+    ∷ sample graph-a (each (leaf (path (2 ∷ []) 0))) (some 0) 0 (Number 0 ∷ Absent ∷ Absent ∷ Absent ∷ [])
+    ∷ sample graph-a (each (leaf (path (2 ∷ []) 0))) (some 1) 1 (Number 0 ∷ Number 5 ∷ Number 2 ∷ Absent ∷ [])
+    ∷ sample graph-a (each (leaf (path (2 ∷ []) 0))) (some 5) 5 (Number 0 ∷ Number 5 ∷ Number 2 ∷ Number 5 ∷ [])
+    ∷ []
+
+-- a question or a worksheet behind its header, with the number that reading it gives
+abbrev headed : ℕ → List ℕ → ℕ → Reading
+headed letter l number = record { bytes = 0x4c ∷ 0x50 ∷ letter ∷ 0x01 ∷ 0x00 ∷ l; number = number }
+
+abbrev pub questions : List Reading
+questions =
+    -- keys 4,1: read; 6,1: 10; key 7, key counts 0 and 4: 9
+    headed 0x51 (0x00 ∷ 0x10 ∷ 0x02 ∷ 0x04 ∷ 0x01 ∷ 0x00 ∷ 0x00 ∷ []) 0
+    ∷ headed 0x51 (0x00 ∷ 0x10 ∷ 0x02 ∷ 0x06 ∷ 0x01 ∷ 0x00 ∷ 0x00 ∷ []) 10
+    ∷ headed 0x51 (0x00 ∷ 0x10 ∷ 0x01 ∷ 0x07 ∷ 0x00 ∷ 0x00 ∷ []) 9
+    ∷ headed 0x51 (0x00 ∷ 0x10 ∷ 0x00 ∷ 0x00 ∷ 0x00 ∷ []) 9
+    ∷ headed 0x51 (0x00 ∷ 0x10 ∷ 0x04 ∷ 0x01 ∷ 0x01 ∷ 0x01 ∷ 0x01 ∷ 0x00 ∷ 0x00 ∷ []) 9
+    -- starts 255, 256 and anywhere
+    ∷ headed 0x51 (0x00 ∷ 0x10 ∷ 0x01 ∷ 0x02 ∷ 0xff ∷ 0x00 ∷ []) 0
+    ∷ headed 0x51 (0x00 ∷ 0x10 ∷ 0x01 ∷ 0x02 ∷ 0x00 ∷ 0x01 ∷ []) 13
+    ∷ headed 0x51 (0x00 ∷ 0x10 ∷ 0x01 ∷ 0x02 ∷ 0xff ∷ 0xff ∷ []) 0
+    -- a third kind; a result term of kind 0; a byte missing, a byte left over; another letter
+    ∷ headed 0x51 (0x02 ∷ 0x11 ∷ 0x00 ∷ 0x00 ∷ 0x00 ∷ 0x00 ∷ []) 9
+    ∷ headed 0x51 (0x00 ∷ 0x21 ∷ 0x00 ∷ 0x00 ∷ 0x00 ∷ 0x00 ∷ []) 9
+    ∷ headed 0x51 (0x00 ∷ 0x11 ∷ 0x00 ∷ 0x00 ∷ 0x00 ∷ []) 1
+    ∷ headed 0x51 (0x00 ∷ 0x11 ∷ 0x00 ∷ 0x00 ∷ 0x00 ∷ 0x00 ∷ 0x00 ∷ []) 6
+    ∷ headed 0x57 (0x00 ∷ 0x11 ∷ 0x00 ∷ 0x00 ∷ 0x00 ∷ 0x00 ∷ []) 2
+    ∷ []
+
+abbrev pub worksheets : List Reading
+worksheets =
+    -- "counts above 8 are 14 at that byte, but for kind 0 every e other than 1 is 9"
+    headed 0x57 (0x01 ∷ 0x09 ∷ []) 14
+    ∷ headed 0x57 (0x01 ∷ 0x00 ∷ 0x09 ∷ []) 14
+    ∷ headed 0x57 (0x00 ∷ 0x00 ∷ 0x09 ∷ []) 9
+    -- a literal at each place; a chain's index that is none; a filler that is not 0
+    ∷ headed 0x57 (0x00 ∷ 0x00 ∷ 0x01 ∷ 0x00 ∷ 0x11 ∷ 0x07 ∷ 0x00 ∷ 0x00 ∷ 0x00 ∷ []) 0
+    ∷ headed 0x57 (0x00 ∷ 0x00 ∷ 0x01 ∷ 0x00 ∷ 0x30 ∷ 0x00 ∷ []) 16
+    ∷ headed 0x57 (0x00 ∷ 0x01 ∷ 0x01 ∷ 0x02 ∷ 0x03 ∷ 0x00 ∷ 0x00 ∷ 0x00 ∷ 0x01 ∷ 0x00 ∷ 0x30 ∷ 0x00 ∷ []) 9
     ∷ []

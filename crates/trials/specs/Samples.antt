@@ -4,7 +4,7 @@ use mathlib.Core.List.{List, [], _∷_}
 use mathlib.Core.Option.{Option, none, some}
 use Rattle.meaning.specs.Meaning.{Outcome}
 use Rattle.meaning.specs.Plan.{fuse}
-use Rattle.meaning.specs.Query.{PathReduction, Query, anywhere, apply, each, leaf, literal, single}
+use Rattle.meaning.specs.Query.{PathReduction, Query, apply, each, leaf, literal, single}
 use Rattle.meaning.specs.Run.{Way, run, stopped}
 use Rattle.value.specs.declared.Value.{Value}
 use Rattle.value.specs.declared.Value.the-variants.{Absent, Number}
@@ -87,9 +87,9 @@ detour = record { vertices = 3; edges = edge 0 1 9 3 ∷ edge 0 2 1 3 ∷ edge 2
 
 abbrev pub runs : List Run
 runs =
-    -- keys 3 and 4: the least and the greatest place that a walk starts at
-    sample graph-a (each (leaf (path (3 ∷ []) anywhere))) none 3 (Number 0 ∷ Number 0 ∷ Number 0 ∷ Number 0 ∷ [])
-    ∷ sample graph-a (each (leaf (path (4 ∷ []) anywhere))) none 2 (Number 0 ∷ Number 2 ∷ Number 2 ∷ Number 3 ∷ [])
+    -- keys 3 and 4, from anywhere: the least and the greatest place that a walk starts at
+    sample graph-a (each (leaf (path (3 ∷ []) 65535))) none 3 (Number 0 ∷ Number 0 ∷ Number 0 ∷ Number 0 ∷ [])
+    ∷ sample graph-a (each (leaf (path (4 ∷ []) 65535))) none 2 (Number 0 ∷ Number 2 ∷ Number 2 ∷ Number 3 ∷ [])
     ∷ sample graph-a (each (leaf (path (4 ∷ []) 2))) none 3 (Absent ∷ Number 2 ∷ Number 2 ∷ Number 2 ∷ [])
     -- three keys: of the quickest walks those of fewest passages
     ∷ sample graph-a (each (leaf (path (2 ∷ 1 ∷ 6 ∷ []) 0))) none 3 (Number 65535 ∷ Number 10 ∷ Number 4 ∷ Number 7 ∷ [])
@@ -112,8 +112,8 @@ headed letter l number = record { bytes = 0x4c ∷ 0x50 ∷ letter ∷ 0x01 ∷ 
 
 abbrev pub questions : List Reading
 questions =
-    -- keys 4,1: read; 6,1: 10; key 7, key counts 0 and 4: 9
-    headed 0x51 (0x00 ∷ 0x10 ∷ 0x02 ∷ 0x04 ∷ 0x01 ∷ 0x00 ∷ 0x00 ∷ []) 0
+    -- keys 3,4,1: read; 6,1: 10; key 7, key counts 0 and 4: 9
+    headed 0x51 (0x00 ∷ 0x10 ∷ 0x03 ∷ 0x03 ∷ 0x04 ∷ 0x01 ∷ 0x00 ∷ 0x00 ∷ []) 0
     ∷ headed 0x51 (0x00 ∷ 0x10 ∷ 0x02 ∷ 0x06 ∷ 0x01 ∷ 0x00 ∷ 0x00 ∷ []) 10
     ∷ headed 0x51 (0x00 ∷ 0x10 ∷ 0x01 ∷ 0x07 ∷ 0x00 ∷ 0x00 ∷ []) 9
     ∷ headed 0x51 (0x00 ∷ 0x10 ∷ 0x00 ∷ 0x00 ∷ 0x00 ∷ []) 9

@@ -49,11 +49,5 @@ put-holds (b ∷ m) l d h k =
     subst (Holds (put-list (put-byte d b) m)) (append-snoc l b m)
     (put-holds m (l ++ (b ∷ [])) (put-byte d b) (holds-byte d l b h (omega arith)) (omega (arith, length-append l (b ∷ []))))
 
-pub drafted : (l : List ℕ) → length l ≤ 576 → Holds (put-list empty-draft l) l
-drafted l h = put-holds l [] empty-draft holds-empty (omega arith)
-
-pub drafted-as : (l : List ℕ) → length l ≤ 576 → (d : Draft) → d ≡ put-list empty-draft l
-    → (take (d .len) (d .bytes) ≡ l) × (d .len ≡ length l) × (d .len ≤ 576) × (length (d .bytes) ≡ 576)
-drafted-as l short d e =
-    let h : Holds d l = rw e (drafted l short) in
-    (h .text, h .len, omega (arith, h .len), h .size)
+pub drafted : (l : List ℕ) → length l ≤ 576 → (d : Draft) → d ≡ put-list empty-draft l → take (d .len) (d .bytes) ≡ l
+drafted l short d e = rw e (put-holds l [] empty-draft holds-empty (omega arith) .text)

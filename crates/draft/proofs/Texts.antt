@@ -50,7 +50,5 @@ take-least {A} count most n l h e = go (decLe count most)
     go (no k) = take-all n l (omega arith) ∙ sym (take-all count l (omega arith))
 
 -- what is laid of the draft is all that it holds
-pub delivered : (b : List ℕ) (len n code room : ℕ) → length b ≡ 576 → n ≡ min len 576 → code ≡ 0 → unless code (fitted (take len b) room) ≡ fitted (take n (take n b)) room
-delivered b len n code room h e z =
-    let p : take n (take n b) ≡ take len b = take-all n (take n b) (omega (arith, length-take n b)) ∙ take-least len 576 n b h e in
-    rw (z, p) refl
+pub delivered : (b : List ℕ) (len code room : ℕ) → length b ≡ 576 → code ≡ 0 → unless code (fitted (take len b) room) ≡ fitted (take 576 (take len b)) room
+delivered b len code room h z = rw (z, take-all 576 (take len b) (omega (arith, length-take len b))) refl

@@ -62,6 +62,14 @@ pub fn header(letter: u8) -> Draft
     put(put_two(d, letter, 1), 0)
 }
 
+// The first `len` bytes, all where there are fewer.
+pub fn front(s: &[u8], len: usize) -> &[u8]
+    ensures { λ r. ⌜ now r ≡ take len (now (s .entry)) ⌝ }
+{
+    let n = wire::lesser(len, s.len());
+    &s[..n]
+}
+
 // The end of a writer by draft: refuses by the number that its bytes were judged by, or lays the first `len` of them.
 pub fn deliver(bytes: [u8; 576], len: usize, code: u8, out: &mut [u8]) -> u32
     ensures { λ r. ⌜ (r ≡ reply-number (unless code (fitted (take len bytes) (length (now (out .entry)))))) × (now (out .exit) ≡ reply-buffer (unless code (fitted (take len bytes) (length (now (out .entry))))) (now (out .entry))) ⌝ }
@@ -69,6 +77,5 @@ pub fn deliver(bytes: [u8; 576], len: usize, code: u8, out: &mut [u8]) -> u32
     if code != 0 {
         return 65536 + code as u32;
     }
-    let n = wire::lesser(len, 576);
-    wire::lay(&bytes[..n], n as u16, out)
+    wire::lay(front(&bytes, len), 576, out)
 }

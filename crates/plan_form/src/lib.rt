@@ -97,7 +97,7 @@ fn put_rows(d: Draft, table: [u64; 8], paths: u8) -> Draft
 
 // The bytes of the form: 8, at most 6 for each of 8 path reductions, and at most 7 for each of 72 nodes.
 fn draft_of(form: Form) -> Draft
-    ensures { λ r. ⌜ (take (r .len) (r .bytes) ≡ form-bytes form) × (r .len ≡ length (form-bytes form)) × (r .len ≤ 576) × (length (r .bytes) ≡ 576) ⌝ }
+    ensures { λ r. ⌜ take (r .len) (r .bytes) ≡ form-bytes form ⌝ }
 {
     let table = form.table;
     let list = form.nodes;
@@ -113,6 +113,6 @@ pub fn write(form: Form, out: &mut [u8]) -> u32
     let d = draft_of(form);
     let bytes = d.bytes;
     let n = d.len;
-    let code = plan::judge(&bytes[..n]);
+    let code = plan::judge(draft::front(&bytes, n));
     draft::deliver(bytes, n, code, out)
 }

@@ -71,7 +71,7 @@ pub fn read(s: &[u8]) -> Reading
 
 // The bytes of the form: 6, and at most 7 for each of 72 terms.
 fn draft_of(form: Form) -> Draft
-    ensures { λ r. ⌜ (take (r .len) (r .bytes) ≡ form-bytes form) × (r .len ≡ length (form-bytes form)) × (r .len ≤ 576) × (length (r .bytes) ≡ 576) ⌝ }
+    ensures { λ r. ⌜ take (r .len) (r .bytes) ≡ form-bytes form ⌝ }
 {
     let list = form.nodes;
     let start = draft::put(draft::header(0x51), form.kind);
@@ -85,6 +85,6 @@ pub fn write(form: Form, out: &mut [u8]) -> u32
     let d = draft_of(form);
     let bytes = d.bytes;
     let n = d.len;
-    let code = query::judge(&bytes[..n]);
+    let code = query::judge(draft::front(&bytes, n));
     draft::deliver(bytes, n, code, out)
 }

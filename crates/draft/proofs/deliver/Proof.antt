@@ -2,7 +2,7 @@
 use native.Mathlib.Omega.{arith}
 use borrow.Author.Needs.{needs}
 use borrow.Author.Tests.{ne-eqb}
-use lib.ListN.{length, length-take}
+use lib.ListN.{length}
 use Rattle.draft.proofs.Texts.{delivered}
 use Rattle.draft.proofs.deliver.Statement.{statement}
 use Rattle.draft.proofs.deliver.Tie as tie
@@ -13,17 +13,11 @@ add-result c = search needs
 returns : tie.Need-returns
 returns c = let e = ne-eqb _ 0 (c .if1 .taken) in (rw e, rw e)
 
-lesser-requires : tie.Need-lesser-requires
-lesser-requires c κs = search needs
+slice-aggregate-front : tie.Need-slice-aggregate-front
+slice-aggregate-front c = search needs
 
-array-share-prefix-bytes : tie.Need-array-share-prefix-bytes
-array-share-prefix-bytes c = omega arith
-
-slice-aggregate-lay : tie.Need-slice-aggregate-lay
-slice-aggregate-lay c = simp length-take (omega arith)
-
-cast-lay : tie.Need-cast-lay
-cast-lay c = search needs
+front-requires : tie.Need-front-requires
+front-requires c κs = search needs
 
 lay-requires : tie.Need-lay-requires
 lay-requires c κs = search needs
@@ -34,9 +28,8 @@ same-length c = search needs
 returns-2 : tie.Need-returns-2
 returns-2 c =
     let a = c .before .before .before .before .before .before .before .before .args in
-    let l = c .before .before .before .before .before .lesser in
     let z = c .before .before .before .before .before .before .if1 .left in
-    rw (delivered (a .t1) (a .len) (l .result) (a .code) (length (a .out .now)) (omega arith) (l .ensures .0) z) (c .before .before .lay .ensures)
+    rw (delivered (a .t1) (a .len) (a .code) (length (a .out .now)) (omega arith) z, ← c .before .before .before .before .front .ensures) (c .before .before .lay .ensures)
 
 pub deliver-spec : {M : Type 1} → statement M
 deliver-spec =
@@ -44,10 +37,8 @@ deliver-spec =
     (tie.spec
     add-result
     returns
-    lesser-requires
-    array-share-prefix-bytes
-    slice-aggregate-lay
-    cast-lay
+    slice-aggregate-front
+    front-requires
     lay-requires
     same-length
     returns-2)

@@ -6,7 +6,7 @@ use borrow.Author.Needs.{needs}
 use lib.ListN.{take, length-append}
 use Rattle.draft.specs.Draft.{empty-draft, put-list}
 use Rattle.nodes.specs.Text.{nodes-text}
-use Rattle.draft.proofs.Drafts.{drafted-as, put-append}
+use Rattle.draft.proofs.Drafts.{drafted, put-append}
 use Rattle.wire.specs.Header.{header-bytes}
 use Rattle.plan_form.specs.Form.{form-bytes, rows-text}
 use Rattle.plan_form.proofs.draft_of.Statement.{statement}
@@ -42,7 +42,7 @@ returns c =
     let f = c .before .before .before .before .before .before .before .args .form in
     let rows = rows-text (take (f .paths) (f .table)) in
     let rest = nodes-text (take (f .count) (f .nodes)) in
-    drafted-as (form-bytes f) (omega (arith, c .put-nodes .ensures .1, c .before .before .put-rows .ensures .1, length-append rows (f .entries ∷ rest))) (c .put-nodes .result) (made c)
+    drafted (form-bytes f) (omega (arith, c .put-nodes .ensures .1, c .before .before .put-rows .ensures .1, length-append rows (f .entries ∷ rest))) (c .put-nodes .result) (made c)
 
 pub draft-of-spec : {M : Type 1} → statement M
 draft-of-spec =

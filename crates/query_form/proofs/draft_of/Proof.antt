@@ -3,7 +3,7 @@ use mathlib.Core.Path.{_≡_, refl, _∙_}
 use native.Mathlib.Omega.{arith}
 use borrow.Author.Needs.{needs}
 use Rattle.draft.specs.Draft.{empty-draft, put-list}
-use Rattle.draft.proofs.Drafts.{drafted-as}
+use Rattle.draft.proofs.Drafts.{drafted}
 use Rattle.query_form.specs.Form.{form-bytes}
 use Rattle.query_form.proofs.draft_of.Statement.{statement}
 use Rattle.query_form.proofs.draft_of.Tie as tie
@@ -23,7 +23,7 @@ made c = c .put-nodes .ensures .0 ∙ rw (c .before .put .ensures, c .before .be
 
 returns : tie.Need-returns
 unfolding form-bytes
-returns c = drafted-as (form-bytes (c .before .before .before .before .args .form)) (omega (arith, c .put-nodes .ensures .1)) (c .put-nodes .result) (made c)
+returns c = drafted (form-bytes (c .before .before .before .before .args .form)) (omega (arith, c .put-nodes .ensures .1)) (c .put-nodes .result) (made c)
 
 pub draft-of-spec : {M : Type 1} → statement M
 draft-of-spec = tie.close (tie.spec header-requires put-requires put-nodes-requires returns)

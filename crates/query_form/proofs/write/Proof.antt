@@ -1,7 +1,7 @@
 -- `query_form::write` meets its contract. Assumes nothing.
-use native.Mathlib.Omega.{arith}
+use mathlib.Core.Path.{ap, _∙_}
 use borrow.Author.Needs.{needs}
-use lib.ListN.{length-take}
+use Rattle.query.specs.Query.{query-code}
 use Rattle.query_form.specs.Form.{write-reply}
 use Rattle.query_form.proofs.write.Statement.{statement}
 use Rattle.query_form.proofs.write.Tie as tie
@@ -9,11 +9,11 @@ use Rattle.query_form.proofs.write.Tie as tie
 draft-of-requires : tie.Need-draft-of-requires
 draft-of-requires c κs = search needs
 
-array-share-prefix-bytes : tie.Need-array-share-prefix-bytes
-array-share-prefix-bytes c = search needs
+slice-aggregate-front : tie.Need-slice-aggregate-front
+slice-aggregate-front c = search needs
 
-slice-aggregate-judge : tie.Need-slice-aggregate-judge
-slice-aggregate-judge c = simp length-take (omega arith)
+front-requires : tie.Need-front-requires
+front-requires c κs = search needs
 
 judge-requires : tie.Need-judge-requires
 judge-requires c κs = search needs
@@ -27,17 +27,9 @@ same-length c = search needs
 returns : tie.Need-returns
 unfolding write-reply
 returns c =
-    let d = c .before .before .before .before .before .before .before .draft-of in
-    rw (← d .ensures .0, ← c .before .before .before .before .judge .ensures) (c .before .before .deliver .ensures)
+    let judged = c .before .before .before .before in
+    rw (← judged .before .before .before .before .draft-of .ensures, ← judged .judge .ensures ∙ ap query-code (judged .before .front .ensures)) (c .before .before .deliver .ensures)
 
 pub write-spec : {M : Type 1} → statement M
 write-spec =
-    tie.close
-    (tie.spec
-    draft-of-requires
-    array-share-prefix-bytes
-    slice-aggregate-judge
-    judge-requires
-    deliver-requires
-    same-length
-    returns)
+    tie.close (tie.spec draft-of-requires slice-aggregate-front front-requires judge-requires deliver-requires same-length returns)

@@ -24,7 +24,7 @@ use Rattle.plan.specs.Text as plan
 use Rattle.plan.proofs.Exact as reader
 use Rattle.plan_form.specs.declared.Form.{Form}
 use Rattle.plan_form.specs.Form.{FormOf, body-nodes, entries-nodes, form-bytes, rows-text, write-reply}
-use Rattle.plan_form.proofs.Exact.{write-form}
+use Rattle.plan_form.proofs.Exact.{body-size, few-entries, write-form}
 use Rattle.plan_form.proofs.Written.{rows-short}
 use Rattle.query.specs.Query.{encode, query-code}
 use Rattle.query.proofs.Exact.{read-sound}
@@ -41,22 +41,9 @@ use Rattle.fusion.proofs.Fused.{each-body, place-entry, place-final, re
 use Rattle.fusion.proofs.Refusal.{reading-code, reply-refused, reply-written}
 use Rattle.fusion.proofs.Selected.{Holds, holds-part, selected}
 
--- a plan has a node for each term and each entry
-entries-size : (es : List (VertexReduction ℕ)) → length (entries-nodes es) ≡ entry-terms es + length es
-entries-size [] = refl
-entries-size (e ∷ es) = omega (arith, length-append (entry-nodes (e .body)) (entries-nodes es), entry-size (e .body), entries-size es)
-
-body-size : (b : Body) → length (body-nodes b) ≡ plan-terms b + plan.entry-count b
-body-size (each-vertex t) = omega (arith, entry-size t)
-body-size (one-result es t) = omega (arith, length-append (entries-nodes es) (final-nodes t), entries-size es, final-size t)
-
 -- at most 64 terms and 8 entries
 body-short : (n : ℕ) (p : Plan) → PlanLegal n p → length (body-nodes (p .body)) ≤ 72
-body-short n p l = omega (arith, body-size (p .body), l .few-terms, few (p .body) (l .body-legal))
-  where
-    few : (b : Body) → BodyLegal (length (p .paths)) b → plan.entry-count b ≤ 8
-    few (each-vertex t) l = omega arith
-    few (one-result es t) l = l .0
+body-short n p l = omega (arith, body-size (p .body), l .few-terms, few-entries (length (p .paths)) (p .body) (l .body-legal))
 
 -- the two parts one behind the other
 both-parts : (table : List ℕ) (nodes : List Node) (d : Written) (l a b : List Node) → Holds d l → selected 0 table 0 nodes ≡ a → selected 1 table 0 nodes ≡ b

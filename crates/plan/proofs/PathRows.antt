@@ -29,12 +29,10 @@ use Rattle.wire.proofs.Codes.{then-both, then-zero}
 use Rattle.plan.specs.Plan.{filler-code, row-code, row-step, row-word, rows-scan, slot-code}
 use Rattle.plan.specs.Text.{row-bytes, rows-bytes}
 
--- key bytes: a key where it is used, 0 where it is not
-slot-key : (n j b : ℕ) → j < n → slot-code n j b ≡ key-code b (eqb (j + 1) n)
-slot-key n j b h = rw (lt-ltb j n h) refl
-
-slot-filler : (n j b : ℕ) → n ≤ j → slot-code n j b ≡ filler-code b
-slot-filler n j b h = rw (le-ltb j n h) refl
+-- "c chains of 6 bytes"
+pub rows-size : (cs : List PathReduction) → length (rows-bytes cs) ≡ 6 * length cs
+rows-size [] = refl
+rows-size (c ∷ cs) = omega (arith, rows-size cs)
 
 pub filler-zero : (b : ℕ) → filler-code b ≡ 0 → b ≡ 0
 filler-zero b e = go (ltb 255 b) (eqb b 0) refl e

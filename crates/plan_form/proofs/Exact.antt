@@ -22,6 +22,7 @@ use Rattle.nodes.proofs.Held.{first-nodes, read-whole}
 use Rattle.plan.specs.Plan.{plan-code, plan-scan}
 use Rattle.plan.specs.Text.{body-bytes, encode, entries-bytes, entry-count, kind-of, row-bytes, rows-bytes}
 use Rattle.plan.proofs.Exact.{read-complete, read-sound}
+use Rattle.plan.proofs.PathRows.{rows-size}
 use Rattle.term_text.specs.Text.{expression-bytes, path-number}
 use Rattle.wire.specs.Header.{header-bytes}
 use Rattle.terms.specs.declared.Walk.{Walk}
@@ -84,19 +85,15 @@ body-collected s count (one-result es t) l i d =
     )
 
 -- their place, behind the path reductions of six bytes each
-rows-length : (cs : List PathReduction) → length (rows-bytes cs) ≡ 6 * length cs
-rows-length [] = refl
-rows-length (c ∷ cs) = omega (arith, rows-length cs)
-
 inner-there : (p : Plan) → drop (8 + 6 * length (p .paths)) (encode p) ≡ inner (p .body)
 inner-there p =
     let s = encode p in
     let n = length (rows-bytes (p .paths)) in
     let d = drop-on s 7 n (rows-bytes (p .paths)) (body-bytes (p .body)) refl refl ∙ body-is (p .body) in
-    ap (λ (i : ℕ). drop i s) (let z : 8 + 6 * length (p .paths) ≡ 7 + n + 1 = omega (arith, rows-length (p .paths)) in z)
+    ap (λ (i : ℕ). drop i s) (let z : 8 + 6 * length (p .paths) ≡ 7 + n + 1 = omega (arith, rows-size (p .paths)) in z)
     ∙ drop-on s (7 + n) 1 (entry-count (p .body) ∷ []) (inner (p .body)) d refl
 
-few-entries : (count : ℕ) (b : Body) → BodyLegal count b → entry-count b ≤ 8
+pub few-entries : (count : ℕ) (b : Body) → BodyLegal count b → entry-count b ≤ 8
 few-entries count (each-vertex t) l = omega arith
 few-entries count (one-result es t) l = l .0
 
@@ -143,11 +140,12 @@ body-text count (each-vertex t) l = ap (λ (l : List ℕ). 0 ∷ l) (entry-text 
 body-text count (one-result es t) l =
     text-append node-text (entries-nodes es) (final-nodes t) ∙ ap₂ _++_ (entries-text count es (l .1)) (final-text (length es) t (l .2 .0))
 
+-- a node for each term and each entry
 entries-size : (es : List (VertexReduction ℕ)) → length (entries-nodes es) ≡ entry-terms es + length es
 entries-size [] = refl
 entries-size (e ∷ es) = omega (arith, length-append (entry-nodes (e .body)) (entries-nodes es), entry-size (e .body), entries-size es)
 
-body-size : (b : Body) → length (body-nodes b) ≡ plan-terms b + entry-count b
+pub body-size : (b : Body) → length (body-nodes b) ≡ plan-terms b + entry-count b
 body-size (each-vertex t) = omega (arith, entry-size t)
 body-size (one-result es t) = omega (arith, length-append (entries-nodes es) (final-nodes t), entries-size es, final-size t)
 

@@ -1,4 +1,5 @@
 -- `draft::header` meets its contract. Assumes nothing.
+use mathlib.Core.Path.{refl, _∙_}
 use borrow.Author.Needs.{needs}
 use Rattle.draft.specs.Draft.{put-list}
 use Rattle.draft.proofs.header.Statement.{statement}
@@ -18,7 +19,7 @@ put-requires c κs = search needs
 
 returns : tie.Need-returns
 unfolding put-list
-returns c = rw (← c .before .before .before .empty .ensures, ← c .before .before .put-two .ensures, ← c .before .put-two2 .ensures) (c .put .ensures)
+returns c = c .put .ensures ∙ rw (c .before .put-two2 .ensures, c .before .before .put-two .ensures, c .before .before .before .empty .ensures) refl
 
 pub header-spec : {M : Type 1} → statement M
 header-spec =

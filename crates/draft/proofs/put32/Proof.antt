@@ -1,4 +1,5 @@
 -- `draft::put32` meets its contract. Assumes nothing.
+use mathlib.Core.Path.{refl, _∙_}
 use borrow.Author.Needs.{needs}
 use Rattle.draft.specs.Draft.{put-list}
 use Rattle.draft.proofs.put32.Statement.{statement}
@@ -12,7 +13,7 @@ put16-requires-2 c κs = search needs
 
 returns : tie.Need-returns
 unfolding put-list
-returns c = rw (← c .before .put16 .ensures) (c .put162 .ensures)
+returns c = c .put162 .ensures ∙ rw (c .before .put16 .ensures) refl
 
 pub put32-spec : {M : Type 1} → statement M
 put32-spec = tie.close (tie.spec put16-requires put16-requires-2 returns)

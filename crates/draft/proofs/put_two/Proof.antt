@@ -1,4 +1,5 @@
 -- `draft::put_two` meets its contract. Assumes nothing.
+use mathlib.Core.Path.{refl, _∙_}
 use borrow.Author.Needs.{needs}
 use Rattle.draft.specs.Draft.{put-list}
 use Rattle.draft.proofs.put_two.Statement.{statement}
@@ -12,7 +13,7 @@ put-requires-2 c κs = search needs
 
 returns : tie.Need-returns
 unfolding put-list
-returns c = rw (← c .before .put .ensures) (c .put2 .ensures)
+returns c = c .put2 .ensures ∙ rw (c .before .put .ensures) refl
 
 pub put-two-spec : {M : Type 1} → statement M
 put-two-spec = tie.close (tie.spec put-requires put-requires-2 returns)

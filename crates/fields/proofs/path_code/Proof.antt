@@ -1,9 +1,11 @@
 -- `fields::path_code` meets its contract. Assumes nothing.
-use mathlib.Core.Path.{refl}
+use Prim.Native.Nat.{ℕ, _+_}
+use mathlib.Core.Path.{_≡_, refl, ap, _∙_}
 use borrow.Author.Needs.{needs}
 use native.Mathlib.Omega.{arith}
 use borrow.Author.Tests.{eq-eqb, ne-eqb}
-use Rattle.fields.specs.Fields.{path-code}
+use lib.ListN.{getD}
+use Rattle.fields.specs.Fields.{code-of, keys-code, path-code}
 use Rattle.wire.proofs.Past.{getD-past}
 use Rattle.fields.proofs.path_code.Statement.{statement}
 use Rattle.fields.proofs.path_code.Tie as tie
@@ -18,9 +20,12 @@ byte-requires c κs = search needs
 code-of-requires : tie.Need-code-of-requires
 code-of-requires c κs = search needs
 
+count-is : (c : tie.After-code-of) → let a = c .before .before .before .before .args in c .code-of .result ≡ code-of (getD (a .s .now) (a .at) 256) 3
+count-is c = c .code-of .ensures ∙ ap (λ (n : ℕ). code-of n 3) (c .before .byte .ensures .0)
+
 returns-2 : tie.Need-returns-2
 unfolding path-code
-returns-2 c = rw (← c .before .before .byte .ensures .0, ← c .before .code-of .ensures, ne-eqb _ _ (c .if2 .taken))
+returns-2 c = rw (← count-is (c .before), ne-eqb _ _ (c .if2 .taken))
 
 add-keys-code : tie.Need-add-keys-code
 add-keys-code c = search needs
@@ -31,9 +36,14 @@ cast-keys-code c = search needs
 keys-code-requires : tie.Need-keys-code-requires
 keys-code-requires c κs = omega (arith, c .before .before .byte .ensures .1)
 
+keys-are : (c : tie.After-keys-code) → let a = c .before .before .before .before .before .before .args in c .keys-code .result ≡ keys-code (getD (a .s .now) (a .at) 256) (a .s .now) (a .at + 1)
+keys-are c =
+    let a = c .before .before .before .before .before .before .args in
+    c .keys-code .ensures ∙ ap (λ (n : ℕ). keys-code n (a .s .now) (a .at + 1)) (c .before .before .before .byte .ensures .0)
+
 returns-3 : tie.Need-returns-3
 unfolding path-code
-returns-3 c = rw (← c .before .before .before .before .byte .ensures .0, ← c .before .before .before .code-of .ensures, eq-eqb _ _ (c .before .before .if2 .left), ← c .before .keys-code .ensures, ne-eqb _ _ (c .if3 .taken))
+returns-3 c = rw (← count-is (c .before .before .before), eq-eqb _ _ (c .before .before .if2 .left), ← keys-are (c .before), ne-eqb _ _ (c .if3 .taken))
 
 add-i : tie.Need-add-i
 add-i c = search needs
@@ -58,7 +68,10 @@ source-code-requires c κs = search needs
 
 returns-4 : tie.Need-returns-4
 unfolding path-code
-returns-4 c = rw (← c .before .before .before .before .before .before .before .byte .ensures .0, ← c .before .before .before .before .before .before .code-of .ensures, eq-eqb _ _ (c .before .before .before .before .before .if2 .left), ← c .before .before .before .before .keys-code .ensures, eq-eqb _ _ (c .before .before .before .if3 .left), ← c .before .before .byte2 .ensures .0, ← c .before .byte3 .ensures .0) (c .source-code .ensures)
+returns-4 c =
+    let k = c .before .before .before .before in
+    rw (← count-is (k .before .before), eq-eqb _ _ (k .before .if2 .left), ← keys-are k, eq-eqb _ _ (c .before .before .before .if3 .left))
+    (c .source-code .ensures ∙ rw (c .before .byte3 .ensures .0, c .before .before .byte2 .ensures .0, k .before .before .before .byte .ensures .0) refl)
 
 pub path-code-spec : {M : Type 1} → statement M
 path-code-spec =

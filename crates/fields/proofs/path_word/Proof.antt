@@ -1,5 +1,6 @@
 -- `fields::path_word` meets its contract. Assumes nothing.
 use Prim.Native.Nat.{_+_}
+use mathlib.Core.Path.{refl, _∙_}
 use borrow.Author.Needs.{needs}
 use native.Mathlib.Omega.{arith}
 use Rattle.fields.specs.Fields.{path-word}
@@ -68,7 +69,10 @@ pack-requires-2 c κs = search needs
 
 returns-2 : tie.Need-returns-2
 unfolding path-word
-returns-2 c = rw (← c .before .before .before .before .before .before .before .before .byte .ensures .0, ← c .before .before .before .before .before .before .before .byte2 .ensures .0, ← c .before .before .before .before .before .before .used-of .ensures, ← c .before .before .before .before .before .byte3 .ensures .0, ← c .before .before .before .before .used-of2 .ensures, ← c .before .before .before .byte4 .ensures .0, ← c .before .before .byte5 .ensures .0, ← c .before .byte6 .ensures .0) (c .pack2 .ensures)
+returns-2 c =
+    let u = c .before .before .before .before in
+    c .pack2 .ensures
+    ∙ rw (c .before .byte6 .ensures .0, c .before .before .byte5 .ensures .0, c .before .before .before .byte4 .ensures .0, u .used-of2 .ensures, u .before .byte3 .ensures .0, u .before .before .used-of .ensures, u .before .before .before .byte2 .ensures .0, u .before .before .before .before .byte .ensures .0) refl
 
 pub path-word-spec : {M : Type 1} → statement M
 path-word-spec =

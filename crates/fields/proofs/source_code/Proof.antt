@@ -1,31 +1,24 @@
+-- `fields::source_code` meets its contract. Assumes nothing.
 use borrow.Author.Needs.{needs}
 use borrow.Author.Tests.{eq-eqb, le-ltb, lt-ltb, ne-eqb}
 use Rattle.fields.proofs.source_code.Statement.{statement}
 use Rattle.fields.proofs.source_code.Tie as tie
-use Rattle.fields.proofs.source_code.Reads as reads
-use Rattle.fields.proofs.source_code.Lts as lts
 
--- src/lib.rt:98:9
 returns : tie.Need-returns
 returns c = rw (lt-ltb _ _ (c .if1 .taken))
 
--- src/lib.rt:100:28
 mul-v : tie.Need-mul-v
 mul-v c = search needs
 
--- src/lib.rt:100:13
 add-v : tie.Need-add-v
 add-v c = search needs
 
--- src/lib.rt:102:9
 returns-2 : tie.Need-returns-2
-returns-2 c = rw (le-ltb _ _ (c .before .if1 .left), lt-ltb _ _ (c .if2 .taken))
+returns-2 c = rw (le-ltb _ _ (c .before .if1 .left), lt-ltb _ 256 (c .if2 .taken))
 
--- src/lib.rt:105:9
 returns-3 : tie.Need-returns-3
 returns-3 c = rw (le-ltb _ _ (c .before .before .if1 .left), le-ltb _ _ (c .before .if2 .left), eq-eqb _ _ (c .if3 .taken))
 
--- src/lib.rt:93:1
 returns-4 : tie.Need-returns-4
 returns-4 c = rw (le-ltb _ _ (c .before .before .if1 .left), le-ltb _ _ (c .before .if2 .left), ne-eqb _ _ (c .if3 .left))
 

@@ -1,4 +1,5 @@
 -- `plan::scan` meets its contract. Assumes nothing.
+use mathlib.Core.Path.{refl, _∙_}
 use borrow.Author.Needs.{needs}
 use borrow.Author.Tests.{eq-eqb, le-ltb, lt-ltb, ne-eqb}
 use Rattle.plan.specs.Plan.{plan-scan}
@@ -33,7 +34,7 @@ blank-of-requires-3 c κs = search needs
 
 returns-3 : tie.Need-returns-3
 unfolding plan-scan
-returns-3 c = rw (← c .before .before .before .before .before .before .opening-code .ensures, eq-eqb _ _ (c .before .before .before .before .before .if1 .left), ← c .before .before .before .before .byte .ensures .0, ← c .before .before .before .byte2 .ensures .0, le-ltb _ _ (c .before .before .if2 .left), lt-ltb _ _ (c .before .if3 .taken)) (c .blank-of3 .ensures)
+returns-3 c = rw (← c .before .before .before .before .before .before .opening-code .ensures, eq-eqb _ _ (c .before .before .before .before .before .if1 .left), ← c .before .before .before .before .byte .ensures .0, ← c .before .before .before .byte2 .ensures .0, le-ltb _ _ (c .before .before .if2 .left), lt-ltb 8 _ (c .before .if3 .taken)) (c .blank-of3 .ensures)
 
 start-requires : tie.Need-start-requires
 start-requires c κs = search needs
@@ -52,7 +53,10 @@ finish-requires c κs = search needs
 
 returns-4 : tie.Need-returns-4
 unfolding plan-scan
-returns-4 c = rw (← c .before .before .before .before .before .before .before .before .before .opening-code .ensures, eq-eqb _ _ (c .before .before .before .before .before .before .before .before .if1 .left), ← c .before .before .before .before .before .before .before .byte .ensures .0, ← c .before .before .before .before .before .before .byte2 .ensures .0, le-ltb _ _ (c .before .before .before .before .before .if2 .left), le-ltb _ _ (c .before .before .before .before .if3 .left), ← c .before .before .before .start .ensures, ← c .before .before .rows .ensures, ← c .before .body .ensures) (c .finish .ensures)
+returns-4 c =
+    let e = c .before .before .before .before in
+    rw (← e .before .before .before .before .before .opening-code .ensures, eq-eqb _ _ (e .before .before .before .before .if1 .left), ← e .before .before .before .byte .ensures .0, ← e .before .before .byte2 .ensures .0, le-ltb _ _ (e .before .if2 .left), le-ltb _ _ (e .if3 .left))
+    (c .finish .ensures ∙ rw (c .before .body .ensures, c .before .before .rows .ensures, c .before .before .before .start .ensures) refl)
 
 pub scan-spec : {M : Type 1} → statement M
 scan-spec =

@@ -1,8 +1,9 @@
 -- `query::scan` meets its contract. Assumes nothing.
-use mathlib.Core.Path.{sym, _∙_}
+use mathlib.Core.Path.{_≡_, refl, sym, _∙_}
 use borrow.Author.Needs.{needs}
 use native.Mathlib.Omega.{arith}
 use borrow.Author.Tests.{eq-eqb, ne-eqb}
+use Rattle.fields.specs.Fields.{opening-code}
 use Rattle.fields.proofs.Opening.{opening-found}
 use Rattle.query.specs.Query.{query-scan}
 use Rattle.query.proofs.scan.Statement.{statement}
@@ -11,12 +12,15 @@ use Rattle.query.proofs.scan.Tie as tie
 opening-code-requires : tie.Need-opening-code-requires
 opening-code-requires c κs = search needs
 
+opening-is : (c : tie.After-opening-code) → c .opening-code .result ≡ opening-code 0x51 (c .before .before .args .s .now)
+opening-is c = c .opening-code .ensures
+
 blank-of-requires : tie.Need-blank-of-requires
 blank-of-requires c κs = search needs
 
 returns : tie.Need-returns
 unfolding query-scan
-returns c = rw (← c .before .before .opening-code .ensures, ne-eqb _ _ (c .before .if1 .taken)) (c .blank-of .ensures)
+returns c = rw (← opening-is (c .before .before), ne-eqb _ _ (c .before .if1 .taken)) (c .blank-of .ensures)
 
 byte-requires : tie.Need-byte-requires
 byte-requires c κs = search needs
@@ -25,7 +29,7 @@ start-requires : tie.Need-start-requires
 start-requires c κs = search needs
 
 cast-read-term : tie.Need-cast-read-term
-cast-read-term c = omega (arith, c .before .byte .ensures .0, opening-found 0x51 _ (sym (c .before .before .before .opening-code .ensures) ∙ c .before .before .if1 .left) .1)
+cast-read-term c = omega (arith, c .before .byte .ensures .0, opening-found 0x51 _ (sym (opening-is (c .before .before .before)) ∙ c .before .before .if1 .left) .1)
 
 read-term-requires : tie.Need-read-term-requires
 read-term-requires c κs = search needs
@@ -35,7 +39,9 @@ finish-requires c κs = search needs
 
 returns-2 : tie.Need-returns-2
 unfolding query-scan
-returns-2 c = rw (← c .before .before .before .before .before .opening-code .ensures, eq-eqb _ _ (c .before .before .before .before .if1 .left), ← c .before .before .before .byte .ensures .0, ← c .before .before .start .ensures, ← c .before .read-term .ensures) (c .finish .ensures)
+returns-2 c =
+    let e = c .before .before .before .before in
+    rw (← opening-is (e .before), eq-eqb _ _ (e .if1 .left)) (c .finish .ensures ∙ rw (c .before .read-term .ensures, c .before .before .start .ensures, c .before .before .before .byte .ensures .0) refl)
 
 pub scan-spec : {M : Type 1} → statement M
 scan-spec =

@@ -1,7 +1,8 @@
 -- `terms::apply_step_of` meets its contract. Assumes nothing.
 use borrow.Author.Needs.{needs}
-use mathlib.Core.Path.{refl}
+use mathlib.Core.Path.{_≡_, refl}
 use borrow.Author.Tests.{eq-eqb, ne-eqb}
+use Rattle.fields.specs.Fields.{code-of}
 use Rattle.terms.specs.Terms.{apply-step}
 use Rattle.terms.proofs.apply_step_of.Statement.{statement}
 use Rattle.terms.proofs.apply_step_of.Tie as tie
@@ -18,9 +19,12 @@ code-of-requires c κs = search needs
 stop-requires : tie.Need-stop-requires
 stop-requires c κs = search needs
 
+operator-is : (c : tie.After-code-of) → c .code-of .result ≡ code-of (c .before .byte .result) 11
+operator-is c = c .code-of .ensures
+
 returns : tie.Need-returns
 unfolding apply-step
-returns c = rw (← c .before .before .before .byte .ensures .0, ← c .before .before .code-of .ensures, ne-eqb _ _ (c .before .if1 .taken)) (c .stop .ensures)
+returns c = rw (← c .before .before .before .byte .ensures .0, ← operator-is (c .before .before), ne-eqb _ _ (c .before .if1 .taken)) (c .stop .ensures)
 
 add-advance : tie.Need-add-advance
 add-advance c = search needs
@@ -30,7 +34,7 @@ advance-requires c κs = search needs
 
 returns-2 : tie.Need-returns-2
 unfolding apply-step
-returns-2 c = rw (← c .before .before .before .byte .ensures .0, ← c .before .before .code-of .ensures, eq-eqb _ _ (c .before .if1 .left), c .advance .ensures) refl
+returns-2 c = rw (← c .before .before .before .byte .ensures .0, ← operator-is (c .before .before), eq-eqb _ _ (c .before .if1 .left), c .advance .ensures) refl
 
 pub apply-step-of-spec : {M : Type 1} → statement M
 apply-step-of-spec =

@@ -1,26 +1,21 @@
+-- `terms::leaf_tag_of` meets its contract. Assumes nothing.
 use Rattle.terms.proofs.leaf_tag_of.Statement.{statement}
 use borrow.Author.Tests.{eq-eqb, ne-eqb}
 use Rattle.terms.specs.Terms.{leaf-tag}
 use Rattle.terms.proofs.leaf_tag_of.Tie as tie
-use Rattle.terms.proofs.leaf_tag_of.Reads as reads
-use Rattle.terms.proofs.leaf_tag_of.Lts as lts
 
--- src/lib.rt:335:9
 returns : tie.Need-returns
 unfolding leaf-tag
 returns c = rw (eq-eqb _ _ (c .if1 .taken))
 
--- src/lib.rt:338:9
 returns-2 : tie.Need-returns-2
 unfolding leaf-tag
 returns-2 c = rw (ne-eqb _ _ (c .before .if1 .left), eq-eqb _ _ (c .if2 .taken))
 
--- src/lib.rt:341:9
 returns-3 : tie.Need-returns-3
 unfolding leaf-tag
 returns-3 c = rw (ne-eqb _ _ (c .before .before .if1 .left), ne-eqb _ _ (c .before .if2 .left), eq-eqb _ _ (c .if3 .taken))
 
--- src/lib.rt:331:1
 returns-4 : tie.Need-returns-4
 unfolding leaf-tag
 returns-4 c = rw (ne-eqb _ _ (c .before .before .if1 .left), ne-eqb _ _ (c .before .if2 .left), ne-eqb _ _ (c .if3 .left))

@@ -12,6 +12,7 @@ pub struct Draft {
     pub len: usize,
 }
 
+// A draft of no bytes.
 pub fn empty() -> Draft
     ensures { λ r. ⌜ r ≡ empty-draft ⌝ }
 {
@@ -33,6 +34,7 @@ pub fn put(d: Draft, b: u8) -> Draft
     r
 }
 
+// Two bytes more.
 pub fn put_two(d: Draft, a: u8, b: u8) -> Draft
     ensures { λ r. ⌜ r ≡ put-list d (a ∷ b ∷ []) ⌝ }
 {

@@ -121,6 +121,7 @@ pub fn path_code(s: &[u8], at: usize) -> u8
     source_code(byte(s, i), byte(s, i + 1))
 }
 
+// A byte, or 256, as a wider number.
 fn wide(b: u16) -> u64
     ensures { λ r. ⌜ (r ≡ b) × (r ≤ 65535) ⌝ }
 {
@@ -136,6 +137,7 @@ pub fn pack(n: u16, a: u16, b: u16, c: u16, low: u16, high: u16) -> u64
     keys + 4294967296 * source
 }
 
+// A byte that is used where there are more than j keys; 0 where it is not.
 fn used_of(n: u16, j: u16, b: u16) -> u16
     ensures { λ r. ⌜ r ≡ used n j b ⌝ }
 {

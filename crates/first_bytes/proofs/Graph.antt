@@ -35,11 +35,11 @@ module _ (s t : List ℕ) (a : Alike s t) where
       )
       refl
 
-  places-same : at16 t 5 ≡ at16 s 5
-  places-same = rw (a .bytes 5 (omega arith), a .bytes 6 (omega arith)) refl
+  vertices-same : at16 t 5 ≡ at16 s 5
+  vertices-same = rw (a .bytes 5 (omega arith), a .bytes 6 (omega arith)) refl
 
-  passages-same : at16 t 7 ≡ at16 s 7
-  passages-same = rw (a .bytes 7 (omega arith), a .bytes 8 (omega arith)) refl
+  edges-same : at16 t 7 ≡ at16 s 7
+  edges-same = rw (a .bytes 7 (omega arith), a .bytes 8 (omega arith)) refl
 
   -- behind legal counts the length is not what they say
   over : (u : List ℕ) (m : ℕ) → m ≤ 1024 → 8202 ≤ length u → _≡_ {A = ℕ} (cond (eqb (length u) (9 + 8 * m)) 0 6) 6
@@ -51,7 +51,7 @@ module _ (s t : List ℕ) (a : Alike s t) where
   -- TEXTS THAT BEGIN ALIKE ARE REFUSED ALIKE
   pub code-same : (graph-code t ≡ graph-code s) × (graph-code s ≡ 0 → ⊥)
   unfolding graph-code
-  code-same = rw (header-same, places-same, passages-same) (go (eqb head 0) (eqb (counts-code n m) 0) refl refl)
+  code-same = rw (header-same, vertices-same, edges-same) (go (eqb head 0) (eqb (counts-code n m) 0) refl refl)
     where
       head : ℕ
       head = header-code 0x4d 9 s

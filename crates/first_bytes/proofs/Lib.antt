@@ -1,3 +1,3 @@
-pub mod Question
-pub mod Map
+pub mod Query
+pub mod Graph
 pub mod Files

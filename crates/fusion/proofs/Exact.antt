@@ -1,22 +1,22 @@
 -- THE REPLY TO A LEGAL QUESTION IS THE ENCODING OF ITS FUSED TREE. Assumes nothing.
-use Prim.Native.Nat.{ℕ, _+_, _-_, _≤_, _<_, min}
-use mathlib.Core.Path.{_≡_, refl, sym, ap, ap₂, _∙_, subst}
+use Prim.Native.Nat.{ℕ, _+_, _-_, _≤_}
+use mathlib.Core.Path.{_≡_, refl, sym, ap, _∙_, subst}
 use mathlib.Core.List.{List, [], _∷_, _++_, map, append-nil}
 use native.Mathlib.Omega.{arith}
 use borrow.Author.Tests.{le-ltb}
 use lib.Dec.{T}
 use lib.ListN.{length, take, replicate, length-append, length-map, length-replicate}
-use Rattle.meaning.specs.Limits.{BodyLegal, PlanLegal, QueryLegal, entry-terms, plan-terms, query-reductions, query-terms}
-use Rattle.meaning.specs.Plan.{Body, Plan, among, each-vertex, entry, enumerate, fuse, one-result, position, put-all, rename}
-use Rattle.meaning.specs.Query.{Query, VertexReduction, bodies, each, leaves, single, written-paths}
-use Rattle.meaning.proofs.Limits.{fuse-legal, fuse-terms}
+use Rattle.meaning.specs.Limits.{PlanLegal, QueryLegal, plan-terms, query-reductions, query-terms}
+use Rattle.meaning.specs.Plan.{Plan, among, entry, enumerate, fuse, position, put-all, rename}
+use Rattle.meaning.specs.Query.{Query, bodies, each, leaves, single}
+use Rattle.meaning.proofs.Limits.{fuse-legal}
 use Rattle.meaning.proofs.Paths.{put-all-has}
 use Rattle.nodes.specs.declared.Node.{Node}
 use Rattle.nodes.specs.declared.Term.the-variants.{Empty, Entry}
 use Rattle.nodes.specs.Nodes.{node, padded}
 use Rattle.nodes.specs.Text.{nodes-text}
-use Rattle.nodes.specs.Tree.{entry-nodes, final-nodes, place-nodes, result-nodes}
-use Rattle.nodes.proofs.Exact.{entry-size, final-size, place-size, result-size}
+use Rattle.nodes.specs.Tree.{entry-nodes, final-nodes, result-nodes, vertex-nodes}
+use Rattle.nodes.proofs.Exact.{result-size, vertex-size}
 use Rattle.nodes.proofs.Held.{first-nodes}
 use Rattle.nodes.proofs.Text.{nodes-short}
 use Rattle.plan.specs.Plan.{plan-code}
@@ -28,16 +28,15 @@ use Rattle.plan_form.proofs.Exact.{body-size, few-entries, write-form}
 use Rattle.plan_form.proofs.Written.{rows-short}
 use Rattle.query.specs.Query.{encode, query-code}
 use Rattle.query.proofs.Exact.{read-sound}
-use Rattle.query_form.specs.declared.Form as question
+use Rattle.query_form.specs.declared.Form as query-form
 use Rattle.query_form.specs.declared.Reading.{Reading}
 use Rattle.query_form.specs.Form.{form-of, query-reading}
 use Rattle.query_form.proofs.Exact.{ReadAs, read-form}
 use Rattle.term_text.specs.Text.{path-number}
-use Rattle.wire.specs.Header.{header-bytes}
-use Rattle.wire.specs.Wire.{Bytes, Reply, done, fitted, refused}
+use Rattle.wire.specs.Wire.{Bytes, done, fitted, refused}
 use Rattle.fusion.specs.declared.Written.{Written}
 use Rattle.fusion.specs.Fusion.{entries-of, fuse-reply, fused-form, put-part, started}
-use Rattle.fusion.proofs.Fused.{each-body, place-entry, place-final, result-entries, result-final}
+use Rattle.fusion.proofs.Fused.{each-body, result-entries, result-final, vertex-entry, vertex-final}
 use Rattle.fusion.proofs.Refusal.{reading-code, reply-refused, reply-written}
 use Rattle.fusion.proofs.Selected.{Holds, holds-part, selected}
 
@@ -56,7 +55,7 @@ both-parts table nodes d l a b h p q r =
     (holds-part 1 table nodes 0 (put-part 0 table 0 d nodes) (l ++ a) one (omega (arith, n, ap length q)))
 
 abbrev query-nodes : Query → List Node
-query-nodes (each t) = place-nodes t
+query-nodes (each t) = vertex-nodes t
 query-nodes (single t) = result-nodes t
 
 abbrev query-kind : Query → ℕ
@@ -77,9 +76,9 @@ parts-held (each t) h rest =
     let a = entry-nodes (rename (λ c. position c cs) t) in
     let s : Holds (started 0) (node (Entry 0) ∷ []) = record { list = refl; len = refl } in
     let e : (node (Entry 0) ∷ []) ++ a ++ [] ≡ node (Entry 0) ∷ a = append-nil (node (Entry 0) ∷ a) in
-    subst (Holds (both (table-of (each t) rest) 0 (place-nodes t))) e
-    (both-parts (table-of (each t) rest) (place-nodes t) (started 0) (node (Entry 0) ∷ []) a [] s
-    (place-entry cs (l .paths-legal) rest 0 t (h .legal) (put-all-has [] (leaves t))) (place-final (table-of (each t) rest) 0 t)
+    subst (Holds (both (table-of (each t) rest) 0 (vertex-nodes t))) e
+    (both-parts (table-of (each t) rest) (vertex-nodes t) (started 0) (node (Entry 0) ∷ []) a [] s
+    (vertex-entry cs (l .paths-legal) rest 0 t (h .legal) (put-all-has [] (leaves t))) (vertex-final (table-of (each t) rest) 0 t)
     (omega (arith, ap length e, body-short 256 (fuse (each t)) l)))
 parts-held (single t) h rest =
     let l = fuse-legal 256 (single t) h in
@@ -97,7 +96,7 @@ kind-read (single t) = refl
 
 nodes-read : (q : Query) → take (form-of q .count) (form-of q .nodes) ≡ query-nodes q
 unfolding form-of
-nodes-read (each t) = first-nodes (query-terms (each t)) (place-nodes t) (place-size t)
+nodes-read (each t) = first-nodes (query-terms (each t)) (vertex-nodes t) (vertex-size t)
 nodes-read (single t) = first-nodes (query-terms (single t)) (result-nodes t) (result-size t)
 
 kind-fused : (q : Query) → query-kind q ≡ plan.kind-of (fuse q .body)
@@ -113,8 +112,8 @@ entries-fused (single t) h r e = omega (arith, h .few-reductions, length-map (le
 fused-as : (q : Query) → QueryLegal 256 q → (r : Reading) → ReadAs r q → FormOf (fuse q) (fused-form r)
 unfolding fused-form
 fused-as q h r a =
-    let kind : r .form .kind ≡ query-kind q = ap (λ (f : question.Form). f .kind) (a .form) ∙ kind-read q in
-    let list : take (r .form .count) (r .form .nodes) ≡ query-nodes q = ap (λ (f : question.Form). take (f .count) (f .nodes)) (a .form) ∙ nodes-read q in
+    let kind : r .form .kind ≡ query-kind q = ap (λ (f : query-form.Form). f .kind) (a .form) ∙ kind-read q in
+    let list : take (r .form .count) (r .form .nodes) ≡ query-nodes q = ap (λ (f : query-form.Form). take (f .count) (f .nodes)) (a .form) ∙ nodes-read q in
     let w : Holds (both (r .table) (r .form .kind) (take (r .form .count) (r .form .nodes))) (body-nodes (fuse q .body)) = rw (kind, list, a .table) (parts-held q h (a .rest)) in
     record {
       kind = kind ∙ kind-fused q;

@@ -9,13 +9,13 @@ use lib.Dec.{T, eqb}
 use lib.ListN.{length, length-append}
 use Rattle.meaning.specs.Limits.{Every, EveryBody, PathFits}
 use Rattle.meaning.specs.Plan.{among, entry, enumerate, position, rename, same-path}
-use Rattle.meaning.specs.Query.{PathReduction, ResultTerm, Term, VertexReduction, VertexTerm, apply, bodies, leaf, leaves, literal}
+use Rattle.meaning.specs.Query.{PathReduction, ResultTerm, VertexReduction, VertexTerm, apply, bodies, leaf, leaves, literal}
 use Rattle.meaning.proofs.Lists.{all-left, all-right, map-append}
 use Rattle.meaning.proofs.Paths.{path-refl, path-same}
 use Rattle.nodes.specs.declared.Node.{Node}
 use Rattle.nodes.specs.declared.Term.the-variants.{Apply, Entry, EntryIndex, PathIndex, Reduce, ResultApply}
 use Rattle.nodes.specs.Nodes.{node}
-use Rattle.nodes.specs.Tree.{apply-node, entry-nodes, final-nodes, literal-node, place-nodes, result-nodes}
+use Rattle.nodes.specs.Tree.{apply-node, entry-nodes, final-nodes, literal-node, result-nodes, vertex-nodes}
 use Rattle.plan_form.specs.Form.{entries-nodes}
 use Rattle.terms.specs.Terms.{literal-tag}
 use Rattle.term_text.specs.Text.{path-number}
@@ -41,30 +41,30 @@ index-position c f (d ∷ ds) g rest t = go (same-path c d) refl (index-position
         (ap suc (h (subst (λ (x : Bool). T (x || among c ds)) e t)))
 
 -- place terms: no reduction, and nothing of them in the final expression
-pub place-reduced : (t : VertexTerm) → reduced (place-nodes t) ≡ 0
+pub vertex-reduced : (t : VertexTerm) → reduced (vertex-nodes t) ≡ 0
 unfolding reduced reduces apply-node literal-node literal-tag
-place-reduced (leaf c) = refl
-place-reduced (literal x) = refl
-place-reduced (apply o s t) = omega (arith, reduced-append (place-nodes s) (place-nodes t), place-reduced s, place-reduced t)
+vertex-reduced (leaf c) = refl
+vertex-reduced (literal x) = refl
+vertex-reduced (apply o s t) = omega (arith, reduced-append (vertex-nodes s) (vertex-nodes t), vertex-reduced s, vertex-reduced t)
 
-pub place-final : (table : List ℕ) (k : ℕ) (t : VertexTerm) → selected 1 table k (place-nodes t) ≡ []
+pub vertex-final : (table : List ℕ) (k : ℕ) (t : VertexTerm) → selected 1 table k (vertex-nodes t) ≡ []
 unfolding selected fused-term final-term size apply-node literal-node literal-tag
-place-final table k (leaf c) = refl
-place-final table k (literal x) = refl
-place-final table k (apply o s t) =
+vertex-final table k (leaf c) = refl
+vertex-final table k (literal x) = refl
+vertex-final table k (apply o s t) =
     let j = k + reduces (Apply o) in
-    selected-append 1 table j (place-nodes s) (place-nodes t) ∙ ap₂ _++_ (place-final table j s) (place-final table (j + reduced (place-nodes s)) t)
+    selected-append 1 table j (vertex-nodes s) (vertex-nodes t) ∙ ap₂ _++_ (vertex-final table j s) (vertex-final table (j + reduced (vertex-nodes s)) t)
 
 -- result terms: the reductions are numbered as written
 pub result-reduced : (t : ResultTerm) → reduced (result-nodes t) ≡ length (leaves t)
 unfolding reduced reduces apply-node literal-node literal-tag
-result-reduced (leaf e) = omega (arith, place-reduced (e .body))
+result-reduced (leaf e) = omega (arith, vertex-reduced (e .body))
 result-reduced (literal x) = refl
 result-reduced (apply o s t) = omega (arith, reduced-append (result-nodes s) (result-nodes t), result-reduced s, result-reduced t, length-append (leaves s) (leaves t))
 
 pub result-final : (table : List ℕ) (k : ℕ) (t : ResultTerm) → selected 1 table k (result-nodes t) ≡ final-nodes (enumerate k t)
 unfolding selected fused-term final-term size reduces apply-node literal-node literal-tag
-result-final table k (leaf e) = ap (λ (l : List Node). node (EntryIndex k) ∷ l) (place-final table (k + 1) (e .body))
+result-final table k (leaf e) = ap (λ (l : List Node). node (EntryIndex k) ∷ l) (vertex-final table (k + 1) (e .body))
 result-final table k (literal x) = refl
 result-final table k (apply o s t) =
     let e : k + 0 ≡ k = omega arith in
@@ -87,22 +87,22 @@ module _ (cs : List PathReduction) (legal : All (PathFits 256) cs) (rest : List 
   abbrev Known : VertexTerm → Type 0
   Known t = All (λ c. T (among c cs)) (leaves t)
 
-  pub place-entry : (k : ℕ) (t : VertexTerm) → Every (PathFits 256) t → Known t → selected 0 table k (place-nodes t) ≡ entry-nodes (rename (λ c. position c cs) t)
+  pub vertex-entry : (k : ℕ) (t : VertexTerm) → Every (PathFits 256) t → Known t → selected 0 table k (vertex-nodes t) ≡ entry-nodes (rename (λ c. position c cs) t)
   unfolding selected fused-term entry-term size apply-node literal-node literal-tag
-  place-entry k (leaf c) f h = ap (λ (i : ℕ). node (PathIndex i) ∷ []) (index-position c f cs legal rest (h .0))
-  place-entry k (literal x) f h = refl
-  place-entry k (apply o s t) f h =
+  vertex-entry k (leaf c) f h = ap (λ (i : ℕ). node (PathIndex i) ∷ []) (index-position c f cs legal rest (h .0))
+  vertex-entry k (literal x) f h = refl
+  vertex-entry k (apply o s t) f h =
       let j = k + reduces (Apply o) in
       ap (λ (l : List Node). node (Apply o) ∷ l)
-      (selected-append 0 table j (place-nodes s) (place-nodes t)
-      ∙ ap₂ _++_ (place-entry j s (f .2) (all-left _ (leaves s) (leaves t) h)) (place-entry (j + reduced (place-nodes s)) t (f .3) (all-right _ (leaves s) (leaves t) h)))
+      (selected-append 0 table j (vertex-nodes s) (vertex-nodes t)
+      ∙ ap₂ _++_ (vertex-entry j s (f .2) (all-left _ (leaves s) (leaves t) h)) (vertex-entry (j + reduced (vertex-nodes s)) t (f .3) (all-right _ (leaves s) (leaves t) h)))
 
   pub result-entries : (k : ℕ) (t : ResultTerm) → Every (EveryBody (PathFits 256)) t → All (λ e. Known (e .body)) (leaves t)
       → selected 0 table k (result-nodes t) ≡ entries-nodes (map (entry cs) (leaves t))
   unfolding selected fused-term entry-term size apply-node literal-node literal-tag
   result-entries k (leaf e) f h =
       ap (λ (l : List Node). node (Entry (e .reduction)) ∷ l)
-      (place-entry (k + reduces (Reduce (e .reduction))) (e .body) (f .2) (h .0) ∙ sym (append-nil (entry-nodes (rename (λ c. position c cs) (e .body)))))
+      (vertex-entry (k + reduces (Reduce (e .reduction))) (e .body) (f .2) (h .0) ∙ sym (append-nil (entry-nodes (rename (λ c. position c cs) (e .body)))))
   result-entries k (literal x) f h = refl
   result-entries k (apply o s t) f h =
       let j = k + reduces (ResultApply o) in

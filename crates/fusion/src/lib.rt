@@ -60,6 +60,7 @@ fn final_term_of(t: Term, k: u8) -> Term
     }
 }
 
+// What it is in either part.
 fn fused_term_of(part: u8, t: Term, table: [u64; 8], k: u8) -> Term
     ensures { λ r. ⌜ r ≡ fused-term part table k t ⌝ }
 {
@@ -161,10 +162,10 @@ fn fused_form_of(r: Reading) -> Form
 }
 
 // `fuse`: judges the question, then 15; writes the worksheet.
-pub fn fuse(question: &[u8], out: &mut [u8]) -> u32
-    ensures { λ r. ⌜ (r ≡ reply-number (fuse-reply (now (question .entry)) (length (now (out .entry))))) × (now (out .exit) ≡ reply-buffer (fuse-reply (now (question .entry)) (length (now (out .entry)))) (now (out .entry))) ⌝ }
+pub fn fuse(query: &[u8], out: &mut [u8]) -> u32
+    ensures { λ r. ⌜ (r ≡ reply-number (fuse-reply (now (query .entry)) (length (now (out .entry))))) × (now (out .exit) ≡ reply-buffer (fuse-reply (now (query .entry)) (length (now (out .entry)))) (now (out .entry))) ⌝ }
 {
-    let r = query_form::read(question);
+    let r = query_form::read(query);
     let code = r.code;
     if code != 0 {
         return 65536 + code as u32;

@@ -8,8 +8,8 @@ use lib.ListN.{length, getD, length-append}
 use Rattle.meaning.specs.Limits.{EveryBody, Every, PathFits, terms, unit}
 use Rattle.meaning.specs.Query.{PathReduction, ResultTerm, Term, VertexReduction, VertexTerm, leaf}
 use Rattle.terms.specs.Terms.{leaf-tag}
-use Rattle.term_text.specs.Text.{expression-bytes, path-bytes, path-number, place-bytes, result-bytes}
-use Rattle.term_text.proofs.Exact.{index-leaves, place-leaves, result-leaves}
+use Rattle.term_text.specs.Text.{expression-bytes, path-bytes, path-number, result-bytes, vertex-bytes}
+use Rattle.term_text.proofs.Exact.{index-leaves, result-leaves, vertex-leaves}
 use Rattle.term_text.proofs.Steps.{drop-on}
 use Rattle.wire.specs.Wire.{le16}
 use Rattle.nodes.specs.declared.Node.{Node}
@@ -18,7 +18,7 @@ use Rattle.nodes.specs.declared.Term.the-variants.{EntryIndex, Path, Pat
 use Rattle.draft.specs.Draft.{texts}
 use Rattle.nodes.specs.Text.{nodes-text, path-text, term-text}
 use Rattle.nodes.specs.Nodes.{collected, node, passed, tagged}
-use Rattle.nodes.specs.Tree.{entry-nodes, final-nodes, place-nodes, result-nodes, term-nodes}
+use Rattle.nodes.specs.Tree.{entry-nodes, final-nodes, result-nodes, term-nodes, vertex-nodes}
 use Rattle.nodes.proofs.Fields.{byte-there, collected-on, path-read, path-written}
 use Rattle.nodes.proofs.Shape.{Collects, collected-term, count-term, text-term}
 
@@ -26,46 +26,46 @@ use Rattle.nodes.proofs.Shape.{Collects, collected-term, count-term, te
 abbrev path-nodes : PathReduction → List Node
 path-nodes c = node (Path (path-number c)) ∷ []
 
-pub place-collected : (s : List ℕ) (t : VertexTerm) → Every (PathFits 256) t → Collects place-leaves path-nodes 0 s t
-place-collected s = collected-term place-leaves path-nodes 0 s one
+pub vertex-collected : (s : List ℕ) (t : VertexTerm) → Every (PathFits 256) t → Collects vertex-leaves path-nodes 0 s t
+vertex-collected s = collected-term vertex-leaves path-nodes 0 s one
   where
-    one : (c : PathReduction) → PathFits 256 c → Collects place-leaves path-nodes 0 s (leaf c)
+    one : (c : PathReduction) → PathFits 256 c → Collects vertex-leaves path-nodes 0 s (leaf c)
     one c f i k rest e =
         ap (λ (j : ℕ). collected j s i) (let p : 1 + k ≡ suc k = omega arith in p)
         ∙ path-read s i c rest f e k
         ∙ ap (λ (j : ℕ). node (Path (path-number c)) ∷ collected k s (i + j)) (let q : 4 + length (c .keys) ≡ length (0x10 ∷ path-bytes c) = omega (arith, length-append (c .keys) (le16 (c .source))) in q)
 
-pub place-text : (t : VertexTerm) → Every (PathFits 256) t → nodes-text (place-nodes t) ≡ place-bytes t
+pub vertex-text : (t : VertexTerm) → Every (PathFits 256) t → nodes-text (vertex-nodes t) ≡ vertex-bytes t
 unfolding texts term-text
-place-text = text-term place-leaves path-nodes 0 (λ c f. append-nil (0x10 ∷ path-text (path-number c)) ∙ ap (λ (l : List ℕ). 0x10 ∷ l) (path-written c f))
+vertex-text = text-term vertex-leaves path-nodes 0 (λ c f. append-nil (0x10 ∷ path-text (path-number c)) ∙ ap (λ (l : List ℕ). 0x10 ∷ l) (path-written c f))
 
-pub place-size : (t : VertexTerm) → length (place-nodes t) ≡ terms unit t
-place-size = count-term place-leaves path-nodes 0 (λ c. refl)
+pub vertex-size : (t : VertexTerm) → length (vertex-nodes t) ≡ terms unit t
+vertex-size = count-term vertex-leaves path-nodes 0 (λ c. refl)
 
 -- result terms: the leaves are reductions of place terms
 abbrev reduction-nodes : VertexReduction PathReduction → List Node
-reduction-nodes e = node (Reduce (e .reduction)) ∷ place-nodes (e .body)
+reduction-nodes e = node (Reduce (e .reduction)) ∷ vertex-nodes (e .body)
 
 pub result-collected : (s : List ℕ) (t : ResultTerm) → Every (EveryBody (PathFits 256)) t → Collects result-leaves reduction-nodes 1 s t
 result-collected s = collected-term result-leaves reduction-nodes 1 s one
   where
     one : (e : VertexReduction PathReduction) → EveryBody (PathFits 256) e → Collects result-leaves reduction-nodes 1 s (leaf e)
     one e f i k rest d =
-        let body : List ℕ = place-bytes (e .body) in
+        let body : List ℕ = vertex-bytes (e .body) in
         let next = drop-on s i 2 (0x20 ∷ e .reduction ∷ []) (body ++ rest) d refl in
         ap (λ (j : ℕ). collected j s i) (let p : suc (terms unit (e .body)) + k ≡ suc (terms unit (e .body) + k) = omega arith in p)
         ∙ collected-on s i 0x20 (e .reduction ∷ (body ++ rest)) d (terms unit (e .body) + k) (node (Reduce (e .reduction))) (i + 2)
         (ap (λ (r : ℕ). node (Reduce r)) (byte-there s i 0x20 (e .reduction) (body ++ rest) d)) refl
         ∙ ap (λ (l : List Node). node (Reduce (e .reduction)) ∷ l)
-        (place-collected s (e .body) (f .2) (i + 2) k rest next
-        ∙ ap (λ (j : ℕ). place-nodes (e .body) ++ collected k s j) (let q : i + 2 + length body ≡ i + length (0x20 ∷ e .reduction ∷ body) = omega arith in q))
+        (vertex-collected s (e .body) (f .2) (i + 2) k rest next
+        ∙ ap (λ (j : ℕ). vertex-nodes (e .body) ++ collected k s j) (let q : i + 2 + length body ≡ i + length (0x20 ∷ e .reduction ∷ body) = omega arith in q))
 
 pub result-text : (t : ResultTerm) → Every (EveryBody (PathFits 256)) t → nodes-text (result-nodes t) ≡ result-bytes t
 unfolding texts term-text
-result-text = text-term result-leaves reduction-nodes 1 (λ e f. ap (λ (l : List ℕ). 0x20 ∷ e .reduction ∷ l) (place-text (e .body) (f .2)))
+result-text = text-term result-leaves reduction-nodes 1 (λ e f. ap (λ (l : List ℕ). 0x20 ∷ e .reduction ∷ l) (vertex-text (e .body) (f .2)))
 
 pub result-size : (t : ResultTerm) → length (result-nodes t) ≡ terms (λ e. suc (terms unit (e .body))) t
-result-size = count-term result-leaves reduction-nodes 1 (λ e. ap suc (place-size (e .body)))
+result-size = count-term result-leaves reduction-nodes 1 (λ e. ap suc (vertex-size (e .body)))
 
 -- expressions of a plan: the leaves are indices, of two bytes
 module _ (m count : ℕ) (made : ℕ → single.Term) (is : (s : List ℕ) (i : ℕ) → tagged (leaf-tag m) s i ≡ made (getD s (i + 1) 0)) (on : (s : List ℕ) (i : ℕ) → passed (leaf-tag m) s i ≡ i + 2)

@@ -23,11 +23,11 @@ term-nodes mode N (leaf a) = N a
 term-nodes mode N (literal k) = literal-node (literal-tag mode) k ∷ []
 term-nodes mode N (apply o s t) = apply-node (literal-tag mode) o ∷ (term-nodes mode N s ++ term-nodes mode N t)
 
-abbrev pub place-nodes : VertexTerm → List Node
-place-nodes = term-nodes 0 (λ c. node (Path (path-number c)) ∷ [])
+abbrev pub vertex-nodes : VertexTerm → List Node
+vertex-nodes = term-nodes 0 (λ c. node (Path (path-number c)) ∷ [])
 
 abbrev pub result-nodes : ResultTerm → List Node
-result-nodes = term-nodes 1 (λ e. node (Reduce (e .reduction)) ∷ place-nodes (e .body))
+result-nodes = term-nodes 1 (λ e. node (Reduce (e .reduction)) ∷ vertex-nodes (e .body))
 
 -- an entry of a worksheet, and its final expression
 abbrev pub entry-nodes : Term ℕ → List Node

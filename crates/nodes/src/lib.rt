@@ -1,8 +1,8 @@
 // The typed form of terms (document 01, "Layouts"): one after the other in written order, read from bytes and put into a draft.
 use draft::Draft;
 ghost use mathlib.Core.Path.{_≡_};
-ghost use Prim.Native.Nat.{_+_, _≤_, _<_, min};
-ghost use lib.ListN.{length, getD, take};
+ghost use Prim.Native.Nat.{_+_, _≤_, _<_};
+ghost use lib.ListN.{length, take};
 ghost use mathlib.Core.List.{_∷_};
 ghost use Rattle.wire.specs.Wire.{le32};
 ghost use Rattle.nodes.specs.Nodes.{term-at, next-at, nodes-read};
@@ -23,6 +23,7 @@ pub enum Term {
     Entry(u8),
 }
 
+// A term in a struct: a field of a struct can be an array of structs, and none of enums.
 pub struct Node {
     pub term: Term,
 }
@@ -95,12 +96,12 @@ pub fn read_nodes(s: &[u8], at: usize, count: usize) -> [Node; 72]
     let empty = Node { term: Term::Empty };
     let mut nodes = [empty; 72];
     let n = wire::lesser(count, 72);
-    let mut place = at;
+    let mut next = at;
     let mut i: usize = 0;
     while i < n {
-        let term = term_of(s, place);
+        let term = term_of(s, next);
         nodes[i] = Node { term };
-        place = next_of(s, place);
+        next = next_of(s, next);
         i += 1;
     }
     nodes

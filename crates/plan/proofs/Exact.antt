@@ -16,7 +16,7 @@ use Rattle.fields.proofs.Opening.{opening-found}
 use Rattle.terms.specs.declared.Walk.{Walk}
 use Rattle.terms.specs.Terms.{blank, ended, leaf-step, leaf-tag, literal-tag, read, started}
 use Rattle.term_text.specs.Text.{expression-bytes}
-use Rattle.term_text.proofs.Ends.{ended-code, ended-whole, started-table}
+use Rattle.term_text.proofs.Ends.{ended-code, ended-whole, no-rest, started-table}
 use Rattle.terms.proofs.Laws.{handed-on}
 use Rattle.term_text.proofs.Paths.{drop-at, nth, present}
 use Rattle.term_text.proofs.Steps.{drop-on, there}
@@ -257,7 +257,3 @@ read-sound s bytes e =
           ∙ ap₂ (λ (x : ℕ) (t : List ℕ). x ∷ t) (sym (f .2)) (f .4
           ∙ ap (λ (t : List ℕ). rows-bytes (f .0) ++ t) (rest ∙ ap (λ (t : List ℕ). body-bytes (b .0) ++ t) none ∙ append-nil (body-bytes (b .0))))))),
     )
-  where
-    no-rest : (r : List ℕ) → length r ≡ 0 → r ≡ []
-    no-rest [] z = refl
-    no-rest (x ∷ r) z = absurd (omega arith)

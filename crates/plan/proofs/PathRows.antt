@@ -5,7 +5,7 @@ use mathlib.Core.Bool.{Bool, true, false, cond, _&&_}
 use mathlib.Core.List.{List, [], _∷_, _++_, map, append-assoc, append-nil}
 use native.Mathlib.Omega.{arith}
 use native.Mathlib.Nat.{not-suc-le-zero}
-use borrow.Author.Tests.{leb-false, eqb-true, eqb-false, lt-ltb, le-ltb, lt-leb, eq-eqb, ne-eqb}
+use borrow.Author.Tests.{leb-false, eqb-true, eqb-false, lt-leb, eq-eqb, ne-eqb}
 use lib.Dec.{T, leb, ltb, eqb, leb→le}
 use lib.ListN.{length, getD, drop, set, length-set, length-append, length-map}
 use lib.Seq.{set-at, append-snoc}
@@ -13,7 +13,7 @@ use Rattle.meaning.specs.Limits.{PathFits}
 use Rattle.meaning.specs.Query.{PathReduction}
 use Rattle.meaning.proofs.Lists.{all-append, map-append}
 use Rattle.terms.specs.declared.Walk.{Walk}
-use Rattle.fields.specs.Fields.{code-of, key-code, source-code}
+use Rattle.fields.specs.Fields.{code-of, source-code}
 use Rattle.terms.specs.Terms.{blank}
 use Rattle.term_text.specs.Text.{path-number}
 use Rattle.wire.proofs.Past.{getD-any}

@@ -138,6 +138,7 @@ fn entry(s: &[u8], w: Walk, kind: u16) -> Walk
     terms::read_term(s, next, terms::ENTRY, 16)
 }
 
+// The entries, k of them. A refusal is handed on.
 fn entries(s: &[u8], w: Walk, kind: u16, k: usize) -> Walk
     ensures { λ r. ⌜ r ≡ entries-scan k kind (now (s .entry)) w ⌝ }
 {

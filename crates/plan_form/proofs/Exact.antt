@@ -4,11 +4,11 @@ use mathlib.Core.Path.{_≡_, refl, sym, ap, ap₂, _∙_}
 use mathlib.Core.List.{List, [], _∷_, _++_, map, append-assoc, append-nil}
 use native.Mathlib.Omega.{arith}
 use borrow.Author.Tests.{le-ltb, eq-eqb}
-use lib.ListN.{length, getD, drop, take, length-append, length-map}
+use lib.ListN.{length, drop, take, length-append, length-map}
 use lib.Seq.{take-at}
 use Rattle.meaning.specs.Limits.{BodyLegal, EntryLegal, PathFits, PlanLegal, entry-terms, plan-terms, terms, unit}
 use Rattle.meaning.specs.Plan.{Body, Plan, each-vertex, one-result}
-use Rattle.meaning.specs.Query.{PathReduction, Term, VertexReduction}
+use Rattle.meaning.specs.Query.{PathReduction, VertexReduction}
 use Rattle.nodes.specs.declared.Node.{Node}
 use Rattle.nodes.specs.declared.Term.the-variants.{Entry}
 use Rattle.draft.specs.Draft.{texts}
@@ -20,17 +20,14 @@ use Rattle.nodes.proofs.Exact.{entry-collected, entry-size, entry-text, final-c
 use Rattle.nodes.proofs.Fields.{entry-read, path-digits}
 use Rattle.nodes.proofs.Held.{first-nodes, read-whole}
 use Rattle.plan.specs.Plan.{plan-code, plan-scan}
-use Rattle.plan.specs.Text.{body-bytes, encode, entries-bytes, entry-count, kind-of, row-bytes, rows-bytes}
+use Rattle.plan.specs.Text.{body-bytes, encode, entries-bytes, entry-count, row-bytes, rows-bytes}
 use Rattle.plan.proofs.Exact.{read-complete, read-sound}
 use Rattle.plan.proofs.PathRows.{rows-size}
 use Rattle.term_text.specs.Text.{expression-bytes, path-number}
-use Rattle.wire.specs.Header.{header-bytes}
-use Rattle.terms.specs.declared.Walk.{Walk}
 use Rattle.term_text.proofs.Steps.{drop-on}
 use Rattle.walks.specs.Lists.{All}
-use Rattle.wire.specs.Wire.{Bytes, done, le16}
+use Rattle.wire.specs.Wire.{Bytes, done}
 use Rattle.plan_form.specs.declared.Form.{Form}
-use Rattle.plan_form.specs.declared.Reading.{Reading}
 use Rattle.plan_form.specs.Form.{FormOf, body-nodes, entries-nodes, form-bytes, plan-reading, read-after, row-text, rows-text, write-reply}
 
 -- the bytes behind the entry count

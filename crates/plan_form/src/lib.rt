@@ -46,6 +46,7 @@ fn blank(code: u8) -> Reading
     }
 }
 
+// The reader of worksheets: the typed form, or the refusal.
 pub fn read(s: &[u8]) -> Reading
     ensures { λ r. ⌜ r ≡ plan-reading (now (s .entry)) ⌝ }
 {

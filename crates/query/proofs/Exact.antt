@@ -8,17 +8,18 @@ use native.Mathlib.Omega.{arith}
 use borrow.Author.Tests.{eqb-true, eqb-false, le-ltb}
 use lib.Dec.{eqb}
 use lib.ListN.{length, getD, drop, length-append, length-drop}
-use Rattle.meaning.specs.Limits.{QueryLegal, query-reductions, query-terms}
+use Rattle.meaning.specs.Limits.{Every, EveryPath, PathFits, QueryLegal, depth, query-depth, query-reductions, query-terms, terms}
 use Rattle.meaning.specs.Plan.{put-all}
-use Rattle.meaning.specs.Query.{PathReduction, Query, each, single, written-paths}
+use Rattle.meaning.specs.Query.{PathReduction, Query, Term, each, single, written-paths}
 use Rattle.fields.specs.Fields.{opening-code}
 use Rattle.fields.proofs.Opening.{opening-found}
 use Rattle.terms.specs.declared.Walk.{Walk}
 use Rattle.terms.specs.Terms.{blank, ended, read, started}
-use Rattle.term_text.specs.Text.{place-bytes, result-bytes}
-use Rattle.term_text.proofs.Exact.{place-complete, place-count, place-paths, place-sound, result-complete, result-count, result-paths, result-sound}
-use Rattle.term_text.proofs.Ends.{ended-code, ended-whole, started-table}
+use Rattle.term_text.specs.Text.{term-bytes}
+use Rattle.term_text.proofs.Exact.{result-complete, result-count, result-leaves, result-paths, result-sound, vertex-complete, vertex-count, vertex-leaves, vertex-paths, vertex-sound}
+use Rattle.term_text.proofs.Ends.{ended-code, ended-whole, no-rest, started-table}
 use Rattle.term_text.proofs.Paths.{drop-at, present}
+use Rattle.term_text.proofs.Shape.{Complete, Leaves, Sound, term-count, term-paths}
 use Rattle.term_text.proofs.Table.{Table}
 use Rattle.wire.specs.Header.{header-bytes, header-code}
 use Rattle.wire.specs.Wire.{Bytes}
@@ -37,49 +38,67 @@ scan-is : (s : List ℕ) (kind : ℕ) → header-code 0x51 5 s ≡ 0 → getD s 
 unfolding query-scan
 scan-is s kind h k l = rw (h, k, le-ltb 255 kind (omega arith), le-ltb 1 kind l) refl
 
+-- the text from its parts
+joined : (s : List ℕ) (kind : ℕ) (l rest : List ℕ) → getD s 5 256 ≡ kind → kind ≤ 1 → header-code 0x51 5 s ≡ 0 → drop 6 s ≡ l ++ rest → length s ≤ 6 + length l
+    → header-bytes 0x51 ++ (kind ∷ l) ≡ s
+joined s kind l rest k h c d n =
+    let p = present s 5 (omega arith) in
+    let none : rest ≡ [] = no-rest rest (omega (arith, length-drop 6 s, ap length d, length-append l rest)) in
+    sym (header-found 0x51 5 s c ∙ ap (λ (t : List ℕ). header-bytes 0x51 ++ t) (drop-at s 5 p ∙ ap₂ (λ (x : ℕ) (t : List ℕ). x ∷ t) k (d ∙ ap (λ (t : List ℕ). l ++ t) none ∙ append-nil l)))
+
+-- BOTH KINDS ALIKE: kind m, its leaves, and the query that a term of it is
+module _ {A : Type 0} (K : Leaves A) (m : ℕ) (low : m ≤ 1) (Ready : Walk → Type 0) (ready : Ready (started 6)) (of : Term A → Query)
+    (text : (t : Term A) → encode (of t) ≡ header-bytes 0x51 ++ (m ∷ term-bytes m (K .bytes) t))
+    (size : (t : Term A) → query-terms (of t) ≡ terms (K .size) t) (deep : (t : Term A) → query-depth (of t) ≡ depth (K .deep) t)
+    (paths : (t : Term A) → term-paths K t ≡ written-paths (of t)) (count : (t : Term A) → term-count K t ≡ query-reductions (of t))
+    (complete : (s : List ℕ) (t : Term A) → Complete K s m Ready t) where
+  term-read : (t : Term A) → Every (K .fine) t → QueryLegal 256 (of t) → Scanned (query-scan (encode (of t))) (of t)
+  unfolding started
+  term-read t fine l =
+      let s : List ℕ = header-bytes 0x51 ++ (m ∷ term-bytes m (K .bytes) t) in
+      let same = ap (put-all []) (paths t) in
+      let a = complete s t 16 (started 6) [] [] refl (started-table 6) ready (sym (append-nil (term-bytes m (K .bytes) t)))
+      (record {
+        fine = fine;
+        shallow = omega (arith, l .shallow, deep t);
+        terms = omega (arith, l .few-terms, size t);
+        paths = omega (arith, l .few-paths, ap length same);
+        reductions = omega (arith, l .few-reductions, count t);
+      }) in
+      let whole = scan-is s m (header-accepted 0x51 5 (m ∷ term-bytes m (K .bytes) t) (omega arith)) refl low ∙ ended-whole s (read m 16 s (started 6)) (omega (arith, a .at)) in
+      subst (λ (w : Walk). Scanned w (of t)) (sym (ap query-scan (text t) ∙ whole))
+      (record {
+        accepted = a .code;
+        terms = omega (arith, a .terms, size t);
+        reductions = omega (arith, a .reductions, count t);
+        table = subst (Table (read m 16 s (started 6))) same (a .table);
+      })
+
+  term-found : (s : List ℕ) → Sound K s m Ready 16 → ((t : Term A) → Every (K .fine) t → EveryPath (PathFits 256) (of t)) → header-code 0x51 5 s ≡ 0 → getD s 5 256 ≡ m
+      → ended s (read m 16 s (started 6)) .code ≡ 0 → (q : Query) × QueryLegal 256 q × (encode q ≡ s)
+  unfolding started
+  term-found s sound legal h k e =
+      let z = ended-code s (read m 16 s (started 6)) e in
+      let f = sound (started 6) [] refl (started-table 6) ready (z .0) in
+      let t = f .0 in
+      let room = f .3 in
+      let a = complete s t 16 (started 6) [] (f .1) refl (started-table 6) ready (f .2) room in
+      let same = ap (λ (l : List PathReduction). length (put-all [] l)) (paths t) in (
+        of t,
+        record {
+          legal = legal t (room .fine);
+          few-terms = omega (arith, room .terms, size t);
+          shallow = omega (arith, room .shallow, deep t);
+          few-paths = omega (arith, room .paths, same);
+          few-reductions = omega (arith, room .reductions, count t);
+        },
+        text t ∙ joined s m (term-bytes m (K .bytes) t) (f .1) k low h (f .2) (omega (arith, z .1, a .at)),
+      )
+
 -- THE ENCODING OF EVERY LEGAL QUERY IS ACCEPTED AND READ AS IT
 pub read-complete : (q : Query) → QueryLegal 256 q → Scanned (query-scan (encode q)) q
-unfolding started
-read-complete (each t) l =
-    let s : List ℕ = encode (each t) in
-    let paths = ap (put-all []) (place-paths t) in
-    let count = place-count t in
-    let a = place-complete s t 16 (started 6) [] [] refl (started-table 6) tt (sym (append-nil (place-bytes t)))
-    (record {
-      fine = l .legal;
-      shallow = l .shallow;
-      terms = omega (arith, l .few-terms);
-      paths = omega (arith, l .few-paths, ap length paths);
-      reductions = omega (arith, count);
-    }) in
-    let whole = scan-is s 0 (header-accepted 0x51 5 (0 ∷ place-bytes t) (omega arith)) refl (omega arith) ∙ ended-whole s (read 0 16 s (started 6)) (omega (arith, a .at)) in
-    subst (λ (w : Walk). Scanned w (each t)) (sym whole)
-    (record {
-      accepted = a .code;
-      terms = omega (arith, a .terms);
-      reductions = omega (arith, a .reductions, count);
-      table = subst (Table (read 0 16 s (started 6))) paths (a .table);
-    })
-read-complete (single t) l =
-    let s : List ℕ = encode (single t) in
-    let paths = ap (put-all []) (result-paths t) in
-    let count = result-count t in
-    let a = result-complete s t 16 (started 6) [] [] refl (started-table 6) tt (sym (append-nil (result-bytes t)))
-    (record {
-      fine = l .legal;
-      shallow = l .shallow;
-      terms = omega (arith, l .few-terms);
-      paths = omega (arith, l .few-paths, ap length paths);
-      reductions = omega (arith, count, l .few-reductions);
-    }) in
-    let whole = scan-is s 1 (header-accepted 0x51 5 (1 ∷ result-bytes t) (omega arith)) refl (omega arith) ∙ ended-whole s (read 1 16 s (started 6)) (omega (arith, a .at)) in
-    subst (λ (w : Walk). Scanned w (single t)) (sym whole)
-    (record {
-      accepted = a .code;
-      terms = omega (arith, a .terms);
-      reductions = omega (arith, a .reductions, count);
-      table = subst (Table (read 1 16 s (started 6))) paths (a .table);
-    })
+read-complete (each t) l = term-read vertex-leaves 0 (omega arith) _ tt each (λ t. refl) (λ t. refl) (λ t. refl) vertex-paths vertex-count vertex-complete t (l .legal) l
+read-complete (single t) l = term-read result-leaves 1 (omega arith) _ tt single (λ t. refl) (λ t. refl) (λ t. refl) result-paths result-count result-complete t (l .legal) l
 
 -- what an accepted text is: its header, a kind, a term and nothing after it
 accepted-parts : (s : List ℕ) → query-code s ≡ 0 → (header-code 0x51 5 s ≡ 0) × (getD s 5 256 ≤ 1) × (ended s (read (getD s 5 256) 16 s (started 6)) .code ≡ 0)
@@ -94,55 +113,14 @@ accepted-parts s e = go (eqb (opening-code 0x51 s) 0) refl e
 
 -- ACCEPTED BYTES ARE THE ENCODING OF A LEGAL QUERY
 pub read-sound : (s : List ℕ) → Bytes s → query-code s ≡ 0 → (q : Query) × QueryLegal 256 q × (encode q ≡ s)
-unfolding started
 read-sound s bytes e = by-kind (getD s 5 256) refl (accepted-parts s e)
   where
-    -- the text from its parts
-    joined : (kind : ℕ) (l rest : List ℕ) → getD s 5 256 ≡ kind → kind ≤ 1 → header-code 0x51 5 s ≡ 0 → drop 6 s ≡ l ++ rest → length s ≤ 6 + length l → header-bytes 0x51 ++ (kind ∷ l) ≡ s
-    joined kind l rest k h c d n =
-        let p = present s 5 (omega arith) in
-        let none : rest ≡ [] = no-rest rest (omega (arith, length-drop 6 s, ap length d, length-append l rest)) in
-        sym (header-found 0x51 5 s c ∙ ap (λ (t : List ℕ). header-bytes 0x51 ++ t) (drop-at s 5 p ∙ ap₂ (λ (x : ℕ) (t : List ℕ). x ∷ t) k (d ∙ ap (λ (t : List ℕ). l ++ t) none ∙ append-nil l)))
-      where
-        no-rest : (r : List ℕ) → length r ≡ 0 → r ≡ []
-        no-rest [] z = refl
-        no-rest (x ∷ r) z = absurd (omega arith)
-
     by-kind : (kind : ℕ) → getD s 5 256 ≡ kind → (header-code 0x51 5 s ≡ 0) × (getD s 5 256 ≤ 1) × (ended s (read (getD s 5 256) 16 s (started 6)) .code ≡ 0)
         → (q : Query) × QueryLegal 256 q × (encode q ≡ s)
     by-kind zero k p =
-        let z = ended-code s (read 0 16 s (started 6)) (subst (λ (n : ℕ). ended s (read n 16 s (started 6)) .code ≡ 0) k (p .2)) in
-        let f = place-sound s bytes 16 (started 6) [] refl (started-table 6) tt (z .0) in
-        let t = f .0 in
-        let room = f .3 in
-        let a = place-complete s t 16 (started 6) [] (f .1) refl (started-table 6) tt (f .2) room in
-        let paths = ap (λ (l : List PathReduction). length (put-all [] l)) (place-paths t) in (
-          each t,
-          record {
-            legal = room .fine;
-            few-terms = omega (arith, room .terms);
-            shallow = room .shallow;
-            few-paths = omega (arith, room .paths);
-            few-reductions = omega arith;
-          },
-          joined 0 (place-bytes t) (f .1) k (omega arith) (p .0) (f .2) (omega (arith, z .1, a .at)),
-        )
+        term-found vertex-leaves 0 (omega arith) _ tt each (λ t. refl) (λ t. refl) (λ t. refl) vertex-paths vertex-count vertex-complete
+        s (vertex-sound s bytes 16) (λ t f. f) (p .0) k (rw k at (p .2))
     by-kind (suc zero) k p =
-        let z = ended-code s (read 1 16 s (started 6)) (subst (λ (n : ℕ). ended s (read n 16 s (started 6)) .code ≡ 0) k (p .2)) in
-        let f = result-sound s bytes 16 (started 6) [] refl (started-table 6) tt (z .0) in
-        let t = f .0 in
-        let room = f .3 in
-        let a = result-complete s t 16 (started 6) [] (f .1) refl (started-table 6) tt (f .2) room in
-        let paths = ap (λ (l : List PathReduction). length (put-all [] l)) (result-paths t) in
-        let count = result-count t in (
-          single t,
-          record {
-            legal = room .fine;
-            few-terms = omega (arith, room .terms);
-            shallow = room .shallow;
-            few-paths = omega (arith, room .paths);
-            few-reductions = omega (arith, room .reductions);
-          },
-          joined 1 (result-bytes t) (f .1) k (omega arith) (p .0) (f .2) (omega (arith, z .1, a .at)),
-        )
+        term-found result-leaves 1 (omega arith) _ tt single (λ t. refl) (λ t. refl) (λ t. refl) result-paths result-count result-complete
+        s (result-sound s bytes 16) (λ t f. f) (p .0) k (rw k at (p .2))
     by-kind (suc (suc n)) k p = absurd (omega (arith, p .1))

@@ -4,15 +4,15 @@ use mathlib.Core.List.{[], append-nil}
 use native.Mathlib.Omega.{arith}
 use Rattle.meaning.specs.Limits.{QueryLegal}
 use Rattle.meaning.specs.Query.{Query, each, single}
-use Rattle.term_text.specs.Text.{place-bytes, result-bytes}
-use Rattle.term_text.proofs.Unique.{place-split, result-split, same-head, same-split}
+use Rattle.term_text.specs.Text.{result-bytes, vertex-bytes}
+use Rattle.term_text.proofs.Unique.{result-split, same-head, same-split, vertex-split}
 use Rattle.wire.specs.Header.{header-bytes}
 use Rattle.query.specs.Query.{body-bytes, encode}
 
 body-same : (q r : Query) → QueryLegal 256 q → QueryLegal 256 r → body-bytes q ≡ body-bytes r → q ≡ r
 body-same (each t) (each u) l m e =
     let p = same-head 0 0 _ _ e .1 in
-    ap each (place-split t u [] [] (l .legal) (m .legal) (append-nil (place-bytes t) ∙ p ∙ sym (append-nil (place-bytes u))) .0)
+    ap each (vertex-split t u [] [] (l .legal) (m .legal) (append-nil (vertex-bytes t) ∙ p ∙ sym (append-nil (vertex-bytes u))) .0)
 body-same (each t) (single u) l m e = absurd (omega (arith, same-head 0 1 _ _ e .0))
 body-same (single t) (each u) l m e = absurd (omega (arith, same-head 1 0 _ _ e .0))
 body-same (single t) (single u) l m e =

@@ -8,12 +8,12 @@ use Rattle.meaning.specs.Query.{Query, each, single}
 use Rattle.fields.specs.Fields.{opening-code}
 use Rattle.terms.specs.declared.Walk.{Walk}
 use Rattle.terms.specs.Terms.{blank, ended, read, started}
-use Rattle.term_text.specs.Text.{place-bytes, result-bytes}
+use Rattle.term_text.specs.Text.{result-bytes, vertex-bytes}
 use Rattle.wire.specs.Header.{header-bytes}
 
 -- "a kind byte, 0 for a value at each place, 1 for one result, then one term written operator first"
 abbrev pub body-bytes : Query → List ℕ
-body-bytes (each t) = 0 ∷ place-bytes t
+body-bytes (each t) = 0 ∷ vertex-bytes t
 body-bytes (single t) = 1 ∷ result-bytes t
 
 abbrev pub encode : Query → List ℕ

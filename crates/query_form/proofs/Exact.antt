@@ -4,19 +4,19 @@ use mathlib.Core.Path.{_≡_, refl, sym, ap, _∙_}
 use mathlib.Core.List.{List, [], _∷_, _++_, map, append-nil}
 use native.Mathlib.Omega.{arith}
 use borrow.Author.Tests.{le-ltb, eq-eqb}
-use lib.ListN.{length, getD, take}
+use lib.ListN.{length, getD}
 use Rattle.meaning.specs.Limits.{QueryLegal, query-reductions, query-terms}
 use Rattle.meaning.specs.Plan.{put-all}
 use Rattle.meaning.specs.Query.{Query, each, single, written-paths}
 use Rattle.nodes.specs.declared.Node.{Node}
 use Rattle.nodes.specs.Text.{nodes-text}
-use Rattle.nodes.specs.Nodes.{nodes-read, padded}
-use Rattle.nodes.specs.Tree.{place-nodes, result-nodes}
-use Rattle.nodes.proofs.Exact.{place-collected, place-size, place-text, result-collected, result-size, result-text}
+use Rattle.nodes.specs.Nodes.{nodes-read}
+use Rattle.nodes.specs.Tree.{result-nodes, vertex-nodes}
+use Rattle.nodes.proofs.Exact.{result-collected, result-size, result-text, vertex-collected, vertex-size, vertex-text}
 use Rattle.nodes.proofs.Held.{first-nodes, read-whole}
 use Rattle.query.specs.Query.{encode, query-code, query-scan}
 use Rattle.query.proofs.Exact.{read-complete, read-sound}
-use Rattle.term_text.specs.Text.{path-number, place-bytes, result-bytes}
+use Rattle.term_text.specs.Text.{path-number, result-bytes, vertex-bytes}
 use Rattle.wire.specs.Header.{header-bytes}
 use Rattle.wire.specs.Wire.{Bytes, done}
 use Rattle.query_form.specs.declared.Form.{Form}
@@ -27,8 +27,8 @@ use Rattle.query_form.specs.Form.{form-bytes, form-of, query-reading, re
 nodes-are : (q : Query) → QueryLegal 256 q → nodes-read (query-terms q) (encode q) 6 ≡ form-of q .nodes
 unfolding form-of
 nodes-are (each t) l =
-    read-whole (encode (each t)) 6 (6 + length (place-bytes t)) (query-terms (each t)) (place-nodes t) (omega (arith, l .few-terms))
-    (place-collected (encode (each t)) t (l .legal) 6 0 [] (sym (append-nil (place-bytes t))))
+    read-whole (encode (each t)) 6 (6 + length (vertex-bytes t)) (query-terms (each t)) (vertex-nodes t) (omega (arith, l .few-terms))
+    (vertex-collected (encode (each t)) t (l .legal) 6 0 [] (sym (append-nil (vertex-bytes t))))
 nodes-are (single t) l =
     read-whole (encode (single t)) 6 (6 + length (result-bytes t)) (query-terms (single t)) (result-nodes t) (omega (arith, l .few-terms))
     (result-collected (encode (single t)) t (l .legal) 6 0 [] (sym (append-nil (result-bytes t))))
@@ -66,7 +66,7 @@ read-form q l =
 pub write-form : (q : Query) → QueryLegal 256 q → form-bytes (form-of q) ≡ encode q
 unfolding form-of form-bytes
 write-form (each t) l =
-    ap (λ (b : List ℕ). header-bytes 0x51 ++ (0 ∷ b)) (ap nodes-text (first-nodes (query-terms (each t)) (place-nodes t) (place-size t)) ∙ place-text t (l .legal))
+    ap (λ (b : List ℕ). header-bytes 0x51 ++ (0 ∷ b)) (ap nodes-text (first-nodes (query-terms (each t)) (vertex-nodes t) (vertex-size t)) ∙ vertex-text t (l .legal))
 write-form (single t) l =
     ap (λ (b : List ℕ). header-bytes 0x51 ++ (1 ∷ b)) (ap nodes-text (first-nodes (query-terms (single t)) (result-nodes t) (result-size t)) ∙ result-text t (l .legal))
 

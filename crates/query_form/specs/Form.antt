@@ -9,7 +9,7 @@ use Rattle.meaning.specs.Query.{Query, each, single}
 use Rattle.nodes.specs.declared.Term.the-variants.{Empty}
 use Rattle.nodes.specs.Text.{nodes-text}
 use Rattle.nodes.specs.Nodes.{node, nodes-read, padded}
-use Rattle.nodes.specs.Tree.{place-nodes, result-nodes}
+use Rattle.nodes.specs.Tree.{result-nodes, vertex-nodes}
 use Rattle.query.specs.Query.{query-code, query-scan}
 use Rattle.terms.specs.declared.Walk.{Walk}
 use Rattle.wire.specs.Header.{header-bytes}
@@ -19,7 +19,7 @@ use Rattle.query_form.specs.declared.Reading.{Reading}
 
 -- the typed form of a query: "a kind byte, 0 for a value at each place, 1 for one result, then one term written operator first"
 unfoldable pub form-of : Query → Form
-form-of (each t) = record { kind = 0; count = query-terms (each t); nodes = padded (place-nodes t) }
+form-of (each t) = record { kind = 0; count = query-terms (each t); nodes = padded (vertex-nodes t) }
 form-of (single t) = record { kind = 1; count = query-terms (single t); nodes = padded (result-nodes t) }
 
 -- the bytes of a typed form, legal or not

@@ -3,7 +3,6 @@ use draft::Draft;
 use nodes::Node;
 use nodes::Term;
 ghost use mathlib.Core.Path.{_≡_};
-ghost use Prim.Native.Nat.{_≤_};
 ghost use lib.ListN.{length, take};
 ghost use Rattle.wire.specs.Wire.{reply-number, reply-buffer};
 ghost use Rattle.query_form.specs.Form.{form-bytes, write-reply, blank-reading, query-reading};
@@ -44,6 +43,7 @@ fn blank(code: u8) -> Reading
     }
 }
 
+// The reader of questions: the typed form, or the refusal.
 pub fn read(s: &[u8]) -> Reading
     ensures { λ r. ⌜ r ≡ query-reading (now (s .entry)) ⌝ }
 {

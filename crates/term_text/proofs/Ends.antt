@@ -2,7 +2,7 @@
 use Prim.Native.Nat.{ℕ, _≤_}
 use mathlib.Core.Path.{_≡_, refl}
 use mathlib.Core.Bool.{Bool, true, false, cond}
-use mathlib.Core.List.{List, []}
+use mathlib.Core.List.{List, [], _∷_}
 use native.Mathlib.Omega.{arith}
 use borrow.Author.Tests.{ltb-false, eqb-false, le-ltb}
 use lib.Dec.{ltb, eqb}
@@ -32,3 +32,7 @@ ended-code s w e = go (eqb (w .code) 0) (ltb (w .at) (length s)) refl refl e
     go true true p q z = absurd (omega arith)
     go true false p q z = (z, ltb-false (w .at) (length s) q)
     go false b p q z = absurd (eqb-false (w .code) 0 p z)
+
+pub no-rest : (r : List ℕ) → length r ≡ 0 → r ≡ []
+no-rest [] z = refl
+no-rest (x ∷ r) z = absurd (omega arith)

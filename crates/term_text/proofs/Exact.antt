@@ -14,7 +14,7 @@ use Rattle.wire.specs.Wire.{Bytes, le16}
 use Rattle.terms.specs.declared.Walk.{Walk}
 use Rattle.fields.specs.Fields.{code-of, path-code}
 use Rattle.terms.specs.Terms.{advanced, blank, index-step, kept-path, leaf-step, leaf-tag, literal-tag, path-step, read, reduce-step, stopped, term-step}
-use Rattle.term_text.specs.Text.{path-bytes, path-number, place-bytes}
+use Rattle.term_text.specs.Text.{path-bytes, path-number, vertex-bytes}
 use Rattle.wire.proofs.Past.{getD-any}
 use Rattle.term_text.proofs.Paths.{code-range, code-zero, drop-at, nth, path-accepted, path-count, path-found, path-numbered, present}
 use Rattle.term_text.proofs.Shape.{After, Complete, LeafSound, Leaves, Room, Sound, term-complete, term-count, term-paths, term-sound}
@@ -22,18 +22,18 @@ use Rattle.term_text.proofs.Steps.{drop-on, read-by, step-is, table-adv
 use Rattle.term_text.proofs.Table.{Table, kept-few, kept-room}
 
 -- place terms: the leaves are path reductions
-abbrev pub place-leaves : Leaves PathReduction
-place-leaves = record { bytes = λ c. 0x10 ∷ path-bytes c; size = unit; deep = unit; paths = λ c. c ∷ []; count = λ c. 0; fine = PathFits 256 }
+abbrev pub vertex-leaves : Leaves PathReduction
+vertex-leaves = record { bytes = λ c. 0x10 ∷ path-bytes c; size = unit; deep = unit; paths = λ c. c ∷ []; count = λ c. 0; fine = PathFits 256 }
 
-pub place-paths : (t : VertexTerm) → term-paths place-leaves t ≡ leaves t
-place-paths (leaf c) = refl
-place-paths (literal k) = refl
-place-paths (apply o t u) = ap₂ _++_ (place-paths t) (place-paths u)
+pub vertex-paths : (t : VertexTerm) → term-paths vertex-leaves t ≡ leaves t
+vertex-paths (leaf c) = refl
+vertex-paths (literal k) = refl
+vertex-paths (apply o t u) = ap₂ _++_ (vertex-paths t) (vertex-paths u)
 
-pub place-count : (t : VertexTerm) → term-count place-leaves t ≡ 0
-place-count (leaf c) = refl
-place-count (literal k) = refl
-place-count (apply o t u) = omega (arith, place-count t, place-count u)
+pub vertex-count : (t : VertexTerm) → term-count vertex-leaves t ≡ 0
+vertex-count (leaf c) = refl
+vertex-count (literal k) = refl
+vertex-count (apply o t u) = omega (arith, vertex-count t, vertex-count u)
 
 -- nothing is asked of the state
 abbrev Always : Walk → Type 0
@@ -51,7 +51,7 @@ module _ (s : List ℕ) where
       go true p e = read-by s 0 d w z (path-step s w) e ∙ rw p refl
       go false p e = read-by s 0 d w z (path-step s w) e ∙ rw p refl
 
-  path-complete : (c : PathReduction) → Complete place-leaves s 0 Always (leaf c)
+  path-complete : (c : PathReduction) → Complete vertex-leaves s 0 Always (leaf c)
   unfolding path-step advanced leaf-tag literal-tag
   path-complete c zero w cs rest z t r e room = absurd (omega (arith, room .shallow))
   path-complete c (suc d) w cs rest z t r e room =
@@ -65,7 +65,7 @@ module _ (s : List ℕ) where
       let walk : read 0 (suc d) s w ≡ kept-path w1 (path-number c) = path-walk d w z i (omega (arith, room .terms)) tag ∙ rw (ok, n, number) refl in
       let p = kept-room w1 cs (table-advanced w cs (w .at + 1 + 3 + length (c .keys)) t) c (room .fine) (room .paths) in
       let len = length-append (c .keys) (le16 (c .source)) in
-      subst (λ (v : Walk). After place-leaves 0 w v cs (leaf c)) (sym walk)
+      subst (λ (v : Walk). After vertex-leaves 0 w v cs (leaf c)) (sym walk)
       (record {
         code = p .code ∙ z;
         at = omega (arith, p .at, len);
@@ -74,12 +74,12 @@ module _ (s : List ℕ) where
         table = p .table;
       })
 
-  path-sound : Bytes s → LeafSound place-leaves s 0 Always
+  path-sound : Bytes s → LeafSound vertex-leaves s 0 Always
   unfolding path-step advanced leaf-tag blank
   path-sound bytes d w cs z t r h k tag e = go (eqb (path-code s (w .at + 1)) 0) refl (path-walk d w z h k tag)
     where
       go : (b : Bool) → eqb (path-code s (w .at + 1)) 0 ≡ b → read 0 (suc d) s w ≡ path-step s w .walk
-          → (c : PathReduction) × (rest : List ℕ) × (drop (w .at) s ≡ (0x10 ∷ path-bytes c) ++ rest) × Room place-leaves (suc d) w cs (leaf c)
+          → (c : PathReduction) × (rest : List ℕ) × (drop (w .at) s ≡ (0x10 ∷ path-bytes c) ++ rest) × Room vertex-leaves (suc d) w cs (leaf c)
       go false p q =
           let walk : read 0 (suc d) s w ≡ blank (path-code s (w .at + 1)) = q ∙ rw p refl in
           absurd (eqb-false (path-code s (w .at + 1)) 0 p (sym (ap (λ (v : Walk). v .code) walk) ∙ e))
@@ -99,18 +99,18 @@ module _ (s : List ℕ) where
           )
 
   -- PLACE TERMS ARE READ EXACTLY
-  pub place-complete : (t : VertexTerm) → Complete place-leaves s 0 Always t
+  pub vertex-complete : (t : VertexTerm) → Complete vertex-leaves s 0 Always t
   unfolding literal-tag leaf-tag
-  place-complete = term-complete place-leaves s 0 Always (λ w n r. tt) (λ w w′ cs t r b a. tt) refl refl path-complete
+  vertex-complete = term-complete vertex-leaves s 0 Always (λ w n r. tt) (λ w w′ cs t r b a. tt) refl refl path-complete
 
-  pub place-sound : Bytes s → (d : ℕ) → Sound place-leaves s 0 Always d
+  pub vertex-sound : Bytes s → (d : ℕ) → Sound vertex-leaves s 0 Always d
   unfolding literal-tag leaf-tag
-  place-sound bytes = term-sound place-leaves s 0 Always (λ w n r. tt) (λ w w′ cs t r b a. tt) refl refl bytes path-complete (path-sound bytes)
+  vertex-sound bytes = term-sound vertex-leaves s 0 Always (λ w n r. tt) (λ w w′ cs t r b a. tt) refl refl bytes path-complete (path-sound bytes)
 
 -- result terms: the leaves are reductions of place terms
 abbrev pub result-leaves : Leaves (VertexReduction PathReduction)
 result-leaves = record {
-  bytes = λ e. 0x20 ∷ e .reduction ∷ place-bytes (e .body);
+  bytes = λ e. 0x20 ∷ e .reduction ∷ vertex-bytes (e .body);
   size = λ e. suc (terms unit (e .body));
   deep = λ e. suc (depth unit (e .body));
   paths = λ e. leaves (e .body);
@@ -156,18 +156,18 @@ module _ (s : List ℕ) where
   unfolding under
   reduce-complete e zero w cs rest z t r p room = absurd (omega (arith, room .shallow))
   reduce-complete e (suc d) w cs rest z t r p room =
-      let l : List ℕ = e .reduction ∷ (place-bytes (e .body) ++ rest) in
+      let l : List ℕ = e .reduction ∷ (vertex-bytes (e .body) ++ rest) in
       let i = there s (w .at) 0x20 l p in
       let tag = tag-there s (w .at) 0x20 l p in
       let b : getD s (w .at + 1) 256 ≡ e .reduction = rw (nth s (w .at) 1 (w .at + 1) 256 refl, p) refl in
       let f = room .fine in
       let fewer : w .reductions < 8 = omega (arith, room .reductions) in
       let walk = reduce-walk d w z i (omega (arith, room .terms)) tag (rw b (code-zero (e .reduction) 5 (f .0) (f .1) (omega arith))) fewer in
-      let next : drop (w .at + 1 + 1) s ≡ place-bytes (e .body) ++ rest =
-      ap (λ (i : ℕ). drop i s) (let q : w .at + 1 + 1 ≡ w .at + 2 = omega arith in q) ∙ drop-on s (w .at) 2 (0x20 ∷ e .reduction ∷ []) (place-bytes (e .body) ++ rest) p refl in
-      let paths = ap (put-all cs) (place-paths (e .body)) in
-      let count = place-count (e .body) in
-      let a = place-complete s (e .body) d (under w) cs rest z (table-under w cs t fewer) tt next
+      let next : drop (w .at + 1 + 1) s ≡ vertex-bytes (e .body) ++ rest =
+      ap (λ (i : ℕ). drop i s) (let q : w .at + 1 + 1 ≡ w .at + 2 = omega arith in q) ∙ drop-on s (w .at) 2 (0x20 ∷ e .reduction ∷ []) (vertex-bytes (e .body) ++ rest) p refl in
+      let paths = ap (put-all cs) (vertex-paths (e .body)) in
+      let count = vertex-count (e .body) in
+      let a = vertex-complete s (e .body) d (under w) cs rest z (table-under w cs t fewer) tt next
       (record {
         fine = f .2;
         shallow = omega (arith, room .shallow);
@@ -192,7 +192,7 @@ module _ (s : List ℕ) where
       stops n f p = f (sym (ap (λ (v : Walk). v .code) (read-by s 1 d w z (stopped n) p)) ∙ e)
 
       go : (x y : Bool) → eqb (code-of (getD s (w .at + 1) 256) 5) 0 ≡ x → leb 8 (w .reductions) ≡ y
-          → (a : VertexReduction PathReduction) × (rest : List ℕ) × (drop (w .at) s ≡ (0x20 ∷ a .reduction ∷ place-bytes (a .body)) ++ rest) × Room result-leaves (suc d) w cs (leaf a)
+          → (a : VertexReduction PathReduction) × (rest : List ℕ) × (drop (w .at) s ≡ (0x20 ∷ a .reduction ∷ vertex-bytes (a .body)) ++ rest) × Room result-leaves (suc d) w cs (leaf a)
       go false y p q =
           absurd (stops (code-of (getD s (w .at + 1) 256) 5) (eqb-false (code-of (getD s (w .at + 1) 256) 5) 0 p) (reduce-is d w h k tag ∙ rw p refl))
       go true true p q = absurd (stops 14 (λ n. omega arith) (reduce-is d w h k tag ∙ rw (p, q) refl))
@@ -201,10 +201,10 @@ module _ (s : List ℕ) where
           let range = code-range (getD s (w .at + 1) 256) 5 c in
           let fewer = leb-false 8 (w .reductions) q in
           let walk = reduce-walk d w z h k tag c fewer in
-          let f = place-sound s bytes d (under w) cs z (table-under w cs t fewer) tt (sym (ap (λ (v : Walk). v .code) walk) ∙ e) in
+          let f = vertex-sound s bytes d (under w) cs z (table-under w cs t fewer) tt (sym (ap (λ (v : Walk). v .code) walk) ∙ e) in
           let b = f .0 in
           let room = f .3 in
-          let paths = ap (put-all cs) (place-paths b) in (
+          let paths = ap (put-all cs) (vertex-paths b) in (
             record { reduction = getD s (w .at + 1) 256; body = b },
             f .1,
             drop-at s (w .at) h

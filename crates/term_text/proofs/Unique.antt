@@ -13,7 +13,7 @@ use Rattle.meaning.specs.Query.{PathReduction, ResultTerm, Term, VertexReductio
 use Rattle.wire.specs.Wire.{le16, le32}
 use Rattle.terms.specs.Terms.{leaf-tag, literal-tag}
 use Rattle.term_text.proofs.Paths.{source-small}
-use Rattle.term_text.specs.Text.{expression-bytes, path-bytes, place-bytes, result-bytes, term-bytes}
+use Rattle.term_text.specs.Text.{expression-bytes, path-bytes, result-bytes, term-bytes, vertex-bytes}
 
 -- lists of one length
 pub same-split : (a b x y : List ℕ) → length a ≡ length b → a ++ x ≡ b ++ y → (a ≡ b) × (x ≡ y)
@@ -86,21 +86,21 @@ module _ {A : Type 0} (m : ℕ) (L : A → List ℕ) (fine : A → Type 0) (tail
       (cc (b .0, c .0, d .0), d .1)
 
 -- place terms, result terms, expressions
-pub place-split : (t u : VertexTerm) (x y : List ℕ) → Every (PathFits 256) t → Every (PathFits 256) u → place-bytes t ++ x ≡ place-bytes u ++ y → (t ≡ u) × (x ≡ y)
+pub vertex-split : (t u : VertexTerm) (x y : List ℕ) → Every (PathFits 256) t → Every (PathFits 256) u → vertex-bytes t ++ x ≡ vertex-bytes u ++ y → (t ≡ u) × (x ≡ y)
 unfolding literal-tag leaf-tag
-place-split =
+vertex-split =
     term-split 0 (λ c. 0x10 ∷ path-bytes c) (PathFits 256) path-bytes (λ a. refl) (λ a b x y f g e. path-split a b x y f g (same-head 0x10 0x10 _ _ e .1)) refl refl
 
 pub result-split : (t u : ResultTerm) (x y : List ℕ) → Every (EveryBody (PathFits 256)) t → Every (EveryBody (PathFits 256)) u → result-bytes t ++ x ≡ result-bytes u ++ y → (t ≡ u) × (x ≡ y)
 unfolding literal-tag leaf-tag
-result-split = term-split 1 (λ e. 0x20 ∷ e .reduction ∷ place-bytes (e .body)) (EveryBody (PathFits 256)) (λ e. e .reduction ∷ place-bytes (e .body)) (λ a. refl) reduction-split refl refl
+result-split = term-split 1 (λ e. 0x20 ∷ e .reduction ∷ vertex-bytes (e .body)) (EveryBody (PathFits 256)) (λ e. e .reduction ∷ vertex-bytes (e .body)) (λ a. refl) reduction-split refl refl
   where
     reduction-split : (a b : VertexReduction PathReduction) (x y : List ℕ) → EveryBody (PathFits 256) a → EveryBody (PathFits 256) b
-        → (0x20 ∷ a .reduction ∷ place-bytes (a .body)) ++ x ≡ (0x20 ∷ b .reduction ∷ place-bytes (b .body)) ++ y → (a ≡ b) × (x ≡ y)
+        → (0x20 ∷ a .reduction ∷ vertex-bytes (a .body)) ++ x ≡ (0x20 ∷ b .reduction ∷ vertex-bytes (b .body)) ++ y → (a ≡ b) × (x ≡ y)
     reduction-split a b x y f g e =
         let p = same-head 0x20 0x20 _ _ e in
         let q = same-head (a .reduction) (b .reduction) _ _ (p .1) in
-        let r = place-split (a .body) (b .body) x y (f .2) (g .2) (q .1) in
+        let r = vertex-split (a .body) (b .body) x y (f .2) (g .2) (q .1) in
         (λ i. record { reduction = q .0 i; body = r .0 i }, r .1)
 
 pub expression-split : (m count : ℕ) → eqb (literal-tag m) (leaf-tag m) ≡ false → eqb (literal-tag m + 1) (leaf-tag m) ≡ false → (t u : Term ℕ) (x y : List ℕ)

@@ -17,12 +17,12 @@ term-bytes mode L (literal k) = literal-tag mode ∷ le32 k
 term-bytes mode L (apply o s t) = (literal-tag mode + 1) ∷ o ∷ (term-bytes mode L s ++ term-bytes mode L t)
 
 -- "Place terms: 0x10, key count .. ; 0x11 and a 32-bit literal; 0x12, operator, two place terms."
-abbrev pub place-bytes : VertexTerm → List ℕ
-place-bytes = term-bytes 0 (λ c. 0x10 ∷ path-bytes c)
+abbrev pub vertex-bytes : VertexTerm → List ℕ
+vertex-bytes = term-bytes 0 (λ c. 0x10 ∷ path-bytes c)
 
 -- "Result terms: 0x20, reduction, a place term; 0x21 and a 32-bit literal; 0x22, operator, two result terms."
 abbrev pub result-bytes : ResultTerm → List ℕ
-result-bytes = term-bytes 1 (λ e. 0x20 ∷ e .reduction ∷ place-bytes (e .body))
+result-bytes = term-bytes 1 (λ e. 0x20 ∷ e .reduction ∷ vertex-bytes (e .body))
 
 -- "Worksheet expressions use 0x30 and a chain's index for a chain, 0x31 and an entry's index for a reduction; operators and literals keep their bytes."
 abbrev pub expression-bytes : ℕ → Term ℕ → List ℕ

@@ -22,7 +22,8 @@ pub struct Step {
     pub follow: u8,
 }
 
-pub const PLACE: u8 = 0;
+// The four kinds of terms: place terms and result terms of a question, entries and final expressions of a worksheet.
+pub const VERTEX: u8 = 0;
 
 pub const RESULT: u8 = 1;
 
@@ -47,6 +48,7 @@ fn slot(table: [u64; 8], paths: usize, word: u64) -> usize
     i
 }
 
+// The state after a refusal: its number, and nothing read.
 pub fn blank_of(code: u8) -> Walk
     ensures { λ r. ⌜ r ≡ blank code ⌝ }
 {
@@ -82,6 +84,7 @@ fn advance(w: Walk, next: usize) -> Walk
     r
 }
 
+// The greater of two.
 fn greater(a: usize, b: usize) -> usize
     ensures { λ r. ⌜ r ≡ max a b ⌝ }
 {
@@ -103,6 +106,7 @@ fn keep_path(w: Walk, word: u64) -> Walk
     r
 }
 
+// "0x10, key count 1 to 3, the keys, a 16-bit start"; "In a chain, 14 comes after 13."
 fn path_step_of(s: &[u8], w: Walk) -> Step
     requires { ⌜ (w .at < length (now s)) × (w .terms < 64) ⌝ }
     ensures { λ r. ⌜ r ≡ path-step (now (s .entry)) w ⌝ }
@@ -120,6 +124,7 @@ fn path_step_of(s: &[u8], w: Walk) -> Step
     }
 }
 
+// "0x20, reduction, a place term"; "A reduction's 14 follows its byte."
 fn reduce_step_of(s: &[u8], w: Walk) -> Step
     requires { ⌜ (w .at < length (now s)) × (w .terms < 64) ⌝ }
     ensures { λ r. ⌜ r ≡ reduce-step (now (s .entry)) w ⌝ }
@@ -141,6 +146,7 @@ fn reduce_step_of(s: &[u8], w: Walk) -> Step
     }
 }
 
+// "0x30 and a chain's index for a chain, 0x31 and an entry's index for a reduction": 16 where it is not below `count`.
 fn index_step_of(s: &[u8], w: Walk, count: usize) -> Step
     requires { ⌜ (w .at < length (now s)) × (w .terms < 64) ⌝ }
     ensures { λ r. ⌜ r ≡ index-step (now (s .entry)) w count ⌝ }
@@ -159,6 +165,7 @@ fn index_step_of(s: &[u8], w: Walk, count: usize) -> Step
     }
 }
 
+// "0x11 and a 32-bit literal", "0x21 and a 32-bit literal".
 fn literal_step_of(s: &[u8], w: Walk) -> Step
     requires { ⌜ (w .at < length (now s)) × (w .terms < 64) ⌝ }
     ensures { λ r. ⌜ r ≡ literal-step (now (s .entry)) w ⌝ }
@@ -173,6 +180,7 @@ fn literal_step_of(s: &[u8], w: Walk) -> Step
     }
 }
 
+// "0x12, operator, two place terms", "0x22, operator, two result terms".
 fn apply_step_of(s: &[u8], w: Walk) -> Step
     requires { ⌜ (w .at < length (now s)) × (w .terms < 64) ⌝ }
     ensures { λ r. ⌜ r ≡ apply-step (now (s .entry)) w ⌝ }
@@ -188,11 +196,12 @@ fn apply_step_of(s: &[u8], w: Walk) -> Step
     }
 }
 
+// A leaf of a term of the given kind.
 fn leaf_step_of(s: &[u8], w: Walk, mode: u8) -> Step
     requires { ⌜ (w .at < length (now s)) × (w .terms < 64) ⌝ }
     ensures { λ r. ⌜ r ≡ leaf-step mode (now (s .entry)) w ⌝ }
 {
-    if mode == PLACE {
+    if mode == VERTEX {
         return path_step_of(s, w);
     }
     if mode == RESULT {
@@ -204,10 +213,11 @@ fn leaf_step_of(s: &[u8], w: Walk, mode: u8) -> Step
     index_step_of(s, w, w.reductions)
 }
 
+// The byte that such a leaf starts with.
 fn leaf_tag_of(mode: u8) -> u8
     ensures { λ r. ⌜ r ≡ leaf-tag mode ⌝ }
 {
-    if mode == PLACE {
+    if mode == VERTEX {
         return 0x10;
     }
     if mode == RESULT {
@@ -223,7 +233,7 @@ fn leaf_tag_of(mode: u8) -> u8
 fn literal_tag_of(mode: u8) -> u8
     ensures { λ r. ⌜ (r ≡ literal-tag mode) × (r ≤ 33) ⌝ }
 {
-    if mode == PLACE {
+    if mode == VERTEX {
         return 0x11;
     }
     if mode == ENTRY {
@@ -277,7 +287,7 @@ pub fn read_term(s: &[u8], w: Walk, mode: u8, left: usize) -> Walk
         return walk;
     }
     if follow == 1 {
-        return read_term(s, walk, PLACE, left - 1);
+        return read_term(s, walk, VERTEX, left - 1);
     }
     let first = read_term(s, walk, mode, left - 1);
     read_term(s, first, mode, left - 1)

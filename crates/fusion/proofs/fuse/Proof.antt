@@ -26,8 +26,8 @@ returns c =
     let r = c .before .read in
     let a = c .before .before .before .before .args in
     let room = length (a .out .now) in
-    let n : query-reading (a .question .now) .code ≡ 0 → ⊥ = subst (λ (x : Reading). x .code ≡ 0 → ⊥) (r .ensures) (c .if1 .taken) in
-    let e : fuse-reply (a .question .now) room ≡ refused (r .result .code) = reply-refused (a .question .now) room n ∙ ap (λ (x : Reading). refused (x .code)) (sym (r .ensures)) in
+    let n : query-reading (a .query .now) .code ≡ 0 → ⊥ = subst (λ (x : Reading). x .code ≡ 0 → ⊥) (r .ensures) (c .if1 .taken) in
+    let e : fuse-reply (a .query .now) room ≡ refused (r .result .code) = reply-refused (a .query .now) room n ∙ ap (λ (x : Reading). refused (x .code)) (sym (r .ensures)) in
     rw e (refl, refl)
 
 fused-form-of-requires : tie.Need-fused-form-of-requires
@@ -45,9 +45,9 @@ returns-2 c =
     let r = f .before .before .read in
     let a = f .before .before .before .before .before .args in
     let room = length (a .out .now) in
-    let z : query-reading (a .question .now) .code ≡ 0 = subst (λ (x : Reading). x .code ≡ 0) (r .ensures) (f .before .if1 .left) in
-    let e : fuse-reply (a .question .now) room ≡ write-reply (f .fused-form-of .result) room =
-    reply-written (a .question .now) room z ∙ ap (λ (x : Form). write-reply x room) (sym (f .fused-form-of .ensures ∙ ap fused-form (r .ensures))) in
+    let z : query-reading (a .query .now) .code ≡ 0 = subst (λ (x : Reading). x .code ≡ 0) (r .ensures) (f .before .if1 .left) in
+    let e : fuse-reply (a .query .now) room ≡ write-reply (f .fused-form-of .result) room =
+    reply-written (a .query .now) room z ∙ ap (λ (x : Form). write-reply x room) (sym (f .fused-form-of .ensures ∙ ap fused-form (r .ensures))) in
     rw e (c .before .before .write .ensures)
 
 pub fuse-spec : {M : Type 1} → statement M

@@ -8,10 +8,10 @@ use Rattle.nodes.proofs.read_nodes.Statement.{statement}
 use Rattle.nodes.proofs.read_nodes.Tie as tie
 
 abbrev Inv-loop : tie.InvT-loop
-Inv-loop s at count nodes₀ n place₀ i₀ nodes place i = Held s at n nodes place i
+Inv-loop s at count nodes₀ n next₀ i₀ nodes next i = Held s at n nodes next i
 
 abbrev μ-loop : tie.MeasureT-loop
-μ-loop s at count nodes₀ n place₀ i₀ nodes place i = n - i
+μ-loop s at count nodes₀ n next₀ i₀ nodes next i = n - i
 
 lesser-requires : tie.Need-lesser-requires Inv-loop μ-loop
 lesser-requires c κs = search needs
@@ -41,13 +41,13 @@ loop-again : tie.Need-loop-again Inv-loop μ-loop
 loop-again c =
     let l = c .before .before .before .loop in
     let few = c .before .before .before .before .lesser .ensures .1 in
-    rw (c .before .term-of .ensures, c .next-of .ensures) (held-more _ _ _ few (l .nodes) (l .place) (l .i) (c .before .before .loop-test .taken) (l .inv))
+    rw (c .before .term-of .ensures, c .next-of .ensures) (held-more _ _ _ few (l .nodes) (l .next) (l .i) (c .before .before .loop-test .taken) (l .inv))
 
 returns : tie.Need-returns Inv-loop μ-loop
 unfolding nodes-read
 returns c =
     let l = c .before .loop in
-    rw (← c .before .before .lesser .ensures .0) (held-all _ _ _ (l .nodes) (l .place) (l .i) (c .loop-test .left) (l .inv))
+    rw (← c .before .before .lesser .ensures .0) (held-all _ _ _ (l .nodes) (l .next) (l .i) (c .loop-test .left) (l .inv))
 
 pub read-nodes-spec : {M : Type 1} → statement M
 read-nodes-spec =

@@ -4,7 +4,7 @@ use Rattle.answer.proofs.row_count.Statement.{statement}
 use Rattle.answer.proofs.row_count.Tie as tie
 
 returns : tie.Need-returns
-returns c = rw (eq-eqb _ _ (c .if1 .taken))
+returns c = rw (eq-eqb _ 0 (c .if1 .taken))
 
 returns-2 : tie.Need-returns-2
 returns-2 c = rw (ne-eqb _ _ (c .if1 .left))

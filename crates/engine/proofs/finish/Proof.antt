@@ -1,9 +1,9 @@
 -- `engine::finish` meets its contract. Assumes nothing.
-use mathlib.Core.Path.{refl}
+use mathlib.Core.Path.{_≡_, refl}
 use native.Mathlib.Omega.{arith}
 use lib.ListN.{length}
 use Rattle.graph.proofs.Accepted.{accepted}
-use Rattle.engine.specs.Steps.{finished}
+use Rattle.engine.specs.Steps.{count-of, finished}
 use Rattle.engine.proofs.Meant.{finished-refused}
 use borrow.Author.Needs.{needs}
 use Rattle.engine.proofs.finish.Statement.{statement}
@@ -64,7 +64,9 @@ same-length c = search needs
 returns-2 : tie.Need-returns-2
 unfolding finished
 returns-2 c =
-    rw (← c .before .before .before .before .before .before .before .before .before .before .before .before .before .before .before .before .vertices .ensures, ← c .before .before .before .before .before .before .before .before .before .before .before .before .lesser .ensures .0, ← c .before .before .before .before .before .before .before .before .before .before .most .ensures, ← c .before .before .before .before .before .before .before .before .run .ensures .0, ← c .before .before .before .before .before .before .before .before .run .ensures .1, ← c .before .before .before .before .before .before .before .before .before .before .before .before .before .before .before .byte .ensures, ← c .before .before .before .before .reported .ensures, ← c .before .before .before .before .before .body-rows .ensures)
+    let a = c .before .before .before .before .before .before .before .before .before .before .before .before .before .before .before .before .before .before .before .before .args in
+    let told : c .before .before .before .before .reported .result ≡ count-of (a .given) (a .limit) (c .before .before .before .before .before .before .before .before .run .result) = c .before .before .before .before .reported .ensures in
+    rw (← c .before .before .before .before .before .before .before .before .before .before .before .before .before .before .before .before .vertices .ensures, ← c .before .before .before .before .before .before .before .before .before .before .before .before .lesser .ensures .0, ← c .before .before .before .before .before .before .before .before .before .before .most .ensures, ← c .before .before .before .before .before .before .before .before .run .ensures .0, ← c .before .before .before .before .before .before .before .before .run .ensures .1, ← c .before .before .before .before .before .before .before .before .before .before .before .before .before .before .before .byte .ensures, ← told, ← c .before .before .before .before .before .body-rows .ensures)
     (c .before .before .write .ensures)
 
 pub finish-spec : {M : Type 1} → statement M

@@ -8,7 +8,7 @@ byte-requires : tie.Need-byte-requires
 byte-requires c κs = search needs
 
 returns : tie.Need-returns
-returns c = rw (← c .before .byte .ensures, eq-eqb _ _ (c .if1 .taken))
+returns c = rw (← c .before .byte .ensures, eq-eqb _ 0 (c .if1 .taken))
 
 number-requires : tie.Need-number-requires
 number-requires c κs = search needs

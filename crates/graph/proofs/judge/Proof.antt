@@ -1,8 +1,10 @@
 -- `graph::judge` meets its contract. Assumes nothing.
-use mathlib.Core.Path.{sym, _∙_}
+use Prim.Native.Nat.{_+_, _*_}
+use mathlib.Core.Path.{_≡_, sym, _∙_}
 use native.Mathlib.Omega.{arith}
 use borrow.Author.Tests.{eq-eqb, ne-eqb}
 use borrow.Author.Needs.{needs}
+use Rattle.wire.specs.Header.{header-code}
 use Rattle.wire.proofs.Header.{header-long}
 use Rattle.graph.specs.Graph.{graph-code}
 use Rattle.graph.proofs.judge.Statement.{statement}
@@ -13,7 +15,9 @@ judge-header-requires c κs = search needs
 
 returns : tie.Need-returns
 unfolding graph-code
-returns c = rw (← c .before .judge-header .ensures, ne-eqb _ _ (c .if1 .taken))
+returns c =
+    let h : _ ≡ header-code 0x4d 9 (c .before .before .before .args .s .now) = c .before .judge-header .ensures in
+    rw (← h, ne-eqb _ _ (c .if1 .taken))
 
 read16-requires : tie.Need-read16-requires
 read16-requires c κs = omega (arith, header-long 0x4d 9 _ (sym (c .before .judge-header .ensures) ∙ c .if1 .left))
@@ -39,7 +43,7 @@ add-if3 c = search needs
 
 returns-3 : tie.Need-returns-3
 unfolding graph-code
-returns-3 c = rw (← c .before .before .before .before .before .before .judge-header .ensures, eq-eqb _ _ (c .before .before .before .before .before .if1 .left), ← c .before .before .before .before .read16 .ensures, ← c .before .before .before .read162 .ensures, ← c .before .before .counts-code .ensures, eq-eqb _ _ (c .before .if2 .left), ne-eqb _ _ (c .if3 .taken))
+returns-3 c = rw (← c .before .before .before .before .before .before .judge-header .ensures, eq-eqb _ _ (c .before .before .before .before .before .if1 .left), ← c .before .before .before .before .read16 .ensures, ← c .before .before .before .read162 .ensures, ← c .before .before .counts-code .ensures, eq-eqb _ _ (c .before .if2 .left), ne-eqb _ (9 + 8 * c .before .before .before .read162 .result) (c .if3 .taken))
 
 bytes-code-requires : tie.Need-bytes-code-requires
 bytes-code-requires c κs = search needs

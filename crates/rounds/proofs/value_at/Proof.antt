@@ -11,7 +11,7 @@ returns c = rw (le-leb _ _ (c .if1 .taken))
 
 returns-2 : tie.Need-returns-2
 unfolding value-in
-returns-2 c = rw (lt-leb _ _ (c .before .if1 .left), le-leb _ _ (c .if2 .taken))
+returns-2 c = rw (lt-leb _ _ (c .before .if1 .left), le-leb 256 _ (c .if2 .taken))
 
 mul-at : tie.Need-mul-at
 mul-at c = search needs

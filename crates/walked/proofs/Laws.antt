@@ -155,17 +155,17 @@ after-first : (bs : List ℕ) (i x : ℕ) (o : Option (List ℕ)) → after bs i
 after-first bs i x none = refl
 after-first bs i x (some xs) = refl
 
-figures-first : (key : ℕ) (keys : List ℕ) (ws : List Walk) (x : ℕ) → best key ws ≡ Number x
+pub figures-first : (key : ℕ) (keys : List ℕ) (ws : List Walk) (x : ℕ) → best key ws ≡ Number x
     → figures (key ∷ keys) ws ≡ put-first x (figures keys (sift (λ w. eqb (figure-of key w) x) ws))
 unfolding figures
 figures-first key keys ws x e = rw (figures, e)
 
-figures-none : (key : ℕ) (keys : List ℕ) (ws : List Walk) → best key ws ≡ Absent → figures (key ∷ keys) ws ≡ none
+pub figures-none : (key : ℕ) (keys : List ℕ) (ws : List Walk) → best key ws ≡ Absent → figures (key ∷ keys) ws ≡ none
 unfolding figures
 figures-none key keys ws e = rw (figures, e)
 
 -- one figure for each key
-figures-length : (keys : List ℕ) (ws : List Walk) (xs : List ℕ) → figures keys ws ≡ some xs → length xs ≡ length keys
+pub figures-length : (keys : List ℕ) (ws : List Walk) (xs : List ℕ) → figures keys ws ≡ some xs → length xs ≡ length keys
 unfolding figures
 figures-length [] ws xs e = cc
 figures-length (key ∷ keys) ws xs e = go (best key ws) refl (λ x ys. figures-length keys (sift (λ w. eqb (figure-of key w) x) ws) ys)
@@ -266,14 +266,15 @@ module _ (rows : List ℕ) (path : PathReduction) (before : ℕ) where
           let s : v ≡ n = omega arith in
           rw (sym (ap same-at s) ∙ e) (and-false (unchanged rows n path before))
 
-  -- no walk has more than 64 edges
-  pub few-at : (v : ℕ) → figures-at rows path v (min before 64) ≡ figures-at rows path v before
+  -- the program asks for walks of at most 64 and 65 edges where more are asked for: no walk has more than 64
+  pub same-few : (few v : ℕ) (a b : Figures) → few ≡ min before 64 → a ≡ figures-at rows path v few → b ≡ figures-at rows path v (few + 1) → same a b ≡ same-at v
   unfolding figures-at
-  few-at v = let e : min (min before 64) 64 ≡ min before 64 = omega arith in rw e
-
-  pub few-more-at : (v : ℕ) → figures-at rows path v (min before 64 + 1) ≡ figures-at rows path v (before + 1)
-  unfolding figures-at
-  few-more-at v = let e : min (min before 64 + 1) 64 ≡ min (before + 1) 64 = omega arith in rw e
+  same-few few v a b e p q =
+      let f : min few 64 ≡ min before 64 = omega arith in
+      let g : min (few + 1) 64 ≡ min (before + 1) 64 = omega arith in
+      let x : a ≡ figures-at rows path v before = p ∙ rw f in
+      let y : b ≡ figures-at rows path v (before + 1) = q ∙ rw g in
+      ap (λ (t : Figures). same t b) x ∙ ap (same (figures-at rows path v before)) y
 
 -- a path reduction that a function is handed has room for three keys
 pub keys-fit : (path : PathReduction) (vs : List Val) → Is path-reduction.the-row path vs → length (path .keys) ≡ 3

@@ -1,11 +1,11 @@
 -- `walked::unchanged` meets its contract: no figure differs at the vertices passed. Assumes nothing.
 use Prim.Native.Nat.{ℕ, _+_, _-_, _≤_}
-use mathlib.Core.Path.{_≡_, sym, ap, _∙_}
+use mathlib.Core.Path.{_≡_, sym, _∙_}
 use mathlib.Core.Bool.{true}
 use native.Mathlib.Omega.{arith}
 use borrow.Author.Needs.{needs}
-use Rattle.walked.specs.Walked.{figures-at, same, unchanged}
-use Rattle.walked.proofs.Laws.{few-at, few-more-at, same-at, unchanged-next, unchanged-none, unchanged-not}
+use Rattle.walked.specs.Walked.{unchanged}
+use Rattle.walked.proofs.Laws.{same-few, unchanged-next, unchanged-none, unchanged-not}
 use Rattle.walked.proofs.unchanged.Statement.{statement}
 use Rattle.walked.proofs.unchanged.Tie as tie
 
@@ -43,21 +43,15 @@ loop-again : tie.Need-loop-again Inv-loop μ-loop
 loop-again c =
     let a = c .before .before .before .before .before .before .before .before .args in
     let v = c .before .before .before .before .before .loop .v in
-    let f = c .before .before .before .before .before .before .least .ensures in
-    let e : c .before .same .result ≡ same-at (a .rows .now) (a .path) (a .before) v =
-    c .before .same .ensures
-    ∙ rw (c .before .before .before .figures-at .ensures, c .before .before .figures-at2 .ensures, f, few-at (a .rows .now) (a .path) (a .before) v, few-more-at (a .rows .now) (a .path) (a .before) v) in
-    (search needs, unchanged-next _ _ _ v (c .before .before .before .before .before .loop .inv .1) (sym e ∙ c .if1 .taken))
+    let e = same-few (a .rows .now) (a .path) (a .before) (c .before .before .before .before .before .before .least .result) v _ _ (c .before .before .before .before .before .before .least .ensures) (c .before .before .before .figures-at .ensures) (c .before .before .figures-at2 .ensures) in
+    (search needs, unchanged-next _ _ _ v (c .before .before .before .before .before .loop .inv .1) (sym (c .before .same .ensures ∙ e) ∙ c .if1 .taken))
 
 returns : tie.Need-returns Inv-loop μ-loop
 returns c =
     let a = c .before .before .before .before .before .before .before .before .args in
     let v = c .before .before .before .before .before .loop .v in
-    let f = c .before .before .before .before .before .before .least .ensures in
-    let e : c .before .same .result ≡ same-at (a .rows .now) (a .path) (a .before) v =
-    c .before .same .ensures
-    ∙ rw (c .before .before .before .figures-at .ensures, c .before .before .figures-at2 .ensures, f, few-at (a .rows .now) (a .path) (a .before) v, few-more-at (a .rows .now) (a .path) (a .before) v) in
-    sym (unchanged-not (a .rows .now) (a .path) (a .before) v (a .n) (omega arith) (sym e ∙ c .if1 .left))
+    let e = same-few (a .rows .now) (a .path) (a .before) (c .before .before .before .before .before .before .least .result) v _ _ (c .before .before .before .before .before .before .least .ensures) (c .before .before .before .figures-at .ensures) (c .before .before .figures-at2 .ensures) in
+    sym (unchanged-not (a .rows .now) (a .path) (a .before) v (a .n) (omega arith) (sym (c .before .same .ensures ∙ e) ∙ c .if1 .left))
 
 returns-2 : tie.Need-returns-2 Inv-loop μ-loop
 returns-2 c =

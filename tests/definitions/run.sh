@@ -3,7 +3,8 @@
 #
 #   tests/definitions/run.sh [CRATE | CRATE/LABEL]..      all, or those of some crates, or some
 #
-# CRATE.edits has a paragraph for each: a comment (the definition, and why the variant is wrong), 'edit: LABEL', and a must-fail edit's lines. Each is applied to a
+# CRATE.edits has a paragraph for each: a comment (the definition, and why the variant is wrong), 'edit: LABEL', and a must-fail edit's lines; these may also mend the
+# text of a proof whose law stays true, so that the check comes to one that does not. Each is applied to a
 # copy of the repository. The crate itself is checked ('rt dev', whose incremental folder is kept), and while all is proved the crates that stand on it ('rt check'),
 # up the layers, to the first that refuses. Crates that the edit does not reach are not proved again: their libraries are taken from target/ ('rt check' first).
 # RT is the command in place of 'rt'. Copies and logs stand in target/definitions/CRATE.
@@ -89,8 +90,8 @@ prepare() { # CRATE
 try() { # CRATE LABEL
     crate=$1 label=$2
     log=$root/target/definitions/$crate/$label.log
-    rm -rf "$work/crates/$crate"
-    cp -R "$root/crates/$crate" "$work/crates/$crate"
+    rm -rf "$work/crates"
+    cp -R "$root/crates" "$work/crates"
     wrong=$(paragraph "$here/$crate.edits" "$label" | apply "$work/crates/$crate")
     [ -z "$wrong" ] || { echo "$crate/$label: BAD EDIT: $wrong"; return; }
     for d in $to_try; do

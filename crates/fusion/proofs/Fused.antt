@@ -1,17 +1,15 @@
 -- THE PARTS OF A LEGAL QUERY'S NODES ARE THE NODES OF ITS FUSED PLAN. Assumes nothing.
 use Prim.Native.Nat.{ℕ, zero, suc, _+_}
-use mathlib.Core.Path.{_≡_, refl, sym, ap, ap₂, _∙_, subst}
+use mathlib.Core.Path.{_≡_, refl, sym, ap, ap₂, _∙_}
 use mathlib.Core.Bool.{Bool, true, false, cond, _||_}
 use mathlib.Core.List.{List, [], _∷_, _++_, map, append-assoc, append-nil}
 use native.Mathlib.Omega.{arith}
-use borrow.Author.Tests.{eq-eqb, ne-eqb}
-use lib.Dec.{T, eqb}
+use lib.Dec.{T}
 use lib.ListN.{length, length-append}
 use Rattle.meaning.specs.Limits.{Every, EveryBody, PathFits}
 use Rattle.meaning.specs.Plan.{among, entry, enumerate, position, rename, same-path}
 use Rattle.meaning.specs.Query.{PathReduction, ResultTerm, VertexReduction, VertexTerm, apply, bodies, leaf, leaves, literal}
 use Rattle.meaning.proofs.Lists.{all-left, all-right, map-append}
-use Rattle.meaning.proofs.Paths.{path-refl, path-same}
 use Rattle.nodes.specs.declared.Node.{Node}
 use Rattle.nodes.specs.declared.Term.the-variants.{Apply, Entry, EntryIndex, PathIndex, Reduce, ResultApply}
 use Rattle.nodes.specs.Nodes.{node}
@@ -19,9 +17,8 @@ use Rattle.nodes.specs.Tree.{apply-node, entry-nodes, final-nodes, literal-node
 use Rattle.plan_form.specs.Form.{entries-nodes}
 use Rattle.terms.specs.Terms.{literal-tag}
 use Rattle.term_text.specs.Text.{path-number}
-use Rattle.term_text.proofs.Paths.{number-same}
+use Rattle.term_text.proofs.Table.{same-number}
 use Rattle.walks.specs.Lists.{All}
-use Rattle.walks.proofs.Tests.{T-of}
 use Rattle.fusion.specs.Fusion.{entry-term, final-term, fused-term, index-of, reduces, size}
 use Rattle.fusion.proofs.Selected.{reduced, reduced-append, selected, selected-append}
 
@@ -30,15 +27,12 @@ pub index-position : (c : PathReduction) → PathFits 256 c → (cs : List PathR
     → index-of (path-number c) (map path-number cs ++ rest) ≡ position c cs
 unfolding index-of
 index-position c f [] g rest t = absurd t
-index-position c f (d ∷ ds) g rest t = go (same-path c d) refl (index-position c f ds (g .1) rest)
+index-position c f (d ∷ ds) g rest t = rw (same-number c d f (g .0)) (go (same-path c d) t (index-position c f ds (g .1) rest))
   where
-    go : (b : Bool) → same-path c d ≡ b → (T (among c ds) → index-of (path-number c) (map path-number ds ++ rest) ≡ position c ds)
-        → cond (eqb (path-number d) (path-number c)) zero (suc (index-of (path-number c) (map path-number ds ++ rest))) ≡ cond b zero (suc (position c ds))
-    go true e h = rw (eq-eqb (path-number d) (path-number c) (ap path-number (sym (path-same c d (T-of e))))) refl
-    go false e h =
-        let apart : path-number d ≡ path-number c → ⊥ = λ p. subst T e (subst (λ (x : PathReduction). T (same-path c x)) (number-same c d f (g .0) (sym p)) (path-refl c)) in
-        rw (ne-eqb (path-number d) (path-number c) apart)
-        (ap suc (h (subst (λ (x : Bool). T (x || among c ds)) e t)))
+    go : (b : Bool) → T (b || among c ds) → (T (among c ds) → index-of (path-number c) (map path-number ds ++ rest) ≡ position c ds)
+        → cond b zero (suc (index-of (path-number c) (map path-number ds ++ rest))) ≡ cond b zero (suc (position c ds))
+    go true t h = refl
+    go false t h = ap suc (h t)
 
 -- place terms: no reduction, and nothing of them in the final expression
 pub vertex-reduced : (t : VertexTerm) → reduced (vertex-nodes t) ≡ 0

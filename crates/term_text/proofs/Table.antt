@@ -32,7 +32,7 @@ pub record Table (w : Walk) (cs : List PathReduction) : Type 0 where
   pub few-reductions : w .reductions ≤ 8
 
 -- equal numbers are equal path reductions
-same-number : (c d : PathReduction) → PathFits 256 c → PathFits 256 d → eqb (path-number d) (path-number c) ≡ same-path c d
+pub same-number : (c d : PathReduction) → PathFits 256 c → PathFits 256 d → eqb (path-number d) (path-number c) ≡ same-path c d
 same-number c d f g = go (same-path c d) refl
   where
     go : (b : Bool) → same-path c d ≡ b → eqb (path-number d) (path-number c) ≡ b

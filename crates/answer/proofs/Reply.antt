@@ -5,7 +5,7 @@ use mathlib.Core.Bool.{Bool, true, false, cond}
 use mathlib.Core.List.{List, _++_}
 use native.Mathlib.Omega.{arith}
 use native.Mathlib.Nat.{zero-add}
-use borrow.Author.Tests.{ltb-false, eqb-true, eqb-false, le-ltb, eq-eqb, ne-eqb}
+use borrow.Author.Tests.{ltb-false, eqb-true, eqb-false, eq-eqb, ne-eqb}
 use lib.Dec.{ltb, eqb}
 use lib.ListN.{length, take, drop}
 use lib.Seq.{sets, sets-eq}
@@ -31,12 +31,6 @@ fields n kind e =
     let c = past (ltb 1 kind) 8 _ (b .1) in
     let some : n ≡ 0 → ⊥ = eqb-false _ _ (a .0) in
     record { some-vertex = omega arith; few-vertices = ltb-false _ _ (b .0); known-kind = ltb-false _ _ (c .0) }
-
-pub fields-right : (n kind : ℕ) → Fields n kind → fields-code n kind ≡ 0
-unfolding fields-code
-fields-right n kind f =
-    let some : n ≡ 0 → ⊥ = λ z. omega (arith, f .some-vertex, z) in
-    rw (ne-eqb n 0 some, le-ltb 256 n (f .few-vertices), le-ltb 1 kind (f .known-kind))
 
 -- so few bytes that a reply's number tells them from a refusal
 pub size-most : (n kind : ℕ) → Fields n kind → answer-size n kind ≤ 2314

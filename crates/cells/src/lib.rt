@@ -52,47 +52,41 @@ fn read16(s: &[u8], i: usize) -> usize
 }
 
 // How many vertices and edges an accepted map has.
-pub fn vertices(map: &[u8]) -> usize
-    requires { ⌜ graph-code (now map) ≡ 0 ⌝ }
-    ensures { λ r. ⌜ (r ≡ at16 (now (map .entry)) 5) × (r ≤ 256) ⌝ }
+pub fn vertices(graph: &[u8]) -> usize
+    requires { ⌜ graph-code (now graph) ≡ 0 ⌝ }
+    ensures { λ r. ⌜ (r ≡ at16 (now (graph .entry)) 5) × (r ≤ 256) ⌝ }
 {
-    read16(map, 5)
+    read16(graph, 5)
 }
 
-fn edges(map: &[u8]) -> usize
-    requires { ⌜ graph-code (now map) ≡ 0 ⌝ }
-    ensures { λ r. ⌜ (r ≡ at16 (now (map .entry)) 7) × (r ≤ 1024) ⌝ }
+fn edges(graph: &[u8]) -> usize
+    requires { ⌜ graph-code (now graph) ≡ 0 ⌝ }
+    ensures { λ r. ⌜ (r ≡ at16 (now (graph .entry)) 7) × (r ≤ 1024) ⌝ }
 {
-    read16(map, 7)
+    read16(graph, 7)
 }
 
-// The fields of edge i.
-fn from_at(map: &[u8], i: usize) -> usize
-    requires { ⌜ (graph-code (now map) ≡ 0) × (i < at16 (now map) 7) ⌝ }
-    ensures { λ r. ⌜ (r ≡ edge-in (now (map .entry)) i .from) × (r < at16 (now (map .entry)) 5) × (r < 256) ⌝ }
+// A field of edge i: at 0 where it begins, at 2 where it ends, at 4 its weight, at 6 its capacity.
+fn field_at(graph: &[u8], i: usize, at: usize) -> usize
+    requires { ⌜ (graph-code (now graph) ≡ 0) × (i < at16 (now graph) 7) × (at ≤ 6) ⌝ }
+    ensures { λ r. ⌜ (r ≡ at16 (now (graph .entry)) (9 + 8 * i + at)) × (r < 65536) ⌝ }
 {
-    read16(map, 9 + 8 * i)
+    read16(graph, 9 + 8 * i + at)
 }
 
-fn to_at(map: &[u8], i: usize) -> usize
-    requires { ⌜ (graph-code (now map) ≡ 0) × (i < at16 (now map) 7) ⌝ }
-    ensures { λ r. ⌜ (r ≡ edge-in (now (map .entry)) i .to) × (r < at16 (now (map .entry)) 5) × (r < 256) ⌝ }
+// The two that are vertices.
+fn from_at(graph: &[u8], i: usize) -> usize
+    requires { ⌜ (graph-code (now graph) ≡ 0) × (i < at16 (now graph) 7) ⌝ }
+    ensures { λ r. ⌜ (r ≡ edge-in (now (graph .entry)) i .from) × (r < at16 (now (graph .entry)) 5) × (r < 256) ⌝ }
 {
-    read16(map, 9 + 8 * i + 2)
+    field_at(graph, i, 0)
 }
 
-fn weight_at(map: &[u8], i: usize) -> u64
-    requires { ⌜ (graph-code (now map) ≡ 0) × (i < at16 (now map) 7) ⌝ }
-    ensures { λ r. ⌜ (r ≡ edge-in (now (map .entry)) i .weight) × (r < 65536) ⌝ }
+fn to_at(graph: &[u8], i: usize) -> usize
+    requires { ⌜ (graph-code (now graph) ≡ 0) × (i < at16 (now graph) 7) ⌝ }
+    ensures { λ r. ⌜ (r ≡ edge-in (now (graph .entry)) i .to) × (r < at16 (now (graph .entry)) 5) × (r < 256) ⌝ }
 {
-    read16(map, 9 + 8 * i + 4) as u64
-}
-
-fn capacity_at(map: &[u8], i: usize) -> u64
-    requires { ⌜ (graph-code (now map) ≡ 0) × (i < at16 (now map) 7) ⌝ }
-    ensures { λ r. ⌜ (r ≡ edge-in (now (map .entry)) i .capacity) × (r < 65536) ⌝ }
-{
-    read16(map, 9 + 8 * i + 6) as u64
+    field_at(graph, i, 2)
 }
 
 // A key, or the one before it where there are fewer keys.
@@ -296,23 +290,23 @@ fn brought(keys: PathKeys, weight: u64, capacity: u64, old: &[u32], f: usize, st
 // Edge i: what it brings takes the place of what stands at its end, where it is better. Whether it did. Edges from cells stamped before `since` bring nothing.
 fn relax(
     keys: PathKeys,
-    map: &[u8],
+    graph: &[u8],
     i: usize,
     since: u32,
     stamp: u32,
     old: &[u32],
     new: &mut [u32],
 ) -> bool
-    requires { ⌜ (graph-code (now map) ≡ 0) × (i < at16 (now map) 7) × (length (now old) ≡ 4 * at16 (now map) 5) × (length (now new) ≡ 4 * at16 (now map) 5) ⌝ }
-    ensures { λ r. ⌜ (r ≡ taken keys (edge-in (now (map .entry)) i) since (now (old .entry)) (now (new .entry))) × (now (new .exit) ≡ relaxed keys (edge-in (now (map .entry)) i) since stamp (now (old .entry)) (now (new .entry))) ⌝ }
+    requires { ⌜ (graph-code (now graph) ≡ 0) × (i < at16 (now graph) 7) × (length (now old) ≡ 4 * at16 (now graph) 5) × (length (now new) ≡ 4 * at16 (now graph) 5) ⌝ }
+    ensures { λ r. ⌜ (r ≡ taken keys (edge-in (now (graph .entry)) i) since (now (old .entry)) (now (new .entry))) × (now (new .exit) ≡ relaxed keys (edge-in (now (graph .entry)) i) since stamp (now (old .entry)) (now (new .entry))) ⌝ }
 {
-    let f = 4 * from_at(map, i);
+    let f = 4 * from_at(graph, i);
     if old[f + 3] < since {
         return false;
     }
-    let t = 4 * to_at(map, i);
-    let weight = weight_at(map, i);
-    let capacity = capacity_at(map, i);
+    let t = 4 * to_at(graph, i);
+    let weight = field_at(graph, i, 4) as u64;
+    let capacity = field_at(graph, i, 6) as u64;
     if !beats(keys, weight, capacity, old, f, new, t) {
         return false;
     }
@@ -333,20 +327,20 @@ fn either(a: bool, b: bool) -> bool
 // All edges in turn, from the figures of the round before. Whether a vertex changed.
 fn relax_all(
     keys: PathKeys,
-    map: &[u8],
+    graph: &[u8],
     since: u32,
     stamp: u32,
     old: &[u32],
     new: &mut [u32],
 ) -> bool
-    requires { ⌜ (graph-code (now map) ≡ 0) × (length (now old) ≡ 4 * at16 (now map) 5) × (now new ≡ now old) ⌝ }
-    ensures { λ r. ⌜ (r ≡ taken-upto keys (now (map .entry)) since stamp (now (old .entry)) (at16 (now (map .entry)) 7)) × (now (new .exit) ≡ relaxed-upto keys (now (map .entry)) since stamp (now (old .entry)) (at16 (now (map .entry)) 7)) ⌝ }
+    requires { ⌜ (graph-code (now graph) ≡ 0) × (length (now old) ≡ 4 * at16 (now graph) 5) × (now new ≡ now old) ⌝ }
+    ensures { λ r. ⌜ (r ≡ taken-upto keys (now (graph .entry)) since stamp (now (old .entry)) (at16 (now (graph .entry)) 7)) × (now (new .exit) ≡ relaxed-upto keys (now (graph .entry)) since stamp (now (old .entry)) (at16 (now (graph .entry)) 7)) ⌝ }
 {
-    let m = edges(map);
+    let m = edges(graph);
     let mut changed = false;
     let mut i: usize = 0;
     while i < m {
-        let one = relax(keys, map, i, since, stamp, old, new);
+        let one = relax(keys, graph, i, since, stamp, old, new);
         changed = either(changed, one);
         i += 1;
     }
@@ -367,16 +361,16 @@ fn copy(src: &[u32], dst: &mut [u32])
 // A round of the path reduction of this number, in place; the figures of the round before are kept apart in `work`. Whether a vertex changed.
 pub fn step(
     word: u64,
-    map: &[u8],
+    graph: &[u8],
     since: u32,
     stamp: u32,
     part: &mut [u32],
     work: &mut [u32],
 ) -> bool
-    requires { ⌜ (graph-code (now map) ≡ 0) × (length (now part) ≡ 4 * at16 (now map) 5) × (length (now work) ≡ 4 * at16 (now map) 5) ⌝ }
-    ensures { λ r. ⌜ (r ≡ taken-upto (keys-of word) (now (map .entry)) since stamp (now (part .entry)) (at16 (now (map .entry)) 7)) × (now (part .exit) ≡ relaxed-upto (keys-of word) (now (map .entry)) since stamp (now (part .entry)) (at16 (now (map .entry)) 7)) ⌝ }
+    requires { ⌜ (graph-code (now graph) ≡ 0) × (length (now part) ≡ 4 * at16 (now graph) 5) × (length (now work) ≡ 4 * at16 (now graph) 5) ⌝ }
+    ensures { λ r. ⌜ (r ≡ taken-upto (keys-of word) (now (graph .entry)) since stamp (now (part .entry)) (at16 (now (graph .entry)) 7)) × (now (part .exit) ≡ relaxed-upto (keys-of word) (now (graph .entry)) since stamp (now (part .entry)) (at16 (now (graph .entry)) 7)) ⌝ }
 {
     let keys = path_keys(word);
     copy(part, work);
-    relax_all(keys, map, since, stamp, work, part)
+    relax_all(keys, graph, since, stamp, work, part)
 }

@@ -55,8 +55,8 @@ use Rattle.counted.proofs.pull as pull
 use Rattle.counted.proofs.pull_by_value as by-value
 
 -- ITS MIR, over the function that it calls: what the compiler makes of `pull` and of `push` is this, at `pull_by_value` and at `push_by_value`
-abbrev pub thin : Name → Fn
-thin f = record {
+abbrev pub thin : Name → ℕ → ℕ → Fn
+thin f x y = record {
   lifetimes = 4;
   outlives = [];
   params = 4;
@@ -75,7 +75,7 @@ thin f = record {
       seq (assign (place 6 []) (addrOf (place 3 (field 0 ∷ deref (tyInt w8) ∷ []))))
       (seq (assign (place 7 []) (aggregate (copy (place 6 []) ∷ copy (place 3 (field 1 ∷ [])) ∷ [])))
       (seq (assign (place 8 []) (rvOpd (copy (place 4 (deref T′.mir ∷ [])))))
-      (seq (call f (copy (place 1 []) ∷ copy (place 2 []) ∷ copy (place 7 []) ∷ copy (place 8 []) ∷ []) (place 5 []))
+      (seq (call f (copy (place x []) ∷ copy (place y []) ∷ copy (place 7 []) ∷ copy (place 8 []) ∷ []) (place 5 []))
       (seq (assign (place 4 (deref T′.mir ∷ [])) (rvOpd (copy (place 5 (field 1 ∷ [])))))
       (seq (assign (place 0 []) (rvOpd (copy (place 5 (field 0 ∷ [])))))
       return)))));
@@ -103,7 +103,7 @@ module _ {M : Type 1} (𝓤 : URA M) (H : Heap 𝓤) (A : Atoms 𝓤) (W : Given
   abbrev Called : Contract 𝓤
   Called = ByValue 𝓤 H A at-mem run
 
-  module _ (κs : Lfts 4) (qs : Share × (Share × (Share × (Share × Unit {0})))) (bounds : AllOutlive 4 (pull.signature .outlives) κs) (plan map out : RefT (List ℕ)) (lent : RefT Counters) where
+  module _ (κs : Lfts 4) (qs : Share × (Share × (Share × (Share × Unit {0})))) (bounds : AllOutlive 4 (pull.signature .outlives) κs) (plan graph out : RefT (List ℕ)) (lent : RefT Counters) where
     -- the lifetimes of the four references
     abbrev κ₁ : Lft
     κ₁ = κs .0
@@ -134,8 +134,8 @@ module _ {M : Type 1} (𝓤 : URA M) (H : Heap 𝓤) (A : Atoms 𝓤) (W : Given
     abbrev Plan : Fml
     Plan = ShrSlice (named 0) κ₁ u8 .own plan (slice plan ∷ [])
 
-    abbrev Map : Fml
-    Map = ShrSlice (named 1) κ₂ u8 .own map (slice map ∷ [])
+    abbrev Graph : Fml
+    Graph = ShrSlice (named 1) κ₂ u8 .own graph (slice graph ∷ [])
 
     abbrev Out : Fml
     Out = MutSlice (named 2) κ₃ u8 .own out (slice out ∷ [])
@@ -145,10 +145,10 @@ module _ {M : Type 1} (𝓤 : URA M) (H : Heap 𝓤) (A : Atoms 𝓤) (W : Given
     Args = RefT (List ℕ) × (RefT (List ℕ) × (RefT (List ℕ) × (RefT Counters × Unit {0})))
 
     abbrev args : Args
-    args = (plan, (map, (out, (lent, tt))))
+    args = (plan, (graph, (out, (lent, tt))))
 
     abbrev vals : List Val × (List Val × (List Val × (List Val × Unit {0})))
-    vals = (slice plan ∷ [], (slice map ∷ [], (slice out ∷ [], (vptr b o ∷ [], tt))))
+    vals = (slice plan ∷ [], (slice graph ∷ [], (slice out ∷ [], (vptr b o ∷ [], tt))))
 
     -- what the run by value is passed, with the slices' three tokens
     abbrev κs′ : Lfts 3
@@ -158,19 +158,19 @@ module _ {M : Type 1} (𝓤 : URA M) (H : Heap 𝓤) (A : Atoms 𝓤) (W : Given
     Args′ = RefT (List ℕ) × (RefT (List ℕ) × (RefT (List ℕ) × (Counters × Unit {0})))
 
     abbrev args′ : Args′
-    args′ = (plan, (map, (out, (before, tt))))
+    args′ = (plan, (graph, (out, (before, tt))))
 
     abbrev Tokens : Item 𝓤
     Tokens = ‵ (flft κ₁ (qs .0)) ⊛ ‵ (flft κ₂ (qs .1 .0)) ⊛ ‵ (flft κ₃ (qs .1 .1 .0)) ⊛ ‵ ftrue
 
     abbrev Slices : Item 𝓤
-    Slices = ‵ Plan ⊛ ‵ Map ⊛ ‵ Out
+    Slices = ‵ Plan ⊛ ‵ Graph ⊛ ‵ Out
 
     abbrev Post : Val → SProp 𝓤
     Post = walkOf 𝓤 H A pull.ended stayed clauses .post ((κs, qs, bounds, args, vals), tt)
 
     abbrev reply : Reply
-    reply = run-reply none (plan .now) (map .now) (length (out .now))
+    reply = run-reply none (plan .now) (graph .now) (length (out .now))
 
     -- what the run, and this function, say of the end and of the buffer's last list
     abbrev Said : Ended → List ℕ → Type 0
@@ -185,7 +185,7 @@ module _ {M : Type 1} (𝓤 : URA M) (H : Heap 𝓤) (A : Atoms 𝓤) (W : Given
         ∷ Tokens
         ∷ ‵ (finally u8 (out .name) zs)
         ∷ ‵ Plan
-        ∷ ‵ Map
+        ∷ ‵ Graph
         ∷ []
 
     exits : (r : Ended) (zs : List ℕ) → r .number < 2 ^ 32 → Said r zs → length zs ≡ length (out .now) → ent 𝓤 (⋆ 𝓤 H A (Left r zs)) (Post (vint w32 (r .number)))
@@ -202,7 +202,7 @@ module _ {M : Type 1} (𝓤 : URA M) (H : Heap 𝓤) (A : Atoms 𝓤) (W : Given
 
     -- the call: what the run's triple binds outside, and its entry
     abbrev to-call : Called .Ghost
-    to-call = ((κs′, (qs .0, (qs .1 .0, (qs .1 .1 .0, tt))), tt, args′, (slice plan ∷ [], (slice map ∷ [], (slice out ∷ [], (vals-of before, tt))))), tt)
+    to-call = ((κs′, (qs .0, (qs .1 .0, (qs .1 .1 .0, tt))), tt, args′, (slice plan ∷ [], (slice graph ∷ [], (slice out ∷ [], (vals-of before, tt))))), tt)
 
     abbrev Passed : List (Item 𝓤)
     Passed = Tokens ∷ Slices ∷ ‵ (T.the-row .own before (vals-of before)) ∷ []
@@ -215,9 +215,9 @@ module _ {M : Type 1} (𝓤 : URA M) (H : Heap 𝓤) (A : Atoms 𝓤) (W : Given
         move ! (1 ∷ 3 ∷ []) $ fjoin ! $ move ! (1 ∷ 0 ∷ []) $ fjoin ! $ move ! (1 ∷ 0 ∷ []) $ fjoin ! $ move ! (1 ∷ 0 ∷ []) $ join ! $ frame ! $ done !
 
     module _ (f : Name) (C : Calls 𝓤 H) (Λ : Loops 𝓤 H) (fm : FmC 𝓤 H (W .laws) C) (known : Triple 𝓤 (C f) Called) where
-      walk : Is (ShrSlice (named 0) κ₁ u8) plan (slice plan ∷ []) → Is (ShrSlice (named 1) κ₂ u8) map (slice map ∷ []) → Room u8 (length (out .now))
-          → ent 𝓤 (onEntry 𝓤 H A pull.signature κs qs args vals) (WpFn 𝓤 H C Λ (thin f) (slice plan ∷ slice map ∷ slice out ∷ vptr b o ∷ []) Post)
-      walk plan-is map-is room =
+      walk : Is (ShrSlice (named 0) κ₁ u8) plan (slice plan ∷ []) → Is (ShrSlice (named 1) κ₂ u8) graph (slice graph ∷ []) → Room u8 (length (out .now))
+          → ent 𝓤 (onEntry 𝓤 H A pull.signature κs qs args vals) (WpFn 𝓤 H C Λ (thin f 1 2) (slice plan ∷ slice graph ∷ slice out ∷ vptr b o ∷ []) Post)
+      walk plan-is graph-is room =
           qed W ((‵ (flft κ₁ (qs .0)) ⊛ ‵ (flft κ₂ (qs .1 .0)) ⊛ ‵ (flft κ₃ (qs .1 .1 .0)) ⊛ ‵ (flft κ₄ (qs .1 .1 .1 .0)) ⊛ ‵ ftrue) ∷ ‵ (owns (ShrSlice (named 0) κ₁ u8 ∷ ShrSlice (named 1) κ₂ u8 ∷ MutSlice (named 2) κ₃ u8 ∷ MutRef (named 3) κ₄ T.the-row ∷ []) args vals) ∷ []) ∵
           -- the run's three tokens together, and that of the counters
           split ! $ move ! (1 ∷ []) $ split ! $ move ! (1 ∷ []) $ split ! $ move ! (1 ∷ []) $ split ! $
@@ -226,13 +226,13 @@ module _ {M : Type 1} (𝓤 : URA M) (H : Heap 𝓤) (A : Atoms 𝓤) (W : Given
           move ! (2 ∷ []) $ fsplit ! $ move ! (1 ∷ []) $ fsplit ! $ move ! (1 ∷ []) $ fsplit ! $ move ! (1 ∷ []) $ fsplit ! $ fsplit3 ! $ drop ! $
           -- [obs; the borrow; true; Out; Map; Plan; Tokens; the counters' token]: the two `&` are copied
           move ! (5 ∷ []) $ use1 W (‵ Plan ⊛ ‵ Plan) (shr-slice-copy 𝓤 H A W (named 0) κ₁ u8 .twice plan (slice plan ∷ [])) $ split ! $
-          move ! (6 ∷ []) $ use1 W (‵ Map ⊛ ‵ Map) (shr-slice-copy 𝓤 H A W (named 1) κ₂ u8 .twice map (slice map ∷ [])) $ split ! $
+          move ! (6 ∷ []) $ use1 W (‵ Graph ⊛ ‵ Graph) (shr-slice-copy 𝓤 H A W (named 1) κ₂ u8 .twice graph (slice graph ∷ [])) $ split ! $
           move ! (0 ∷ 7 ∷ []) $ join ! $ move ! (2 ∷ 0 ∷ []) $ join ! $ move ! (3 ∷ 4 ∷ 7 ∷ 6 ∷ 0 ∷ 2 ∷ 1 ∷ []) $
           -- [obs; the borrow; the counters' token; Tokens; Slices; Plan; Map; true]
-          enter ! C Λ (thin f) (slice plan ∷ slice map ∷ slice out ∷ vptr b o ∷ []) _ $
+          enter ! C Λ (thin f 1 2) (slice plan ∷ slice graph ∷ slice out ∷ vptr b o ∷ []) _ $
           alloc1 ! (λ l₀. alloc1 ! (λ l₁. alloc1 ! (λ l₂. alloc1 ! (λ l₃. alloc1 ! (λ l₄. alloc1 ! (λ l₅. alloc1 ! (λ l₆. alloc1 ! (λ l₇. alloc1 ! (λ l₈. alloc0 ! $ params1 ! $
           pass1 ! (init ! 14 refl (shr-slice-lawful 𝓤 H A W (named 0) κ₁ u8 .typed plan (slice plan ∷ []) plan-is .0)) $
-          pass1 ! (init ! 12 refl (shr-slice-lawful 𝓤 H A W (named 1) κ₂ u8 .typed map (slice map ∷ []) map-is .0)) $
+          pass1 ! (init ! 12 refl (shr-slice-lawful 𝓤 H A W (named 1) κ₂ u8 .typed graph (slice graph ∷ []) graph-is .0)) $
           pass1 ! (init ! 10 refl (tt, (tt, (record { fits = room .0 }, tt)))) $ pass1 ! (init ! 8 refl (tt, tt)) $ pass0 ! $
           -- the buffer is lent on
           assigns ! (addr ! (from ! (fld ! refl (hop ! (look-in ! 10 (sub ! 0 refl (whole !))) (stop !))))) (from ! (stop !)) (init ! 4 refl (tt, tt)) $
@@ -267,9 +267,9 @@ module _ {M : Type 1} (𝓤 : URA M) (H : Heap 𝓤) (A : Atoms 𝓤) (W : Given
           move ! (16 ∷ 17 ∷ []) $ free1 ! $ move ! (14 ∷ 15 ∷ []) $ free1 ! $ move ! (12 ∷ 13 ∷ []) $ free1 ! $ move ! (10 ∷ 11 ∷ []) $ free1 ! $ move ! (8 ∷ 9 ∷ []) $ free1 ! $ free0 ! $
           keep ! (0 ∷ 1 ∷ 2 ∷ 3 ∷ 4 ∷ 8 ∷ 9 ∷ []) $ by ! (exits r (zs .1 .1 .0) (LL.owed E.the-type E′.the-laws r _ is .0 .1) e l))))))))))))))))))
 
-  thin-walks : (f : Name) (C : Calls 𝓤 H) (Λ : Loops 𝓤 H) → FmC 𝓤 H (W .laws) C → Triple 𝓤 (C f) Called → Walks 𝓤 H A pull.ended stayed (WpFn 𝓤 H C Λ (thin f)) clauses
+  thin-walks : (f : Name) (C : Calls 𝓤 H) (Λ : Loops 𝓤 H) → FmC 𝓤 H (W .laws) C → Triple 𝓤 (C f) Called → Walks 𝓤 H A pull.ended stayed (WpFn 𝓤 H C Λ (thin f 1 2)) clauses
   thin-walks f C Λ fm known =
-      walked 𝓤 H A pull.ended stayed clauses (WpFn 𝓤 H C Λ (thin f)) (λ κs. (slice-vals, (slice-vals, (slice-vals, (ptr-vals, tt)))))
+      walked 𝓤 H A pull.ended stayed clauses (WpFn 𝓤 H C Λ (thin f 1 2)) (λ κs. (slice-vals, (slice-vals, (slice-vals, (ptr-vals, tt)))))
       (λ κs. (shr-slice-tells (named 0) (κs .0) u8, (shr-slice-tells (named 1) (κs .1 .0) u8, (mut-slice-tells (named 2) (κs .1 .1 .0) u8, (mut-tells (named 3) (κs .1 .1 .1 .0) T.the-row, tt)))))
       (λ κs qs bounds a g are. via 𝓤 _ (fst∗ 𝓤 _ (emp 𝓤)) (walk κs qs bounds (a .0) (a .1 .0) (a .1 .1 .0) (a .1 .1 .1 .0) f C Λ fm known (are .0) (are .1 .0) (are .1 .1 .0 .0 .1)))
 
@@ -279,7 +279,8 @@ module _ {M : Type 1} (𝓤 : URA M) (H : Heap 𝓤) (A : Atoms 𝓤) (W : Given
     (goes-none-slice 𝓤 H A W 4 (1 ∷ []) tt (plain (λ _. u8)) yes, (goes-gave-slice 𝓤 H A W 4 2 tt (plain (λ _. u8)), (goes-ref 𝓤 H A W 4 3 tt (plain (λ _. T.the-row)), tt))),
   )
 
-  -- A FUNCTION OF THIS SHAPE MEETS THE CONTRACT OF A COUNTED RUN, if what it calls does by value
-  pub thin-meets : (f : Name) (𝓣 : Tables 𝓤 H) → Triple 𝓤 (𝓣 .C f) Called → Meets 𝓤 H A pull.signature (WpFn 𝓤 H (𝓣 .C) (𝓣 .Λ) (thin f)) (pull.spec 𝓤 H A at-mem run)
-  thin-meets f 𝓣 known =
-      walk-meets 𝓤 H A pull.ended stayed W goes clauses (WpFn 𝓤 H (𝓣 .C) (𝓣 .Λ) (thin f)) (WpFn-mono 𝓤 H (W .laws) 𝓣 (thin f)) (thin-walks f (𝓣 .C) (𝓣 .Λ) (fmOf 𝓤 H (W .laws) 𝓣) known)
+  -- A FUNCTION OF THIS SHAPE MEETS THE CONTRACT OF A COUNTED RUN, if what it calls does by value and is passed the plan, parameter 1, and then the map, parameter 2
+  pub thin-meets : (f : Name) (x y : ℕ) (𝓣 : Tables 𝓤 H) → Triple 𝓤 (𝓣 .C f) Called → x ≡ 1 → y ≡ 2 → Meets 𝓤 H A pull.signature (WpFn 𝓤 H (𝓣 .C) (𝓣 .Λ) (thin f x y)) (pull.spec 𝓤 H A at-mem run)
+  thin-meets f x y 𝓣 known plan-first graph-second =
+      rw (plan-first, graph-second)
+      (walk-meets 𝓤 H A pull.ended stayed W goes clauses (WpFn 𝓤 H (𝓣 .C) (𝓣 .Λ) (thin f 1 2)) (WpFn-mono 𝓤 H (W .laws) 𝓣 (thin f 1 2)) (thin-walks f (𝓣 .C) (𝓣 .Λ) (fmOf 𝓤 H (W .laws) 𝓣) known))

@@ -28,33 +28,33 @@ fn counted(number: u32, c: Counters) -> Ended
 }
 
 // The counted run by pull, the counters by value.
-fn pull_by_value(plan: &[u8], map: &[u8], out: &mut [u8], c: Counters) -> Ended
-    ensures { λ r. ⌜ (r .number ≡ reply-number (run-reply none (now (plan .entry)) (now (map .entry)) (length (now (out .entry))))) × (now (out .exit) ≡ reply-buffer (run-reply none (now (plan .entry)) (now (map .entry)) (length (now (out .entry)))) (now (out .entry))) × (r .counters ≡ counters-after (run-reply none (now (plan .entry)) (now (map .entry)) (length (now (out .entry)))) c) ⌝ }
+fn pull_by_value(plan: &[u8], graph: &[u8], out: &mut [u8], c: Counters) -> Ended
+    ensures { λ r. ⌜ (r .number ≡ reply-number (run-reply none (now (plan .entry)) (now (graph .entry)) (length (now (out .entry))))) × (now (out .exit) ≡ reply-buffer (run-reply none (now (plan .entry)) (now (graph .entry)) (length (now (out .entry)))) (now (out .entry))) × (r .counters ≡ counters-after (run-reply none (now (plan .entry)) (now (graph .entry)) (length (now (out .entry)))) c) ⌝ }
 {
-    counted(engine::pull(plan, map, out), c)
+    counted(engine::pull(plan, graph, out), c)
 }
 
 // The same by push.
-fn push_by_value(plan: &[u8], map: &[u8], out: &mut [u8], c: Counters) -> Ended
-    ensures { λ r. ⌜ (r .number ≡ reply-number (run-reply none (now (plan .entry)) (now (map .entry)) (length (now (out .entry))))) × (now (out .exit) ≡ reply-buffer (run-reply none (now (plan .entry)) (now (map .entry)) (length (now (out .entry)))) (now (out .entry))) × (r .counters ≡ counters-after (run-reply none (now (plan .entry)) (now (map .entry)) (length (now (out .entry)))) c) ⌝ }
+fn push_by_value(plan: &[u8], graph: &[u8], out: &mut [u8], c: Counters) -> Ended
+    ensures { λ r. ⌜ (r .number ≡ reply-number (run-reply none (now (plan .entry)) (now (graph .entry)) (length (now (out .entry))))) × (now (out .exit) ≡ reply-buffer (run-reply none (now (plan .entry)) (now (graph .entry)) (length (now (out .entry)))) (now (out .entry))) × (r .counters ≡ counters-after (run-reply none (now (plan .entry)) (now (graph .entry)) (length (now (out .entry)))) c) ⌝ }
 {
-    counted(engine::push(plan, map, out), c)
+    counted(engine::push(plan, graph, out), c)
 }
 
 // The counted run by pull: thin, since a struct lent by `&mut` is proved by hand (proofs/Thin, once for both runs).
-pub fn pull(plan: &[u8], map: &[u8], out: &mut [u8], counters: &mut Counters) -> u32
-    ensures { λ r. ⌜ (r ≡ reply-number (run-reply none (now (plan .entry)) (now (map .entry)) (length (now (out .entry))))) × (now (out .exit) ≡ reply-buffer (run-reply none (now (plan .entry)) (now (map .entry)) (length (now (out .entry)))) (now (out .entry))) × (now (counters .exit) ≡ counters-after (run-reply none (now (plan .entry)) (now (map .entry)) (length (now (out .entry)))) (now (counters .entry))) ⌝ }
+pub fn pull(plan: &[u8], graph: &[u8], out: &mut [u8], counters: &mut Counters) -> u32
+    ensures { λ r. ⌜ (r ≡ reply-number (run-reply none (now (plan .entry)) (now (graph .entry)) (length (now (out .entry))))) × (now (out .exit) ≡ reply-buffer (run-reply none (now (plan .entry)) (now (graph .entry)) (length (now (out .entry)))) (now (out .entry))) × (now (counters .exit) ≡ counters-after (run-reply none (now (plan .entry)) (now (graph .entry)) (length (now (out .entry)))) (now (counters .entry))) ⌝ }
 {
-    let r = pull_by_value(plan, map, out, *counters);
+    let r = pull_by_value(plan, graph, out, *counters);
     *counters = r.counters;
     r.number
 }
 
 // The counted run by push: the same.
-pub fn push(plan: &[u8], map: &[u8], out: &mut [u8], counters: &mut Counters) -> u32
-    ensures { λ r. ⌜ (r ≡ reply-number (run-reply none (now (plan .entry)) (now (map .entry)) (length (now (out .entry))))) × (now (out .exit) ≡ reply-buffer (run-reply none (now (plan .entry)) (now (map .entry)) (length (now (out .entry)))) (now (out .entry))) × (now (counters .exit) ≡ counters-after (run-reply none (now (plan .entry)) (now (map .entry)) (length (now (out .entry)))) (now (counters .entry))) ⌝ }
+pub fn push(plan: &[u8], graph: &[u8], out: &mut [u8], counters: &mut Counters) -> u32
+    ensures { λ r. ⌜ (r ≡ reply-number (run-reply none (now (plan .entry)) (now (graph .entry)) (length (now (out .entry))))) × (now (out .exit) ≡ reply-buffer (run-reply none (now (plan .entry)) (now (graph .entry)) (length (now (out .entry)))) (now (out .entry))) × (now (counters .exit) ≡ counters-after (run-reply none (now (plan .entry)) (now (graph .entry)) (length (now (out .entry)))) (now (counters .entry))) ⌝ }
 {
-    let r = push_by_value(plan, map, out, *counters);
+    let r = push_by_value(plan, graph, out, *counters);
     *counters = r.counters;
     r.number
 }

@@ -1,20 +1,20 @@
 -- THE RUN THAT THE PROGRAM DOES IS THE RUN, by pull and by push, for a worksheet and a map that were accepted, and starts that are places; and the answer's bytes are the
 -- encoding of the outcome of the plan (`run-answers`). Assumes nothing.
 use Prim.Native.Nat.{ℕ, zero, _+_, _-_, _*_, _≤_, _<_, min}
-use mathlib.Core.Path.{_≡_, refl, sym, ap, ap₂, _∙_, subst}
+use mathlib.Core.Path.{_≡_, refl, sym, ap, _∙_, subst}
 use mathlib.Core.Logic.{_⊎_, inl, inr}
 use mathlib.Core.Bool.{Bool, true, false, cond}
-use mathlib.Core.List.{List, [], _∷_, _++_}
-use mathlib.Core.Option.{Option, none, some}
+use mathlib.Core.List.{List, [], _∷_}
+use mathlib.Core.Option.{Option}
 use native.Mathlib.Omega.{arith}
-use borrow.Author.Tests.{eq-eqb, eqb-true, eqb-false, le-ltb, lt-ltb, ltb-false, ltb-true, ne-eqb}
+use borrow.Author.Tests.{eqb-true, eqb-false, le-ltb, lt-ltb, ltb-true, ne-eqb}
 use lib.Dec.{ltb, eqb}
 use lib.ListN.{length, getD, take, replicate, length-append, length-map, length-replicate}
 use lib.Seq.{take-length}
 use Rattle.answer.specs.Answer.{answer-code, fields-code}
 use Rattle.answer.specs.Answer as answer
 use Rattle.answer.proofs.Reply.{reply-encodes, reply-refused}
-use Rattle.eval.specs.Body.{body-found, count-place, eight, entry-rows, row}
+use Rattle.eval.specs.Body.{count-at, eight, entry-rows, row}
 use Rattle.eval.specs.Eval.{evaluated}
 use Rattle.eval.proofs.Body.{body-value, eight-holds}
 use Rattle.graph.specs.Graph.{graph-code, graph-of}
@@ -28,12 +28,10 @@ use Rattle.meaning.proofs.Lists.{tabulate-length}
 use Rattle.plan.specs.Plan.{plan-code, plan-scan}
 use Rattle.plan.specs.Text.{encode, kind-of}
 use Rattle.plan.proofs.Exact.{read-complete, read-sound}
-use Rattle.rounds.specs.Run.{Ran, value-in}
 use Rattle.rounds_laws.proofs.Main.{Ready, given-values, quiet-rounds, quiet-values, rounds-way, values-way}
 use Rattle.rounds_laws.specs.Ways.{way}
 use Rattle.rows.specs.Rows.{body-read, final-found, many, row-count, rows-at}
 use Rattle.rows.proofs.Exact.{Holds, answer-rows, rows-length}
-use Rattle.term_text.specs.Text.{path-number}
 use Rattle.term_text.proofs.Table.{Table}
 use Rattle.terms.specs.declared.Walk.{Walk}
 use Rattle.value.specs.declared.Row.{Row}
@@ -46,8 +44,8 @@ use Rattle.walks.specs.Walks.{Graph}
 use Rattle.wire.specs.Header.{then}
 use Rattle.wire.proofs.Codes.{then-both}
 use Rattle.wire.specs.Wire.{Bytes, Reply, at16, fitted, refused, unless}
-use Rattle.engine.specs.Run.{answered, path-of, paths-of, rounds-done, rows-after, run-reply, source-code, sources-code}
-use Rattle.engine.specs.Steps.{count-of, finished, limit-of, meant, run-code, table-after}
+use Rattle.engine.specs.Run.{answered, paths-of, rounds-done, rows-after, run-reply, source-code, sources-code}
+use Rattle.engine.specs.Steps.{count-of, finished, meant, run-code, table-after}
 use Rattle.engine.proofs.Numbers.{numbers-held, paths-held}
 
 -- ---- starts
@@ -91,7 +89,7 @@ module _ (n : ℕ) where
 abbrev pub outcome : Option ℕ → Graph → Plan → Outcome
 outcome limit g p = stopped (pull g) (g .vertices) p (rounds-done limit g (p .paths))
 
-module _ (p : Plan) (legal : PlanLegal 256 p) (m : List ℕ) (bytes : Bytes m) (map-ok : graph-code m ≡ 0) (fits : All (PathFits (at16 m 5)) (p .paths)) where
+module _ (p : Plan) (legal : PlanLegal 256 p) (m : List ℕ) (bytes : Bytes m) (graph-ok : graph-code m ≡ 0) (fits : All (PathFits (at16 m 5)) (p .paths)) where
   abbrev n : ℕ
   n = at16 m 5
 
@@ -105,10 +103,10 @@ module _ (p : Plan) (legal : PlanLegal 256 p) (m : List ℕ) (bytes : Bytes m) (
   G r = values-at (pull (graph-of m)) (p .paths) r
 
   few : n ≤ 256
-  few = accepted m map-ok .sizes .few-vertices
+  few = accepted m graph-ok .sizes .few-vertices
 
-  some-place : 1 ≤ n
-  some-place = accepted m map-ok .sizes .some-vertex
+  one-vertex : 1 ≤ n
+  one-vertex = accepted m graph-ok .sizes .some-vertex
 
   kind-is : (b : Body) → getD (encode (record { paths = p .paths; body = b })) 5 0 ≡ kind-of b
   kind-is (each-vertex t) = refl
@@ -116,8 +114,8 @@ module _ (p : Plan) (legal : PlanLegal 256 p) (m : List ℕ) (bytes : Bytes m) (
 
   fields-fine : (b : Body) → fields-code (at16 m 5) (kind-of b) ≡ 0
   unfolding fields-code
-  fields-fine (each-vertex t) = rw (ne-eqb n 0 (λ e. absurd (omega (arith, some-place))), le-ltb 256 n few) refl
-  fields-fine (one-result es t) = rw (ne-eqb n 0 (λ e. absurd (omega (arith, some-place))), le-ltb 256 n few) refl
+  fields-fine (each-vertex t) = rw (ne-eqb n 0 (λ e. absurd (omega (arith, one-vertex))), le-ltb 256 n few) refl
+  fields-fine (one-result es t) = rw (ne-eqb n 0 (λ e. absurd (omega (arith, one-vertex))), le-ltb 256 n few) refl
 
   -- the rows after r rounds are as many as the kind has
   rows-counted : (r : ℕ) → length (body-rows (p .body) (values-at (pull (graph-of m)) (p .paths) r) (at16 m 5)) ≡ answer.row-count (at16 m 5) (getD (encode p) 5 0)
@@ -149,7 +147,7 @@ module _ (p : Plan) (legal : PlanLegal 256 p) (m : List ℕ) (bytes : Bytes m) (
   ready : Ready m p (min (w .paths) 8) (w .table)
   ready = record {
     bytes = bytes;
-    accepted-map = map-ok;
+    accepted-graph = graph-ok;
     legal = fits;
     few = omega arith;
     eight = held .size;
@@ -211,7 +209,7 @@ pub run-refused : (limit : Option ℕ) (s m : List ℕ) (room k : ℕ) → k ≡
 run-refused limit s m room k e h = run-judged limit s m room ∙ rw (← e, ne-eqb k 0 h) refl
 
 -- A LEGAL PLAN ON AN ACCEPTED MAP THAT HAS ITS STARTS: the reply is the encoding of the outcome, where it fits
-module _ (p : Plan) (legal : PlanLegal 256 p) (m : List ℕ) (bytes : Bytes m) (map-ok : graph-code m ≡ 0) where
+module _ (p : Plan) (legal : PlanLegal 256 p) (m : List ℕ) (bytes : Bytes m) (graph-ok : graph-code m ≡ 0) where
   paths-are-its : paths-of (plan-scan (encode p)) ≡ p .paths
   paths-are-its = paths-held (plan-scan (encode p)) (p .paths) (read-complete p legal .table)
 
@@ -220,14 +218,14 @@ module _ (p : Plan) (legal : PlanLegal 256 p) (m : List ℕ) (bytes : Bytes m) (
   unfolding run-code
   run-answers fits limit room =
       run-judged limit (encode p) m room
-      ∙ rw (read-complete p legal .accepted, map-ok, paths-are-its, sources-accepted (at16 m 5) (p .paths) fits) (answered-encodes p legal m bytes map-ok fits limit room)
+      ∙ rw (read-complete p legal .accepted, graph-ok, paths-are-its, sources-accepted (at16 m 5) (p .paths) fits) (answered-encodes p legal m bytes graph-ok fits limit room)
 
   -- the program's reply, where nothing is refused
   finished-legal : (push given : Bool) (limit room : ℕ) → limit < 65536 → sources-code (at16 m 5) (paths-of (plan-scan (encode p))) ≡ 0
       → run-reply (meant given limit) (encode p) m room ≡ finished push given limit (encode p) (plan-scan (encode p)) m room
   finished-legal push given limit room h z =
       let fits = sources-fit (at16 m 5) (p .paths) (legal .paths-legal) (rw paths-are-its at z) in
-      run-answers fits (meant given limit) room ∙ sym (finished-encodes p legal m bytes map-ok fits push given limit room h)
+      run-answers fits (meant given limit) room ∙ sym (finished-encodes p legal m bytes graph-ok fits push given limit room h)
 
 -- FOR ALL BYTES that are not refused before 15: they are those of a legal plan, and the reply is the encoding of its outcome, where it fits
 pub run-means : (s m : List ℕ) → Bytes s → Bytes m → run-code (plan-scan s) m ≡ 0
@@ -261,8 +259,8 @@ rows-full s F n h =
     let few : length l ≤ 256 = go (eqb (getD s 5 0) 0) in
     omega (arith, few, length-map (many l) (λ (r : Row). r .value), length-append l (replicate (256 - length l) (row Absent)), length-replicate {A = Row} (256 - length l) (row Absent))
   where
-    go : (b : Bool) → length (cond b (entry-rows s (count-place s + 2) F n) (row (final-found (min (getD s (count-place s) 0) 8) s (count-place s + 1) F n) ∷ [])) ≤ 256
-    go true = omega (arith, tabulate-length n zero (λ v. row (evaluated 16 s (F v) (count-place s + 2) .value)))
+    go : (b : Bool) → length (cond b (entry-rows s (count-at s + 2) F n) (row (final-found (min (getD s (count-at s) 0) 8) s (count-at s + 1) F n) ∷ [])) ≤ 256
+    go true = omega (arith, tabulate-length n zero (λ v. row (evaluated 16 s (F v) (count-at s + 2) .value)))
     go false = omega arith
 
 -- 15 before the rounds
@@ -275,6 +273,6 @@ finished-refused push given limit s w m room k e h =
     reply-refused (at16 m 5) (count-of given limit (t .count)) (getD s 5 0) (values (many (body-read s F (min (at16 m 5) 256)))) (rows-full s F (min (at16 m 5) 256) (omega arith)) room k e h
 
 -- the map was accepted
-pub run-map : (w : Walk) (m : List ℕ) → run-code w m ≡ 0 → graph-code m ≡ 0
+pub run-graph : (w : Walk) (m : List ℕ) → run-code w m ≡ 0 → graph-code m ≡ 0
 unfolding run-code
-run-map w m z = then-both (graph-code m) (sources-code (at16 m 5) (paths-of w)) (then-both (w .code) (then (graph-code m) (sources-code (at16 m 5) (paths-of w))) z .1) .0
+run-graph w m z = then-both (graph-code m) (sources-code (at16 m 5) (paths-of w)) (then-both (w .code) (then (graph-code m) (sources-code (at16 m 5) (paths-of w))) z .1) .0

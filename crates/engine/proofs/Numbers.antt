@@ -1,7 +1,7 @@
 -- PATH REDUCTIONS BY THEIR NUMBERS: a legal one is that of its number, and a reader's table holds those of the plan. Assumes nothing.
 use Prim.Native.Nat.{ℕ, _≤_}
 use mathlib.Core.Path.{_≡_, refl, sym, ap, ap₂, _∙_}
-use mathlib.Core.List.{List, [], _∷_, _++_, map}
+use mathlib.Core.List.{List, [], _∷_, map}
 use native.Mathlib.Omega.{arith}
 use lib.Dec.{leb→le}
 use lib.ListN.{length, getD, take, length-map}

@@ -11,10 +11,10 @@ ghost use Rattle.engine.specs.Run.{path-of, source-code, sources-code, r
 ghost use Rattle.engine.specs.Steps.{run-code, limit-of, count-of, finished, meant};
 
 // How many vertices a map has, by its field.
-fn vertices(map: &[u8]) -> u16
-    ensures { λ r. ⌜ r ≡ at16 (now (map .entry)) 5 ⌝ }
+fn vertices(graph: &[u8]) -> u16
+    ensures { λ r. ⌜ r ≡ at16 (now (graph .entry)) 5 ⌝ }
 {
-    wire::half(map, 5) as u16
+    wire::half(graph, 5) as u16
 }
 
 // 13 for a source that is no vertex and not anywhere.
@@ -48,18 +48,18 @@ fn sources_code(table: [u64; 8], paths: usize, n: u64) -> u8
 }
 
 // "A run judges the worksheet, the map, starts in chain order": the first refusal, or 0.
-fn judge(w: Walk, map: &[u8]) -> u8
-    ensures { λ r. ⌜ r ≡ run-code w (now (map .entry)) ⌝ }
+fn judge(w: Walk, graph: &[u8]) -> u8
+    ensures { λ r. ⌜ r ≡ run-code w (now (graph .entry)) ⌝ }
 {
     let c = w.code;
     if c != 0 {
         return c;
     }
-    let g = graph::judge(map);
+    let g = graph::judge(graph);
     if g != 0 {
         return g;
     }
-    let n = vertices(map);
+    let n = vertices(graph);
     let table = w.table;
     sources_code(table, w.paths, n as u64)
 }
@@ -92,13 +92,13 @@ fn finish(
     limit: u16,
     plan: &[u8],
     w: Walk,
-    map: &[u8],
+    graph: &[u8],
     out: &mut [u8],
 ) -> u32
-    requires { ⌜ graph-code (now map) ≡ 0 ⌝ }
-    ensures { λ r. ⌜ (r ≡ reply-number (finished push given limit (now (plan .entry)) w (now (map .entry)) (length (now (out .entry))))) × (now (out .exit) ≡ reply-buffer (finished push given limit (now (plan .entry)) w (now (map .entry)) (length (now (out .entry)))) (now (out .entry))) ⌝ }
+    requires { ⌜ graph-code (now graph) ≡ 0 ⌝ }
+    ensures { λ r. ⌜ (r ≡ reply-number (finished push given limit (now (plan .entry)) w (now (graph .entry)) (length (now (out .entry))))) × (now (out .exit) ≡ reply-buffer (finished push given limit (now (plan .entry)) w (now (graph .entry)) (length (now (out .entry)))) (now (out .entry))) ⌝ }
 {
-    let n = vertices(map);
+    let n = vertices(graph);
     let kind = wire::byte(plan, 5);
     let k = answer::judge(n, kind, out.len());
     if k != 0 {
@@ -107,46 +107,53 @@ fn finish(
     let paths = wire::lesser(w.paths, 8);
     let table = w.table;
     let mut figures = [0u32; 8192];
-    let count = rounds::run(push, map, paths, table, most(given, limit, n), &mut figures);
+    let count = rounds::run(
+        push,
+        graph,
+        paths,
+        table,
+        most(given, limit, n),
+        &mut figures,
+    );
     let list = rows::body_rows(plan, &figures, paths, n as usize);
     answer::write(n, reported(given, limit, count), kind, list, out)
 }
 
-fn run(push: bool, given: bool, limit: u16, plan: &[u8], map: &[u8], out: &mut [u8]) -> u32
-    ensures { λ r. ⌜ (r ≡ reply-number (run-reply (meant given limit) (now (plan .entry)) (now (map .entry)) (length (now (out .entry))))) × (now (out .exit) ≡ reply-buffer (run-reply (meant given limit) (now (plan .entry)) (now (map .entry)) (length (now (out .entry)))) (now (out .entry))) ⌝ }
+fn run(push: bool, given: bool, limit: u16, plan: &[u8], graph: &[u8], out: &mut [u8]) -> u32
+    ensures { λ r. ⌜ (r ≡ reply-number (run-reply (meant given limit) (now (plan .entry)) (now (graph .entry)) (length (now (out .entry))))) × (now (out .exit) ≡ reply-buffer (run-reply (meant given limit) (now (plan .entry)) (now (graph .entry)) (length (now (out .entry)))) (now (out .entry))) ⌝ }
 {
     let w = plan::scan(plan);
-    let code = judge(w, map);
+    let code = judge(w, graph);
     if code != 0 {
         return 65536 + code as u32;
     }
-    finish(push, given, limit, plan, w, map, out)
+    finish(push, given, limit, plan, w, graph, out)
 }
 
 // The run by pull, to the first quiet round.
-pub fn pull(plan: &[u8], map: &[u8], out: &mut [u8]) -> u32
-    ensures { λ r. ⌜ (r ≡ reply-number (run-reply none (now (plan .entry)) (now (map .entry)) (length (now (out .entry))))) × (now (out .exit) ≡ reply-buffer (run-reply none (now (plan .entry)) (now (map .entry)) (length (now (out .entry)))) (now (out .entry))) ⌝ }
+pub fn pull(plan: &[u8], graph: &[u8], out: &mut [u8]) -> u32
+    ensures { λ r. ⌜ (r ≡ reply-number (run-reply none (now (plan .entry)) (now (graph .entry)) (length (now (out .entry))))) × (now (out .exit) ≡ reply-buffer (run-reply none (now (plan .entry)) (now (graph .entry)) (length (now (out .entry)))) (now (out .entry))) ⌝ }
 {
-    run(false, false, 0, plan, map, out)
+    run(false, false, 0, plan, graph, out)
 }
 
 // The run by push: the same.
-pub fn push(plan: &[u8], map: &[u8], out: &mut [u8]) -> u32
-    ensures { λ r. ⌜ (r ≡ reply-number (run-reply none (now (plan .entry)) (now (map .entry)) (length (now (out .entry))))) × (now (out .exit) ≡ reply-buffer (run-reply none (now (plan .entry)) (now (map .entry)) (length (now (out .entry)))) (now (out .entry))) ⌝ }
+pub fn push(plan: &[u8], graph: &[u8], out: &mut [u8]) -> u32
+    ensures { λ r. ⌜ (r ≡ reply-number (run-reply none (now (plan .entry)) (now (graph .entry)) (length (now (out .entry))))) × (now (out .exit) ≡ reply-buffer (run-reply none (now (plan .entry)) (now (graph .entry)) (length (now (out .entry)))) (now (out .entry))) ⌝ }
 {
-    run(true, false, 0, plan, map, out)
+    run(true, false, 0, plan, graph, out)
 }
 
 // The run by pull of a given number of rounds.
-pub fn pull_rounds(plan: &[u8], map: &[u8], rounds: u16, out: &mut [u8]) -> u32
-    ensures { λ r. ⌜ (r ≡ reply-number (run-reply (some rounds) (now (plan .entry)) (now (map .entry)) (length (now (out .entry))))) × (now (out .exit) ≡ reply-buffer (run-reply (some rounds) (now (plan .entry)) (now (map .entry)) (length (now (out .entry)))) (now (out .entry))) ⌝ }
+pub fn pull_rounds(plan: &[u8], graph: &[u8], rounds: u16, out: &mut [u8]) -> u32
+    ensures { λ r. ⌜ (r ≡ reply-number (run-reply (some rounds) (now (plan .entry)) (now (graph .entry)) (length (now (out .entry))))) × (now (out .exit) ≡ reply-buffer (run-reply (some rounds) (now (plan .entry)) (now (graph .entry)) (length (now (out .entry)))) (now (out .entry))) ⌝ }
 {
-    run(false, true, rounds, plan, map, out)
+    run(false, true, rounds, plan, graph, out)
 }
 
 // The run by push of a given number of rounds: the same.
-pub fn push_rounds(plan: &[u8], map: &[u8], rounds: u16, out: &mut [u8]) -> u32
-    ensures { λ r. ⌜ (r ≡ reply-number (run-reply (some rounds) (now (plan .entry)) (now (map .entry)) (length (now (out .entry))))) × (now (out .exit) ≡ reply-buffer (run-reply (some rounds) (now (plan .entry)) (now (map .entry)) (length (now (out .entry)))) (now (out .entry))) ⌝ }
+pub fn push_rounds(plan: &[u8], graph: &[u8], rounds: u16, out: &mut [u8]) -> u32
+    ensures { λ r. ⌜ (r ≡ reply-number (run-reply (some rounds) (now (plan .entry)) (now (graph .entry)) (length (now (out .entry))))) × (now (out .exit) ≡ reply-buffer (run-reply (some rounds) (now (plan .entry)) (now (graph .entry)) (length (now (out .entry)))) (now (out .entry))) ⌝ }
 {
-    run(true, true, rounds, plan, map, out)
+    run(true, true, rounds, plan, graph, out)
 }

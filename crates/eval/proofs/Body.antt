@@ -91,8 +91,8 @@ module _ (n : ℕ) (F : ℕ → List Row) (G : ℕ → List Value) (cs : List Pa
   abbrev text : Body → List ℕ
   text b = encode (record { paths = cs; body = b })
 
-  abbrev place : ℕ
-  place = 7 + 6 * length cs
+  abbrev at-count : ℕ
+  at-count = 7 + 6 * length cs
 
   body-there : (b : Body) → drop (7 + 6 * length cs) (encode (record { paths = cs; body = b })) ≡ body-bytes b
   body-there b = drop-on (text b) 7 (6 * length cs) (rows-bytes cs) (body-bytes b) refl (rows-size cs)
@@ -103,8 +103,8 @@ module _ (n : ℕ) (F : ℕ → List Row) (G : ℕ → List Value) (cs : List Pa
   each-value t legal =
       let s : List ℕ = text (each-vertex t) in
       let l : List ℕ = expression-bytes 2 t in
-      entry-rows-value n (length cs) F G agrees s t legal (place + 2) []
-      (drop-on s place 2 (1 ∷ 0 ∷ []) l (body-there (each-vertex t)) refl ∙ sym (append-nil l))
+      entry-rows-value n (length cs) F G agrees s t legal (at-count + 2) []
+      (drop-on s at-count 2 (1 ∷ 0 ∷ []) l (body-there (each-vertex t)) refl ∙ sym (append-nil l))
 
   -- kind 1: the final expression over the results of the entries
   one-value : (es : List (VertexReduction ℕ)) (t : Term ℕ) → All (EntryLegal (length cs)) es → Expression (length es) t
@@ -115,14 +115,14 @@ module _ (n : ℕ) (F : ℕ → List Row) (G : ℕ → List Value) (cs : List Pa
       let l : List ℕ = expression-bytes 3 t in
       let vs : List Value = map (reduced G n) es in
       let there = body-there (one-result es t) in
-      let count = tag-there s place (length es) (entries-bytes es ++ l) there in
-      let d1 = drop-on s place 1 (length es ∷ []) (entries-bytes es ++ l) there refl in
-      let E = entries-value n (length cs) F G agrees s es a (place + 1) l d1 in
-      let d2 = drop-on s (place + 1) (length (entries-bytes es)) (entries-bytes es) l d1 refl ∙ sym (append-nil l) in
-      let found = final-value (length es) s (eight vs) t legal (place + 1 + length (entries-bytes es)) [] d2 in
+      let count = tag-there s at-count (length es) (entries-bytes es ++ l) there in
+      let d1 = drop-on s at-count 1 (length es ∷ []) (entries-bytes es ++ l) there refl in
+      let E = entries-value n (length cs) F G agrees s es a (at-count + 1) l d1 in
+      let d2 = drop-on s (at-count + 1) (length (entries-bytes es)) (entries-bytes es) l d1 refl ∙ sym (append-nil l) in
+      let found = final-value (length es) s (eight vs) t legal (at-count + 1 + length (entries-bytes es)) [] d2 in
       let same = evaluate-same (length es) (values (eight vs)) vs (λ i h. eight-holds vs i (omega (arith, length-map es (reduced G n)))) t (legal .0) in
       ap (λ (v : Value). v ∷ [])
-      (ap (λ (e : ℕ). evaluated 16 s (eight (results e s (place + 1) F n)) (entries-end e s (place + 1)) .value) count
+      (ap (λ (e : ℕ). evaluated 16 s (eight (results e s (at-count + 1) F n)) (entries-end e s (at-count + 1)) .value) count
       ∙ ap₂ (λ (ws : List Value) (i : ℕ). evaluated 16 s (eight ws) i .value) (E .worth) (E .end)
       ∙ ap (λ (f : Found). f .value) found
       ∙ same)

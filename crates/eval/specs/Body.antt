@@ -38,13 +38,13 @@ entries-end zero s at = at
 entries-end (suc k) s at = entries-end k s (expression-end s (at + 1))
 
 -- where the entry count of a plan stands: behind the kind byte, the chain count and the chains "of 6 bytes"
-abbrev pub count-place : List ℕ → ℕ
-count-place s = 7 + 6 * getD s 6 0
+abbrev pub count-at : List ℕ → ℕ
+count-at s = 7 + 6 * getD s 6 0
 
 -- kind 0: the rows of the one entry; kind 1: "one row", the final expression over the results of the entries
 unfoldable pub body-found : List ℕ → (ℕ → List Row) → ℕ → List Row
 body-found s F n =
-    let at = count-place s in
+    let at = count-at s in
     let e = getD s at 0 in
     cond (eqb (getD s 5 0) 0) (entry-rows s (at + 2) F n)
     (row (evaluated 16 s (eight (results e s (at + 1) F n)) (entries-end e s (at + 1)) .value) ∷ [])

@@ -3,8 +3,8 @@
 use value::Row;
 use value::Value;
 ghost use mathlib.Core.Path.{_≡_};
-ghost use Prim.Native.Nat.{_+_, _≤_};
-ghost use lib.ListN.{length, getD};
+ghost use Prim.Native.Nat.{_+_};
+ghost use lib.ListN.{getD};
 ghost use Rattle.value.specs.Value.{values};
 ghost use Rattle.eval.specs.Eval.{one-of, head, evaluated};
 ghost use Rattle.eval.specs.Body.{expression-end};

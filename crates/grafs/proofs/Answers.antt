@@ -12,7 +12,6 @@ use Rattle.answer.specs.Answer as answer
 use Rattle.answer.proofs.Bytes.{encode-length}
 use Rattle.engine.specs.Run.{rounds-done, run-reply}
 use Rattle.engine.proofs.Meant.{outcome, run-answers}
-use Rattle.fusion.specs.Fusion.{fuse-reply}
 use Rattle.fusion.proofs.Exact.{fuse-fits}
 use Rattle.graph.specs.Graph.{graph-code, graph-of}
 use Rattle.graph.proofs.Exact as graph
@@ -31,7 +30,7 @@ use Rattle.query.specs.Query as query
 use Rattle.query.proofs.Exact as query-reader
 use Rattle.walks.specs.Walks.{Graph}
 use Rattle.wire.specs.Wire.{Bytes, Reply, at16, done, fitted, reply-buffer, reply-number}
-use Rattle.grafs.specs.Answers.{Answers, Called, Returned, query-kind}
+use Rattle.grafs.specs.Answers.{Answers, Called, query-kind}
 
 kind-fused : (q : Query) → kind-of (fuse q .body) ≡ query-kind q
 kind-fused (each t) = refl
@@ -43,9 +42,9 @@ unfolding stopped
 rows-counted (each t) g r = tabulate-length (g .vertices) zero _
 rows-counted (single t) g r = refl
 
-module _ (q : Query) (legal : QueryLegal 256 q) (m : List ℕ) (bytes : Bytes m) (map-ok : graph-code m ≡ 0) (starts : QueryFits (graph-of m) q) where
+module _ (q : Query) (legal : QueryLegal 256 q) (m : List ℕ) (bytes : Bytes m) (graph-ok : graph-code m ≡ 0) (starts : QueryFits (graph-of m) q) where
   fits : GraphFits (graph-of m)
-  fits = graph.read-sound m bytes map-ok .0 .fits
+  fits = graph.read-sound m bytes graph-ok .0 .fits
 
   abbrev o : Outcome
   o = outcome none (graph-of m) (fuse q)
@@ -60,20 +59,20 @@ module _ (q : Query) (legal : QueryLegal 256 q) (m : List ℕ) (bytes : Bytes m)
   -- the reply of the run of the fused worksheet
   run-is : (room : ℕ) → run-reply none (plan.encode (fuse q)) m room ≡ fitted (answer.encode (at16 m 5) (query-kind q) (outcome none (graph-of m) (fuse q))) room
   run-is room =
-      run-answers (fuse q) (fuse-legal 256 q legal) m bytes map-ok (fused-fit (graph-of m) fits q starts) none room
+      run-answers (fuse q) (fuse-legal 256 q legal) m bytes graph-ok (fused-fit (graph-of m) fits q starts) none room
       ∙ ap (λ (k : ℕ). fitted (answer.encode (at16 m 5) k o) room) (kind-fused q)
 
   -- A LEGAL QUERY: fused into a buffer of 560 bytes or more, and run into one that the answer fits
-  pub answers-legal : (sheet-before sheet : List ℕ) (fused : ℕ) (before after : List ℕ) (number : ℕ) → Called (query.encode q) m sheet-before sheet fused before after number
-      → 560 ≤ length sheet-before → length (answer.encode (at16 m 5) (query-kind q) (outcome none (graph-of m) (fuse q))) ≤ length before
+  pub answers-legal : (plan-before plan-after : List ℕ) (fused : ℕ) (before after : List ℕ) (number : ℕ) → Called (query.encode q) m plan-before plan-after fused before after number
+      → 560 ≤ length plan-before → length (answer.encode (at16 m 5) (query-kind q) (outcome none (graph-of m) (fuse q))) ≤ length before
       → Answers q m before after number
-  answers-legal sheet-before sheet fused before after number c room long =
+  answers-legal plan-before plan-after fused before after number c room long =
       let ws = plan.encode (fuse q) in
-      let f = fuse-fits q legal (length sheet-before) room in
+      let f = fuse-fits q legal (length plan-before) room in
       let said : fused ≡ length ws = c .fuse-call .said ∙ ap reply-number f in
-      let held : sheet ≡ ws ++ drop (length ws) sheet-before = c .fuse-call .left ∙ ap (λ (r : Reply). reply-buffer r sheet-before) f in
-      let first : take fused sheet ≡ ws = rw held (take-at ws (drop (length ws) sheet-before) fused (sym said)) in
-      let ran : run-reply none (take fused sheet) m (length before) ≡ done text =
+      let held : plan-after ≡ ws ++ drop (length ws) plan-before = c .fuse-call .left ∙ ap (λ (r : Reply). reply-buffer r plan-before) f in
+      let first : take fused plan-after ≡ ws = rw held (take-at ws (drop (length ws) plan-before) fused (sym said)) in
+      let ran : run-reply none (take fused plan-after) m (length before) ≡ done text =
       ap (λ (s : List ℕ). run-reply none s m (length before)) first ∙ run-is (length before) ∙ rw (le-ltb (length before) (length text) long) refl in
       let count : number ≡ length text = c .run-call .said ∙ ap reply-number ran in
       record {
@@ -95,22 +94,22 @@ module _ (q : Query) (legal : QueryLegal 256 q) (m : List ℕ) (bytes : Bytes m)
         s,
         pull-within (graph-of m) fits q starts r,
         stopped-count (pull (graph-of m)) (at16 m 5) (fuse q) r,
-        run-answers (fuse q) (fuse-legal 256 q legal) m bytes map-ok (fused-fit (graph-of m) fits q starts) (some r) room
+        run-answers (fuse q) (fuse-legal 256 q legal) m bytes graph-ok (fused-fit (graph-of m) fits q starts) (some r) room
             ∙ ap (λ (k : ℕ). fitted (answer.encode (at16 m 5) k s) room) (kind-fused q),
       )
 
 -- DEMAND 3: every question and map that the readers accept, the map having each start that the question names
-pub answers : (question m : List ℕ) → Bytes question → Bytes m → query-code question ≡ 0 → graph-code m ≡ 0
-    → (q : Query) × QueryLegal 256 q × (query.encode q ≡ question)
-    × (QueryFits (graph-of m) q → (sheet-before sheet : List ℕ) (fused : ℕ) (before after : List ℕ) (number : ℕ) → Called question m sheet-before sheet fused before after number
-    → 560 ≤ length sheet-before → answer-size (at16 m 5) (query-kind q) ≤ length before → Answers q m before after number)
-answers question m bq bm zq zm =
-    let r = query-reader.read-sound question bq zq in
+pub answers : (s m : List ℕ) → Bytes s → Bytes m → query-code s ≡ 0 → graph-code m ≡ 0
+    → (q : Query) × QueryLegal 256 q × (query.encode q ≡ s)
+    × (QueryFits (graph-of m) q → (plan-before plan-after : List ℕ) (fused : ℕ) (before after : List ℕ) (number : ℕ) → Called s m plan-before plan-after fused before after number
+    → 560 ≤ length plan-before → answer-size (at16 m 5) (query-kind q) ≤ length before → Answers q m before after number)
+answers s m bq bm zq zm =
+    let r = query-reader.read-sound s bq zq in
     let q = r .0 in (
       q,
       r .1,
       r .2,
-      λ starts sheet-before sheet fused before after number c room long.
-          answers-legal q (r .1) m bm zm starts sheet-before sheet fused before after number
-          (subst (λ (s : List ℕ). Called s m sheet-before sheet fused before after number) (sym (r .2)) c) room (rw (answer-long q (r .1) m bm zm starts) long),
+      λ starts plan-before plan-after fused before after number c room long.
+          answers-legal q (r .1) m bm zm starts plan-before plan-after fused before after number
+          (subst (λ (bs : List ℕ). Called bs m plan-before plan-after fused before after number) (sym (r .2)) c) room (rw (answer-long q (r .1) m bm zm starts) long),
     )

@@ -8,16 +8,16 @@ ghost use Rattle.wire.specs.Wire.{reply-number, reply-buffer};
 
 // A question is fused into a worksheet.
 #[no_mangle]
-pub extern "C" fn fuse(question: &[u8], out: &mut [u8]) -> u32
-    ensures { λ r. ⌜ (r ≡ reply-number (fuse-reply (now (question .entry)) (length (now (out .entry))))) × (now (out .exit) ≡ reply-buffer (fuse-reply (now (question .entry)) (length (now (out .entry)))) (now (out .entry))) ⌝ }
+pub extern "C" fn fuse(query: &[u8], out: &mut [u8]) -> u32
+    ensures { λ r. ⌜ (r ≡ reply-number (fuse-reply (now (query .entry)) (length (now (out .entry))))) × (now (out .exit) ≡ reply-buffer (fuse-reply (now (query .entry)) (length (now (out .entry)))) (now (out .entry))) ⌝ }
 {
-    fusion::fuse(question, out)
+    fusion::fuse(query, out)
 }
 
 // A worksheet is run on a map, by push: the faster way, and the same bytes as by pull.
 #[no_mangle]
-pub extern "C" fn run(worksheet: &[u8], map: &[u8], out: &mut [u8]) -> u32
-    ensures { λ r. ⌜ (r ≡ reply-number (run-reply none (now (worksheet .entry)) (now (map .entry)) (length (now (out .entry))))) × (now (out .exit) ≡ reply-buffer (run-reply none (now (worksheet .entry)) (now (map .entry)) (length (now (out .entry)))) (now (out .entry))) ⌝ }
+pub extern "C" fn run(plan: &[u8], graph: &[u8], out: &mut [u8]) -> u32
+    ensures { λ r. ⌜ (r ≡ reply-number (run-reply none (now (plan .entry)) (now (graph .entry)) (length (now (out .entry))))) × (now (out .exit) ≡ reply-buffer (run-reply none (now (plan .entry)) (now (graph .entry)) (length (now (out .entry)))) (now (out .entry))) ⌝ }
 {
-    engine::push(worksheet, map, out)
+    engine::push(plan, graph, out)
 }

@@ -100,9 +100,9 @@ fn print_answer(answer: &[u8])
 }
 
 // No answer is longer than 2,314 bytes (`size-most` of crate answer): 15 does not occur.
-fn run(worksheet: &[u8], map: &[u8]) {
+fn run(plan: &[u8], graph: &[u8]) {
     let mut answer = [0u8; 2314];
-    let done = engine::pull(worksheet, map, &mut answer);
+    let done = engine::pull(plan, graph, &mut answer);
     if REFUSAL <= done {
         line(b"refused ", (done - REFUSAL) as u64);
         return;
@@ -111,15 +111,15 @@ fn run(worksheet: &[u8], map: &[u8]) {
 }
 
 // No worksheet is longer than 560 bytes (`fuse-fits` of crate fusion): 15 does not occur here either.
-fn answer(question: &[u8], map: &[u8]) {
-    let mut worksheet = [0u8; 560];
-    let done = fusion::fuse(question, &mut worksheet);
+fn answer(query: &[u8], graph: &[u8]) {
+    let mut plan = [0u8; 560];
+    let done = fusion::fuse(query, &mut plan);
     if REFUSAL <= done {
         line(b"refused ", (done - REFUSAL) as u64);
         return;
     }
     let len = wire::lesser(done as usize, 560);
-    run(&worksheet[..len], map);
+    run(&plan[..len], graph);
 }
 
 // A longer file is answered as its first bytes are (crate first_bytes, `long-question` and `long-map`):
@@ -127,9 +127,9 @@ fn answer(question: &[u8], map: &[u8]) {
 //   65th term (12) or as left over (6), if nothing before it is refused.
 // - a map as 8,202 or more: none is longer than 9 + 8 * 1,024, so one with a byte more is refused by its head or for its length (6).
 fn main() {
-    let mut question = io::buffer();
-    let n = load(b"question.lpq", &mut question);
-    let mut map = io::large_buffer();
-    let m = load(b"map.lpm", &mut map);
-    answer(&question[..n], &map[..m]);
+    let mut query = io::buffer();
+    let n = load(b"question.lpq", &mut query);
+    let mut graph = io::large_buffer();
+    let m = load(b"map.lpm", &mut graph);
+    answer(&query[..n], &graph[..m]);
 }

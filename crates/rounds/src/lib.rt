@@ -25,50 +25,50 @@ fn wide(x: u32) -> u64
 }
 
 // Path reduction j has the numbers from 1,024 * j on, four for each vertex.
-fn start_at(word: u64, map: &[u8], j: usize, figures: &mut [u32])
-    requires { ⌜ (graph-code (now map) ≡ 0) × (j < 8) × (length (now figures) ≡ 8192) ⌝ }
-    ensures { λ _. ⌜ now (figures .exit) ≡ started-at (now (map .entry)) word j (now (figures .entry)) ⌝ }
+fn start_at(word: u64, graph: &[u8], j: usize, figures: &mut [u32])
+    requires { ⌜ (graph-code (now graph) ≡ 0) × (j < 8) × (length (now figures) ≡ 8192) ⌝ }
+    ensures { λ _. ⌜ now (figures .exit) ≡ started-at (now (graph .entry)) word j (now (figures .entry)) ⌝ }
 {
-    let n = cells::vertices(map);
+    let n = cells::vertices(graph);
     let a = 1024 * j;
     let e = a + 4 * n;
     cells::start(word, n, &mut figures[a..e])
 }
 
-fn start_all(map: &[u8], paths: usize, table: [u64; 8], figures: &mut [u32])
-    requires { ⌜ (graph-code (now map) ≡ 0) × (paths ≤ 8) × (length (now figures) ≡ 8192) ⌝ }
-    ensures { λ _. ⌜ now (figures .exit) ≡ started-upto (now (map .entry)) table (now (figures .entry)) paths ⌝ }
+fn start_all(graph: &[u8], paths: usize, table: [u64; 8], figures: &mut [u32])
+    requires { ⌜ (graph-code (now graph) ≡ 0) × (paths ≤ 8) × (length (now figures) ≡ 8192) ⌝ }
+    ensures { λ _. ⌜ now (figures .exit) ≡ started-upto (now (graph .entry)) table (now (figures .entry)) paths ⌝ }
 {
     let mut j: usize = 0;
     while j < paths {
         let word = table[j];
-        start_at(word, map, j, figures);
+        start_at(word, graph, j, figures);
         j += 1;
     }
 }
 
 fn step_at(
     word: u64,
-    map: &[u8],
+    graph: &[u8],
     j: usize,
     since: u32,
     stamp: u32,
     figures: &mut [u32],
     work: &mut [u32],
 ) -> bool
-    requires { ⌜ (graph-code (now map) ≡ 0) × (j < 8) × (length (now figures) ≡ 8192) × (length (now work) ≡ 4 * at16 (now map) 5) ⌝ }
-    ensures { λ r. ⌜ (r ≡ step-takes (now (map .entry)) word j since stamp (now (figures .entry))) × (now (figures .exit) ≡ stepped (now (map .entry)) word j since stamp (now (figures .entry))) ⌝ }
+    requires { ⌜ (graph-code (now graph) ≡ 0) × (j < 8) × (length (now figures) ≡ 8192) × (length (now work) ≡ 4 * at16 (now graph) 5) ⌝ }
+    ensures { λ r. ⌜ (r ≡ step-takes (now (graph .entry)) word j since stamp (now (figures .entry))) × (now (figures .exit) ≡ stepped (now (graph .entry)) word j since stamp (now (figures .entry))) ⌝ }
 {
-    let n = cells::vertices(map);
+    let n = cells::vertices(graph);
     let from = 1024 * j;
     let end = from + 4 * n;
-    cells::step(word, map, since, stamp, &mut figures[from..end], work)
+    cells::step(word, graph, since, stamp, &mut figures[from..end], work)
 }
 
 // A round of path reduction j; one that is quiet rests: it stays as it is.
 fn turn(
     word: u64,
-    map: &[u8],
+    graph: &[u8],
     j: usize,
     since: u32,
     stamp: u32,
@@ -76,13 +76,13 @@ fn turn(
     figures: &mut [u32],
     work: &mut [u32],
 ) -> bool
-    requires { ⌜ (graph-code (now map) ≡ 0) × (j < 8) × (length (now rest) ≡ 8) × (length (now figures) ≡ 8192) × (length (now work) ≡ 4 * at16 (now map) 5) ⌝ }
-    ensures { λ r. ⌜ (r ≡ turned (now (map .entry)) word j since stamp (now (rest .entry)) (now (figures .entry)) .changed) × (now (rest .exit) ≡ turned (now (map .entry)) word j since stamp (now (rest .entry)) (now (figures .entry)) .rest) × (now (figures .exit) ≡ turned (now (map .entry)) word j since stamp (now (rest .entry)) (now (figures .entry)) .figures) ⌝ }
+    requires { ⌜ (graph-code (now graph) ≡ 0) × (j < 8) × (length (now rest) ≡ 8) × (length (now figures) ≡ 8192) × (length (now work) ≡ 4 * at16 (now graph) 5) ⌝ }
+    ensures { λ r. ⌜ (r ≡ turned (now (graph .entry)) word j since stamp (now (rest .entry)) (now (figures .entry)) .changed) × (now (rest .exit) ≡ turned (now (graph .entry)) word j since stamp (now (rest .entry)) (now (figures .entry)) .rest) × (now (figures .exit) ≡ turned (now (graph .entry)) word j since stamp (now (rest .entry)) (now (figures .entry)) .figures) ⌝ }
 {
     if rest[j] == 1 {
         return false;
     }
-    if step_at(word, map, j, since, stamp, figures, work) {
+    if step_at(word, graph, j, since, stamp, figures, work) {
         return true;
     }
     rest[j] = 1;
@@ -91,7 +91,7 @@ fn turn(
 
 // A round of all path reductions. Whether any changed.
 fn round(
-    map: &[u8],
+    graph: &[u8],
     paths: usize,
     table: [u64; 8],
     since: u32,
@@ -100,14 +100,14 @@ fn round(
     figures: &mut [u32],
     work: &mut [u32],
 ) -> bool
-    requires { ⌜ (graph-code (now map) ≡ 0) × (paths ≤ 8) × (length (now rest) ≡ 8) × (length (now figures) ≡ 8192) × (length (now work) ≡ 4 * at16 (now map) 5) ⌝ }
-    ensures { λ r. ⌜ (r ≡ turned-upto (now (map .entry)) table since stamp (now (rest .entry)) (now (figures .entry)) paths .changed) × (now (rest .exit) ≡ turned-upto (now (map .entry)) table since stamp (now (rest .entry)) (now (figures .entry)) paths .rest) × (now (figures .exit) ≡ turned-upto (now (map .entry)) table since stamp (now (rest .entry)) (now (figures .entry)) paths .figures) ⌝ }
+    requires { ⌜ (graph-code (now graph) ≡ 0) × (paths ≤ 8) × (length (now rest) ≡ 8) × (length (now figures) ≡ 8192) × (length (now work) ≡ 4 * at16 (now graph) 5) ⌝ }
+    ensures { λ r. ⌜ (r ≡ turned-upto (now (graph .entry)) table since stamp (now (rest .entry)) (now (figures .entry)) paths .changed) × (now (rest .exit) ≡ turned-upto (now (graph .entry)) table since stamp (now (rest .entry)) (now (figures .entry)) paths .rest) × (now (figures .exit) ≡ turned-upto (now (graph .entry)) table since stamp (now (rest .entry)) (now (figures .entry)) paths .figures) ⌝ }
 {
     let mut changed = false;
     let mut j: usize = 0;
     while j < paths {
         let word = table[j];
-        let moved = turn(word, map, j, since, stamp, rest, figures, work);
+        let moved = turn(word, graph, j, since, stamp, rest, figures, work);
         changed = either(changed, moved);
         j += 1;
     }
@@ -133,7 +133,7 @@ fn stamp_of(r: u16) -> u32
 // Rounds until one changes nothing, at most `limit`. How many.
 fn rounds(
     push: bool,
-    map: &[u8],
+    graph: &[u8],
     paths: usize,
     table: [u64; 8],
     limit: u16,
@@ -141,13 +141,13 @@ fn rounds(
     figures: &mut [u32],
     work: &mut [u32],
 ) -> u16
-    requires { ⌜ (graph-code (now map) ≡ 0) × (paths ≤ 8) × (length (now rest) ≡ 8) × (length (now figures) ≡ 8192) × (length (now work) ≡ 4 * at16 (now map) 5) ⌝ }
-    ensures { λ r. ⌜ (r ≡ rounds-from push (now (map .entry)) paths table limit 0 (now (rest .entry)) (now (figures .entry)) .count) × (now (figures .exit) ≡ rounds-from push (now (map .entry)) paths table limit 0 (now (rest .entry)) (now (figures .entry)) .figures) ⌝ }
+    requires { ⌜ (graph-code (now graph) ≡ 0) × (paths ≤ 8) × (length (now rest) ≡ 8) × (length (now figures) ≡ 8192) × (length (now work) ≡ 4 * at16 (now graph) 5) ⌝ }
+    ensures { λ r. ⌜ (r ≡ rounds-from push (now (graph .entry)) paths table limit 0 (now (rest .entry)) (now (figures .entry)) .count) × (now (figures .exit) ≡ rounds-from push (now (graph .entry)) paths table limit 0 (now (rest .entry)) (now (figures .entry)) .figures) ⌝ }
 {
     let mut r: u16 = 0;
     while r < limit {
         let changed = round(
-            map,
+            graph,
             paths,
             table,
             least_stamp(push, r),
@@ -168,22 +168,22 @@ fn rounds(
 // rounds; the figures reached are left in the table.
 pub fn run(
     push: bool,
-    map: &[u8],
+    graph: &[u8],
     paths: usize,
     table: [u64; 8],
     limit: u16,
     figures: &mut [u32],
 ) -> u16
-    requires { ⌜ (graph-code (now map) ≡ 0) × (paths ≤ 8) × (length (now figures) ≡ 8192) ⌝ }
-    ensures { λ r. ⌜ (r ≡ ran push (now (map .entry)) paths table limit (now (figures .entry)) .count) × (now (figures .exit) ≡ ran push (now (map .entry)) paths table limit (now (figures .entry)) .figures) ⌝ }
+    requires { ⌜ (graph-code (now graph) ≡ 0) × (paths ≤ 8) × (length (now figures) ≡ 8192) ⌝ }
+    ensures { λ r. ⌜ (r ≡ ran push (now (graph .entry)) paths table limit (now (figures .entry)) .count) × (now (figures .exit) ≡ ran push (now (graph .entry)) paths table limit (now (figures .entry)) .figures) ⌝ }
 {
     let mut rest = [0u8; 8];
     let mut buffer = [0u32; 1024];
-    let w = 4 * cells::vertices(map);
-    start_all(map, paths, table, figures);
+    let w = 4 * cells::vertices(graph);
+    start_all(graph, paths, table, figures);
     rounds(
         push,
-        map,
+        graph,
         paths,
         table,
         limit,

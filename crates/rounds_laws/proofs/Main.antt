@@ -3,18 +3,18 @@ use Prim.Native.Nat.{ℕ, zero, suc, _+_, _-_, _*_, _≤_, _<_}
 use mathlib.Core.Path.{_≡_, refl, sym, ap, _∙_, subst}
 use mathlib.Core.Logic.{inl, inr}
 use mathlib.Core.Bool.{Bool, true, false}
-use mathlib.Core.List.{List, [], _∷_, _++_, map}
+use mathlib.Core.List.{List, [], _∷_, map}
 use mathlib.Core.Option.{Option}
 use native.Mathlib.Omega.{arith}
 use native.Mathlib.Nat.{not-suc-le-zero, le-of-suc-le-suc}
 use lib.Dec.{T}
 use lib.ListN.{length, getD, take, length-map}
-use lib.Seq.{getD-take, length-take-le, take-at}
+use lib.Seq.{getD-take, length-take-le}
 use Rattle.value.specs.declared.Value.{Value}
 use Rattle.value.specs.declared.Value.the-variants.{Absent}
 use Rattle.walks.specs.Lists.{All}
 use Rattle.walks.specs.Meaning.{Figures, value}
-use Rattle.walks.specs.Rounds.{State, quiet, rounds, unchanged}
+use Rattle.walks.specs.Rounds.{State, rounds, unchanged}
 use Rattle.walks.specs.Walks.{AllTo, Graph, Within}
 use Rattle.walks.proofs.Push.{push-state}
 use Rattle.walks.proofs.Quiet.{quiet-same}
@@ -24,7 +24,7 @@ use Rattle.meaning.specs.Limits.{GraphFits, PathFits}
 use Rattle.meaning.specs.Meaning.{Smallest}
 use Rattle.meaning.specs.Plan.{Plan}
 use Rattle.meaning.specs.Query.{network-of}
-use Rattle.meaning.specs.Run.{pull, push, run-rounds, values-at}
+use Rattle.meaning.specs.Run.{pull, run-rounds, values-at}
 use Rattle.meaning.proofs.Lists.{all-at, all-unmapped, all-weaken, map-same}
 use Rattle.meaning.proofs.Rounds.{path-in-order, rounds-at-most, rounds-final, rounds-go-on, rounds-smallest, rounds-stop}
 use Rattle.wire.specs.Wire.{Bytes, at16}
@@ -48,29 +48,24 @@ map-at f (x ∷ l) (suc j) d e h = map-at f l j d e (le-of-suc-le-suc h)
 -- A PLAN IN CODE: an accepted map, and path reductions legal on it with their numbers in the first `paths` of a table of eight
 pub record Ready (s : List ℕ) (p : Plan) (paths : ℕ) (table : List ℕ) : Type 0 where
   pub bytes : Bytes s
-  pub accepted-map : graph-code s ≡ 0
+  pub accepted-graph : graph-code s ≡ 0
   pub legal : All (PathFits (at16 s 5)) (p .paths)
   pub few : paths ≤ 8
   pub eight : length table ≡ 8
   pub named : take paths table ≡ map path-number (p .paths)
-
--- as a reader of plans leaves it
-pub named-first : (p : Plan) (paths : ℕ) (table rest : List ℕ) → paths ≡ length (p .paths) → table ≡ map path-number (p .paths) ++ rest
-    → take paths table ≡ map path-number (p .paths)
-named-first p paths table rest e f = ap (take paths) f ∙ take-at (map path-number (p .paths)) rest paths (length-map (p .paths) path-number ∙ sym e)
 
 module _ (s : List ℕ) (p : Plan) (paths : ℕ) (table : List ℕ) (ready : Ready s p paths table) where
   abbrev g : Graph
   g = graph-of s
 
   fits : GraphFits g
-  fits = read-sound s (ready .bytes) (ready .accepted-map) .0 .fits
+  fits = read-sound s (ready .bytes) (ready .accepted-graph) .0 .fits
 
   pub paths-count : paths ≡ length (p .paths)
   paths-count = sym (length-take-le paths table (omega (arith, ready .few, ready .eight))) ∙ ap length (ready .named) ∙ length-map (p .paths) path-number
 
   given : (j : ℕ) → j < length (p .paths) → Given s (nth (p .paths) j)
-  given j h = record { bytes = ready .bytes; accepted = ready .accepted-map; fits = all-at (PathFits (at16 s 5)) (p .paths) j blank (ready .legal) h }
+  given j h = record { bytes = ready .bytes; accepted = ready .accepted-graph; fits = all-at (PathFits (at16 s 5)) (p .paths) j blank (ready .legal) h }
 
   plans : Plans s (p .paths) table
   plans = record {
@@ -102,7 +97,7 @@ module _ (s : List ℕ) (p : Plan) (paths : ℕ) (table : List ℕ) (ready : Rea
     shown : Shown by-push s (p .paths) table plans limit R
     shown =
         subst (λ (k : ℕ). Shown by-push s (p .paths) table plans limit (ran by-push s k table limit l)) (sym paths-count)
-        (ran-shown s (ready .accepted-map) (p .paths) table plans l long by-push limit (omega arith))
+        (ran-shown s (ready .accepted-graph) (p .paths) table plans l long by-push limit (omega arith))
 
     -- never more rounds than the number given
     pub run-within : ran by-push s paths table limit l .count ≤ limit
@@ -141,7 +136,7 @@ module _ (s : List ℕ) (p : Plan) (paths : ℕ) (table : List ℕ) (ready : Rea
         → value-in (R .figures) j v ≡ getD (values-at (way by-push g) (p .paths) r v) j Absent
     value-of j h v k r e =
         let c = nth (p .paths) j in
-        value-part s (R .figures) (omega (arith, accepted s (ready .accepted-map) .sizes .few-vertices)) (shown .long) j v (omega (arith, ready .few, paths-count)) k
+        value-part s (R .figures) (omega (arith, accepted s (ready .accepted-graph) .sizes .few-vertices)) (shown .long) j v (omega (arith, ready .few, paths-count)) k
         ∙ ap value e
         ∙ value-pad (c .keys) (path-few s c (given j h)) (pull g c r v) (path-sized s c (given j h) r v)
         ∙ sym (map-at (λ d. value (pull g d r v)) (p .paths) j blank Absent h)

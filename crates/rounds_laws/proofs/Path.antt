@@ -11,7 +11,7 @@ use lib.Dec.{T, leb, eqb}
 use lib.ListN.{length}
 use Rattle.walks.specs.Keys.{in-order}
 use Rattle.walks.specs.Lists.{All}
-use Rattle.walks.specs.Rounds.{State, brings, gather, reached, same, state, through, unchanged}
+use Rattle.walks.specs.Rounds.{State, brings, gather, reached, same, through, unchanged}
 use Rattle.walks.specs.Walks.{Edge, Fits, Network}
 use Rattle.walks.proofs.Bounds.{state-bound, state-length}
 use Rattle.walks.proofs.Push.{fresh}

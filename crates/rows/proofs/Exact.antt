@@ -38,12 +38,12 @@ module _ (cs : List PathReduction) (F : ℕ → List Row) (n : ℕ) where
   read-same (each-vertex t) l = refl
   read-same (one-result es t) l =
       let s : List ℕ = text (one-result es t) in
-      let place : ℕ = 7 + 6 * length cs in
+      let at-count : ℕ = 7 + 6 * length cs in
       let rest : List ℕ = entries-bytes es ++ expression-bytes 3 t in
-      let there : drop place s ≡ length es ∷ rest = drop-on s 7 (6 * length cs) (rows-bytes cs) (length es ∷ rest) refl (rows-size cs) in
-      let count = tag-there s place (length es) rest there in
-      let uncut : min (getD s place 0) 8 ≡ getD s place 0 = omega (arith, count, l .0) in
-      ap (λ (e : ℕ). row (final-found e s (place + 1) F n) ∷ []) uncut
+      let there : drop at-count s ≡ length es ∷ rest = drop-on s 7 (6 * length cs) (rows-bytes cs) (length es ∷ rest) refl (rows-size cs) in
+      let count = tag-there s at-count (length es) rest there in
+      let uncut : min (getD s at-count 0) 8 ≡ getD s at-count 0 = omega (arith, count, l .0) in
+      ap (λ (e : ℕ). row (final-found e s (at-count + 1) F n) ∷ []) uncut
 
 pub legal-read : (p : Plan) (m : ℕ) → PlanLegal m p → (F : ℕ → List Row) (n : ℕ) → body-read (encode p) F n ≡ body-found (encode p) F n
 legal-read p m legal F n = read-same (p .paths) F n (p .body) (legal .body-legal)

@@ -11,7 +11,7 @@ use Rattle.value.specs.declared.Value.{Value}
 use Rattle.value.specs.declared.Value.the-variants.{Absent}
 use Rattle.value.specs.Value.{reduce, values}
 use Rattle.eval.specs.Eval.{evaluated}
-use Rattle.eval.specs.Body.{count-place, eight, entries-end, entry-rows, expression-end, results, row}
+use Rattle.eval.specs.Body.{count-at, eight, entries-end, entry-rows, expression-end, results, row}
 use Rattle.eval.proofs.Fill.{filled, fill-front}
 use Rattle.rounds.specs.Run.{value-in}
 use Rattle.rows.specs.Rows.{body-read, final-found, many, rows-at}
@@ -40,14 +40,14 @@ entry-row s F at v = row (evaluated 16 s (F v) at .value)
 
 -- where entry k starts, the first at `at`
 module _ (s : List ℕ) where
-  pub place-none : (at : ℕ) → at ≡ entries-end 0 s at
+  pub end-none : (at : ℕ) → at ≡ entries-end 0 s at
   unfolding entries-end
-  place-none at = refl
+  end-none at = refl
 
-  pub place-next : (k at : ℕ) → expression-end s (entries-end k s at + 1) ≡ entries-end (suc k) s at
+  pub end-next : (k at : ℕ) → expression-end s (entries-end k s at + 1) ≡ entries-end (suc k) s at
   unfolding entries-end
-  place-next zero at = refl
-  place-next (suc k) at = place-next k (expression-end s (at + 1))
+  end-next zero at = refl
+  end-next (suc k) at = end-next k (expression-end s (at + 1))
 
 module _ (s : List ℕ) (F : ℕ → List Row) (n : ℕ) where
   pub entry-filled : (at : ℕ) → many (entry-rows s at F n) ≡ filled 256 (entry-row s F at) (row Absent) n
@@ -69,18 +69,18 @@ module _ (s : List ℕ) (F : ℕ → List Row) (n : ℕ) where
   unfolding results
   results-from at zero i = refl
   results-from at (suc k) i =
-      ap (λ (l : List Value). result-at (entries-end i s at) ∷ l) (ap (λ (c : ℕ). results k s c F n) (place-next s i at) ∙ results-from at k (suc i))
+      ap (λ (l : List Value). result-at (entries-end i s at) ∷ l) (ap (λ (c : ℕ). results k s c F n) (end-next s i at) ∙ results-from at k (suc i))
 
   pub results-filled : (at k : ℕ) → eight (results k s at F n) ≡ filled 8 (result-row at) (row Absent) k
   results-filled at k =
-      ap eight (ap (λ (c : ℕ). results k s c F n) (place-none s at) ∙ results-from at k zero)
+      ap eight (ap (λ (c : ℕ). results k s c F n) (end-none s at) ∙ results-from at k zero)
       ∙ eight-filled (λ j. result-at (entries-end j s at)) k
 
   -- the body by its kind
-  pub body-each : getD s 5 0 ≡ 0 → body-read s F n ≡ entry-rows s (count-place s + 2) F n
+  pub body-each : getD s 5 0 ≡ 0 → body-read s F n ≡ entry-rows s (count-at s + 2) F n
   unfolding body-read
   body-each e = rw (eq-eqb (getD s 5 0) 0 e) refl
 
-  pub body-one : (getD s 5 0 ≡ 0 → ⊥) → body-read s F n ≡ row (final-found (min (getD s (count-place s) 0) 8) s (count-place s + 1) F n) ∷ []
+  pub body-one : (getD s 5 0 ≡ 0 → ⊥) → body-read s F n ≡ row (final-found (min (getD s (count-at s) 0) 8) s (count-at s + 1) F n) ∷ []
   unfolding body-read
   body-one h = rw (ne-eqb (getD s 5 0) 0 h) refl

@@ -10,7 +10,7 @@ use Rattle.value.specs.declared.Row.{Row}
 use Rattle.value.specs.declared.Value.{Value}
 use Rattle.value.specs.declared.Value.the-variants.{Absent}
 use Rattle.eval.specs.Eval.{evaluated}
-use Rattle.eval.specs.Body.{count-place, eight, entries-end, entry-rows, results, row}
+use Rattle.eval.specs.Body.{count-at, eight, entries-end, entry-rows, results, row}
 use Rattle.rounds.specs.Run.{value-in}
 
 -- the values of the path reductions at the vertex v, as eight rows
@@ -28,7 +28,7 @@ final-found k s at F n = evaluated 16 s (eight (results k s at F n)) (entries-en
 -- the rows of the body as in `body-found` (eval), for any bytes: "e from 0 to 8", a larger count is cut
 unfoldable pub body-read : List ℕ → (ℕ → List Row) → ℕ → List Row
 body-read s F n =
-    let at = count-place s in
+    let at = count-at s in
     cond (eqb (getD s 5 0) 0) (entry-rows s (at + 2) F n) (row (final-found (min (getD s at 0) 8) s (at + 1) F n) ∷ [])
 
 -- how many of them are rows of the answer: kind 0 has one for each of the n vertices, kind 1 has "one row"

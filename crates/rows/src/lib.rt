@@ -7,7 +7,7 @@ ghost use mathlib.Core.List.{_∷_, []};
 ghost use Prim.Native.Nat.{_+_, _≤_, min};
 ghost use lib.ListN.{length, getD};
 ghost use Rattle.value.specs.Value.{reduce, values};
-ghost use Rattle.eval.specs.Body.{count-place, eight, entries-end, entry-rows, results, row};
+ghost use Rattle.eval.specs.Body.{count-at, eight, entries-end, entry-rows, results, row};
 ghost use Rattle.rows.specs.Rows.{body-read, final-found, many, rows-at};
 
 // The results of the entries, and where the entries end.
@@ -29,8 +29,8 @@ fn wide(b: u8) -> usize
 }
 
 // Where the entry count stands.
-fn place_of(plan: &[u8]) -> usize
-    ensures { λ r. ⌜ (r ≡ count-place (now (plan .entry))) × (r ≤ 1537) ⌝ }
+fn count_at(plan: &[u8]) -> usize
+    ensures { λ r. ⌜ (r ≡ count-at (now (plan .entry))) × (r ≤ 1537) ⌝ }
 {
     7 + 6 * wide(wire::byte(plan, 6))
 }
@@ -92,17 +92,17 @@ fn results_of(plan: &[u8], at: usize, figures: &[u32], paths: usize, n: usize, e
         value: Value::Absent,
     };
     let mut rows = [absent; 8];
-    let mut place = at;
+    let mut next = at;
     let mut k: usize = 0;
     while k < e {
         let one = Row {
-            value: result_of(plan, place, figures, paths, n),
+            value: result_of(plan, next, figures, paths, n),
         };
         rows[k] = one;
-        place = eval::expression_end(plan, place + 1);
+        next = eval::expression_end(plan, next + 1);
         k += 1;
     }
-    Results { rows, end: place }
+    Results { rows, end: next }
 }
 
 // The final expression over the results of the e entries from `at` on.
@@ -133,7 +133,7 @@ pub fn body_rows(plan: &[u8], figures: &[u32], paths: usize, n: usize) -> [Row; 
     ensures { λ r. ⌜ r ≡ many (body-read (now (plan .entry)) (rows-at (now (figures .entry)) paths) (min n 256)) ⌝ }
 {
     let count = at_most(n, 256);
-    let at = place_of(plan);
+    let at = count_at(plan);
     if wire::byte(plan, 5) == 0 {
         return entry_rows(plan, at + 2, figures, paths, count);
     }

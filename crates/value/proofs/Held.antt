@@ -1,6 +1,6 @@
 -- Every value that an operator or a reduction gives of machine numbers is one. Assumes nothing.
 use Prim.Native.Nat.{ℕ, _+_, _-_, _*_, _/_, _^_, _<_, min, max}
-use mathlib.Core.Path.{_≡_, refl, sym, subst}
+use mathlib.Core.Path.{_≡_, refl}
 use mathlib.Core.Bool.{Bool, true, false, cond, _&&_, _||_}
 use mathlib.Core.List.{List, [], _∷_, foldr}
 use native.Mathlib.Omega.{arith}
@@ -9,7 +9,7 @@ use borrow.Author.Tests.{ltb-true}
 use lib.Dec.{leb, ltb, eqb}
 use Rattle.value.specs.declared.Value.{Value}
 use Rattle.value.specs.declared.Value.the-variants.{Absent, Number}
-use Rattle.value.specs.Value.{number, truth, holds, both, either, compute, operate, present, combine, reduce}
+use Rattle.value.specs.Value.{number, truth, holds, compute, operate, present, combine, reduce}
 
 -- "Numbers go to 2^64 − 1"
 abbrev pub Held : Value → Type 0

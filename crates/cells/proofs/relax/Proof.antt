@@ -31,11 +31,11 @@ to-at-requires c κs = search needs
 mul-t : tie.Need-mul-t
 mul-t c = search needs
 
-weight-at-requires : tie.Need-weight-at-requires
-weight-at-requires c κs = search needs
+field-at-requires : tie.Need-field-at-requires
+field-at-requires c κs = search needs
 
-capacity-at-requires : tie.Need-capacity-at-requires
-capacity-at-requires c κs = search needs
+field-at-requires-2 : tie.Need-field-at-requires-2
+field-at-requires-2 c κs = search needs
 
 beats-requires : tie.Need-beats-requires
 beats-requires c κs = search needs
@@ -45,7 +45,7 @@ same-length c = search needs
 
 returns-2 : tie.Need-returns-2
 unfolding taken relaxed
-returns-2 c = rw (← (c .before .before .before .before .before .before .before .before .from-at .ensures .0), ← (c .before .before .before .before .before .to-at .ensures .0), ← (c .before .before .before .before .weight-at .ensures .0), ← (c .before .before .before .capacity-at .ensures .0), le-ltb _ _ (c .before .before .before .before .before .before .if1 .left), ← (c .before .beats .ensures), not-true (c .before .beats .result) (c .if2 .taken)) (refl, refl)
+returns-2 c = rw (← (c .before .before .before .before .before .before .before .before .from-at .ensures .0), ← (c .before .before .before .before .before .to-at .ensures .0), ← (c .before .before .before .before .field-at .ensures .0), ← (c .before .before .before .field-at2 .ensures .0), le-ltb _ _ (c .before .before .before .before .before .before .if1 .left), ← (c .before .beats .ensures), not-true (c .before .beats .result) (c .if2 .taken)) (refl, refl)
 
 brought-requires : tie.Need-brought-requires
 brought-requires c κs = search needs
@@ -58,7 +58,7 @@ same-length-2 c = search needs
 
 returns-3 : tie.Need-returns-3
 unfolding taken relaxed
-returns-3 c = rw (← (c .before .before .before .before .before .before .before .before .before .before .before .before .before .from-at .ensures .0), ← (c .before .before .before .before .before .before .before .before .before .before .to-at .ensures .0), ← (c .before .before .before .before .before .before .before .before .before .weight-at .ensures .0), ← (c .before .before .before .before .before .before .before .before .capacity-at .ensures .0), le-ltb _ _ (c .before .before .before .before .before .before .before .before .before .before .before .if1 .left), ← (c .before .before .before .before .before .before .beats .ensures), not-false (c .before .before .before .before .before .before .beats .result) (c .before .before .before .before .before .if2 .left), ← (c .before .before .before .before .brought .ensures)) (refl, c .before .before .put-cell .ensures)
+returns-3 c = rw (← (c .before .before .before .before .before .before .before .before .before .before .before .before .before .from-at .ensures .0), ← (c .before .before .before .before .before .before .before .before .before .before .to-at .ensures .0), ← (c .before .before .before .before .before .before .before .before .before .field-at .ensures .0), ← (c .before .before .before .before .before .before .before .before .field-at2 .ensures .0), le-ltb _ _ (c .before .before .before .before .before .before .before .before .before .before .before .if1 .left), ← (c .before .before .before .before .before .before .beats .ensures), not-false (c .before .before .before .before .before .before .beats .result) (c .before .before .before .before .before .if2 .left), ← (c .before .before .before .before .brought .ensures)) (refl, c .before .before .put-cell .ensures)
 
 pub relax-spec : {M : Type 1} → statement M
 relax-spec =
@@ -72,8 +72,8 @@ relax-spec =
     returns
     to-at-requires
     mul-t
-    weight-at-requires
-    capacity-at-requires
+    field-at-requires
+    field-at-requires-2
     beats-requires
     same-length
     returns-2

@@ -10,10 +10,10 @@ use Rattle.cells.proofs.relax_all.Statement.{statement}
 use Rattle.cells.proofs.relax_all.Tie as tie
 
 abbrev Inv-loop : tie.InvT-loop
-Inv-loop keys map since stamp old new₀ m changed₀ i₀ new changed i = (i ≤ m) × (length new ≡ 4 * at16 map 5) × (new ≡ relaxed-upto keys map since stamp old i) × (changed ≡ taken-upto keys map since stamp old i)
+Inv-loop keys graph since stamp old new₀ m changed₀ i₀ new changed i = (i ≤ m) × (length new ≡ 4 * at16 graph 5) × (new ≡ relaxed-upto keys graph since stamp old i) × (changed ≡ taken-upto keys graph since stamp old i)
 
 abbrev μ-loop : tie.MeasureT-loop
-μ-loop keys map since stamp old new₀ m changed₀ i₀ new changed i = m - i
+μ-loop keys graph since stamp old new₀ m changed₀ i₀ new changed i = m - i
 
 edges-requires : tie.Need-edges-requires Inv-loop μ-loop
 edges-requires c κs = c .before .before .before .pre .0
@@ -49,7 +49,7 @@ same-length : tie.Need-same-length Inv-loop μ-loop
 same-length c = let s = c .before .before .before .before .before .before in c .before .loop .inv .1 ∙ sym (ap length (s .pre .2) ∙ s .pre .1)
 
 returns : tie.Need-returns Inv-loop μ-loop
-returns c = let l = c .before .loop in let e : l .i ≡ at16 (c .before .before .before .before .before .before .args .map .now) 7 = omega (arith, c .before .before .edges .ensures .0) in (rw (← e) (l .inv .3), rw (← e) (l .inv .2))
+returns c = let l = c .before .loop in let e : l .i ≡ at16 (c .before .before .before .before .before .before .args .graph .now) 7 = omega (arith, c .before .before .edges .ensures .0) in (rw (← e) (l .inv .3), rw (← e) (l .inv .2))
 
 pub relax-all-spec : {M : Type 1} → statement M
 relax-all-spec =

@@ -28,7 +28,7 @@ returns : tie.Need-returns
 returns c =
     let a = c .before .before .before .before .before .before .before .args in
     let k = rw (c .before .before .before .vertices .ensures, c .before .before .byte .ensures) at (c .before .judge .ensures) in
-    let e = finished-refused (a .push) (a .given) (a .limit) (a .plan .now) (a .w) (a .map .now) (length (a .out .now)) _ k (c .if1 .taken) in
+    let e = finished-refused (a .push) (a .given) (a .limit) (a .plan .now) (a .w) (a .graph .now) (length (a .out .now)) _ k (c .if1 .taken) in
     (rw e refl, rw e refl)
 
 lesser-requires : tie.Need-lesser-requires

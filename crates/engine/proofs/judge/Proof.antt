@@ -1,42 +1,30 @@
+-- `engine::judge` meets its contract. Assumes nothing.
 use borrow.Author.Needs.{needs}
-use native.Mathlib.Omega.{arith}
 use borrow.Author.Tests.{eq-eqb, ne-eqb}
 use Rattle.engine.specs.Steps.{run-code}
 use Rattle.engine.proofs.judge.Statement.{statement}
 use Rattle.engine.proofs.judge.Tie as tie
-use Rattle.engine.proofs.judge.Reads as reads
-use Rattle.engine.proofs.judge.Lts as lts
-use Rattle.engine.proofs.sources_code.Reads as sources-code-reads
-use Rattle.engine.proofs.vertices.Reads as vertices-reads
-use Rattle.graph.proofs.judge.Reads as judge-reads
 
--- src/lib.rt:68:9
 returns : tie.Need-returns
 unfolding run-code
 returns c = rw (ne-eqb _ _ (c .if1 .taken))
 
--- src/lib.rt:70:9
 judge-requires : tie.Need-judge-requires
 judge-requires c κs = search needs
 
--- src/lib.rt:72:9
 returns-2 : tie.Need-returns-2
 unfolding run-code
 returns-2 c = rw (eq-eqb _ _ (c .before .before .if1 .left), ← c .before .judge .ensures, ne-eqb _ _ (c .if2 .taken))
 
--- src/lib.rt:74:9
 vertices-requires : tie.Need-vertices-requires
 vertices-requires c κs = search needs
 
--- src/lib.rt:76:34
 cast-sources-code : tie.Need-cast-sources-code
 cast-sources-code c = search needs
 
--- src/lib.rt:76:5
 sources-code-requires : tie.Need-sources-code-requires
 sources-code-requires c κs = search needs
 
--- src/lib.rt:63:1
 returns-3 : tie.Need-returns-3
 unfolding run-code
 returns-3 c = rw (eq-eqb _ _ (c .before .before .before .before .before .if1 .left), ← c .before .before .before .before .judge .ensures, eq-eqb _ _ (c .before .before .before .if2 .left), ← c .before .before .vertices .ensures) (c .sources-code .ensures)

@@ -1,10 +1,10 @@
 -- `engine::run` meets its contract. Assumes nothing.
-use mathlib.Core.Path.{_≡_, refl, sym, _∙_}
+use mathlib.Core.Path.{refl, sym, _∙_}
 use native.Mathlib.Omega.{arith}
 use lib.ListN.{length}
 use Rattle.wire.specs.Wire.{Bytes}
 use Rattle.engine.specs.Steps.{meant}
-use Rattle.engine.proofs.Meant.{finished-meant, run-map, run-refused}
+use Rattle.engine.proofs.Meant.{finished-meant, run-graph, run-refused}
 use borrow.Author.Needs.{needs}
 use Rattle.engine.proofs.run.Statement.{statement}
 use Rattle.engine.proofs.run.Tie as tie
@@ -25,11 +25,11 @@ returns : tie.Need-returns
 returns c =
     let a = c .before .before .before .before .before .before .args in
     let k = rw (c .before .before .scan .ensures) at (c .before .judge .ensures) in
-    let e = run-refused (meant (a .given) (a .limit)) (a .plan .now) (a .map .now) (length (a .out .now)) _ k (c .if1 .taken) in
+    let e = run-refused (meant (a .given) (a .limit)) (a .plan .now) (a .graph .now) (length (a .out .now)) _ k (c .if1 .taken) in
     (rw e refl, rw e refl)
 
 finish-requires : tie.Need-finish-requires
-finish-requires c κs = run-map _ _ (sym (c .before .before .judge .ensures) ∙ c .before .if1 .left)
+finish-requires c κs = run-graph _ _ (sym (c .before .before .judge .ensures) ∙ c .before .if1 .left)
 
 same-length : tie.Need-same-length
 same-length c = search needs
@@ -38,10 +38,10 @@ returns-2 : tie.Need-returns-2
 returns-2 c =
     let a = c .before .before .before .before .before .before .before .before .before .before .args in
     let s = a .plan .now in
-    let m = a .map .now in
+    let m = a .graph .now in
     let z = rw (c .before .before .before .before .before .before .scan .ensures) at (sym (c .before .before .before .before .before .judge .ensures) ∙ c .before .before .before .before .if1 .left) in
     let bs : Bytes (a .plan .now) = λ i. omega (arith, c .before .before .before .before .before .before .before .before .before .shared-slice-known .given i) in
-    let bm : Bytes (a .map .now) = λ i. omega (arith, c .before .before .before .before .before .before .before .before .shared-slice-known2 .given i) in
+    let bm : Bytes (a .graph .now) = λ i. omega (arith, c .before .before .before .before .before .before .before .before .shared-slice-known2 .given i) in
     let e = finished-meant (a .push) (a .given) (a .limit) s m (length (a .out .now)) (omega arith) bs bm z in
     rw (e, ← c .before .before .before .before .before .before .scan .ensures) (c .before .before .finish .ensures)
 

@@ -29,8 +29,8 @@ cast-lesser c = search needs
 lesser-requires : tie.Need-lesser-requires
 lesser-requires c κs = search needs
 
-array-share-prefix-worksheet : tie.Need-array-share-prefix-worksheet
-array-share-prefix-worksheet c = search needs
+array-share-prefix-plan : tie.Need-array-share-prefix-plan
+array-share-prefix-plan c = search needs
 
 slice-aggregate-run : tie.Need-slice-aggregate-run
 slice-aggregate-run c = simp length-take (omega arith)
@@ -53,7 +53,7 @@ answer-spec =
     returns
     cast-lesser
     lesser-requires
-    array-share-prefix-worksheet
+    array-share-prefix-plan
     slice-aggregate-run
     run-requires
     returns-2)

@@ -11,14 +11,14 @@ use Rattle.rounds.proofs.round.Statement.{statement}
 use Rattle.rounds.proofs.round.Tie as tie
 
 abbrev Inv-loop : tie.InvT-loop
-Inv-loop map paths since stamp rest₀ figures₀ work₀ table changed₀ j₀ rest figures work changed j =
-    (j ≤ paths) × (length rest ≡ 8) × (length figures ≡ 8192) × (length work ≡ 4 * at16 map 5)
-    × (rest ≡ turned-upto map table since stamp rest₀ figures₀ j .rest)
-    × (figures ≡ turned-upto map table since stamp rest₀ figures₀ j .figures)
-    × (changed ≡ turned-upto map table since stamp rest₀ figures₀ j .changed)
+Inv-loop graph paths since stamp rest₀ figures₀ work₀ table changed₀ j₀ rest figures work changed j =
+    (j ≤ paths) × (length rest ≡ 8) × (length figures ≡ 8192) × (length work ≡ 4 * at16 graph 5)
+    × (rest ≡ turned-upto graph table since stamp rest₀ figures₀ j .rest)
+    × (figures ≡ turned-upto graph table since stamp rest₀ figures₀ j .figures)
+    × (changed ≡ turned-upto graph table since stamp rest₀ figures₀ j .changed)
 
 abbrev μ-loop : tie.MeasureT-loop
-μ-loop map paths since stamp rest₀ figures₀ work₀ table changed₀ j₀ rest figures work changed j = paths - j
+μ-loop graph paths since stamp rest₀ figures₀ work₀ table changed₀ j₀ rest figures work changed j = paths - j
 
 loop-holds : tie.Need-loop-holds Inv-loop μ-loop
 unfolding turned-upto

@@ -12,19 +12,19 @@ use Rattle.rounds.proofs.rounds.Statement.{statement}
 use Rattle.rounds.proofs.rounds.Tie as tie
 
 abbrev Inv-loop : tie.InvT-loop
-Inv-loop push map paths table limit rest₀ figures₀ work₀ r₀ rest figures work r =
-    (r ≤ limit) × (length rest ≡ 8) × (length figures ≡ 8192) × (length work ≡ 4 * at16 map 5)
-    × (rounds-from push map paths table (limit - r) r rest figures ≡ rounds-from push map paths table limit 0 rest₀ figures₀)
+Inv-loop push graph paths table limit rest₀ figures₀ work₀ r₀ rest figures work r =
+    (r ≤ limit) × (length rest ≡ 8) × (length figures ≡ 8192) × (length work ≡ 4 * at16 graph 5)
+    × (rounds-from push graph paths table (limit - r) r rest figures ≡ rounds-from push graph paths table limit 0 rest₀ figures₀)
 
 abbrev μ-loop : tie.MeasureT-loop
-μ-loop push map paths table limit rest₀ figures₀ work₀ r₀ rest figures work r = limit - r
+μ-loop push graph paths table limit rest₀ figures₀ work₀ r₀ rest figures work r = limit - r
 
 loop-holds : tie.Need-loop-holds Inv-loop μ-loop
 loop-holds c =
     let s = c .before .before .before .before in
     let a = s .args in
     let z : a .limit - 0 ≡ a .limit = omega arith in
-    (omega arith, s .pre .2, s .pre .3, s .pre .4, ap (λ (d : ℕ). rounds-from (a .push) (a .map .now) (a .paths) (a .table) d 0 (a .rest .now) (a .figures .now)) z)
+    (omega arith, s .pre .2, s .pre .3, s .pre .4, ap (λ (d : ℕ). rounds-from (a .push) (a .graph .now) (a .paths) (a .table) d 0 (a .rest .now) (a .figures .now)) z)
 
 least-stamp-requires : tie.Need-least-stamp-requires Inv-loop μ-loop
 least-stamp-requires c κs = tt
@@ -52,9 +52,9 @@ returns c =
     let a = c .before .before .before .before .before .before .before .before .before .before .before .before .before .before .before .before .before .before .before .args in
     let l = c .before .before .before .before .before .before .before .before .before .before .before .before .before .before .loop in
     let t = c .before .before .before .before .before .before .before .round in
-    let q : round-after (a .push) (a .map .now) (a .paths) (a .table) (l .r) (l .rest) (l .figures) .changed ≡ false =
+    let q : round-after (a .push) (a .graph .now) (a .paths) (a .table) (l .r) (l .rest) (l .figures) .changed ≡ false =
     sym (t .ensures .0 ∙ rw (c .before .before .before .before .before .before .before .before .before .before .before .before .least-stamp .ensures .0, c .before .before .before .before .before .before .before .before .before .before .before .stamp-of .ensures)) ∙ not-true (t .result) (c .if1 .taken) in
-    let e = sym (stops (a .push) (a .map .now) (a .paths) (a .table) (l .r) (a .limit) (l .rest) (l .figures) (omega arith) q) ∙ l .inv .4 in
+    let e = sym (stops (a .push) (a .graph .now) (a .paths) (a .table) (l .r) (a .limit) (l .rest) (l .figures) (omega arith) q) ∙ l .inv .4 in
     (ap (λ (x : Ran). x .count) e, t .ensures .2 ∙ rw (c .before .before .before .before .before .before .before .before .before .before .before .before .least-stamp .ensures .0, c .before .before .before .before .before .before .before .before .before .before .before .stamp-of .ensures) (ap (λ (x : Ran). x .figures) e))
 
 loop-less : tie.Need-loop-less Inv-loop μ-loop
@@ -65,14 +65,14 @@ loop-again c =
     let a = c .before .before .before .before .before .before .before .before .before .before .before .before .before .before .before .before .before .before .before .args in
     let l = c .before .before .before .before .before .before .before .before .before .before .before .before .before .before .loop in
     let t = c .before .before .before .before .before .before .before .round in
-    let q : round-after (a .push) (a .map .now) (a .paths) (a .table) (l .r) (l .rest) (l .figures) .changed ≡ true =
+    let q : round-after (a .push) (a .graph .now) (a .paths) (a .table) (l .r) (l .rest) (l .figures) .changed ≡ true =
     sym (t .ensures .0 ∙ rw (c .before .before .before .before .before .before .before .before .before .before .before .before .least-stamp .ensures .0, c .before .before .before .before .before .before .before .before .before .before .before .stamp-of .ensures)) ∙ not-false (t .result) (c .if1 .left) in (
       omega arith,
       t .kept .1 .1 .1 .1 .1 .0 ∙ l .inv .1,
       t .kept .1 .1 .1 .1 .1 .1 .0 ∙ l .inv .2,
       t .kept .1 .1 .1 .1 .1 .1 .1 .0 ∙ l .inv .3,
       rw (t .ensures .1, t .ensures .2, c .before .before .before .before .before .before .before .before .before .before .before .before .least-stamp .ensures .0, c .before .before .before .before .before .before .before .before .before .before .before .stamp-of .ensures)
-          (sym (goes-on (a .push) (a .map .now) (a .paths) (a .table) (l .r) (a .limit) (l .rest) (l .figures) (omega arith) q) ∙ l .inv .4),
+          (sym (goes-on (a .push) (a .graph .now) (a .paths) (a .table) (l .r) (a .limit) (l .rest) (l .figures) (omega arith) q) ∙ l .inv .4),
     )
 
 same-length-4 : tie.Need-same-length-4 Inv-loop μ-loop
@@ -88,7 +88,7 @@ returns-2 : tie.Need-returns-2 Inv-loop μ-loop
 returns-2 c =
     let a = c .before .before .before .before .before .before .args in
     let l = c .before .loop in
-    let e = sym (spent (a .push) (a .map .now) (a .paths) (a .table) (l .r) (a .limit) (l .rest) (l .figures) (omega arith)) ∙ l .inv .4 in
+    let e = sym (spent (a .push) (a .graph .now) (a .paths) (a .table) (l .r) (a .limit) (l .rest) (l .figures) (omega arith)) ∙ l .inv .4 in
     (ap (λ (x : Ran). x .count) e, ap (λ (x : Ran). x .figures) e)
 
 pub rounds-spec : {M : Type 1} → statement M

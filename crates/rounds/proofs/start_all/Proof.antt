@@ -9,10 +9,10 @@ use Rattle.rounds.proofs.start_all.Statement.{statement}
 use Rattle.rounds.proofs.start_all.Tie as tie
 
 abbrev Inv-loop : tie.InvT-loop
-Inv-loop map paths figures₀ table j₀ figures j = (j ≤ paths) × (length figures ≡ 8192) × (figures ≡ started-upto map table figures₀ j)
+Inv-loop graph paths figures₀ table j₀ figures j = (j ≤ paths) × (length figures ≡ 8192) × (figures ≡ started-upto graph table figures₀ j)
 
 abbrev μ-loop : tie.MeasureT-loop
-μ-loop map paths figures₀ table j₀ figures j = paths - j
+μ-loop graph paths figures₀ table j₀ figures j = paths - j
 
 loop-holds : tie.Need-loop-holds Inv-loop μ-loop
 unfolding started-upto

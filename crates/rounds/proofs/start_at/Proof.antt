@@ -38,7 +38,7 @@ returns : tie.Need-returns
 returns c =
     let a = c .before .before .before .before .before .before .before .args in
     let n = c .before .before .before .before .vertices in
-    start-put (a .map .now) (a .figures .now) _ (a .j) (n .result) (n .ensures .0) (a .word) (c .before .before .start .ensures)
+    start-put (a .graph .now) (a .figures .now) _ (a .j) (n .result) (n .ensures .0) (a .word) (c .before .before .start .ensures)
 
 pub start-at-spec : {M : Type 1} → statement M
 start-at-spec =

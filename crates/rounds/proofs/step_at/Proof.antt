@@ -42,8 +42,8 @@ returns c =
     let a = c .before .before .before .before .before .before .before .before .before .before .before .args in
     let n = c .before .before .before .before .before .before .before .vertices in
     let t = c .before .before .before .before .step in (
-      step-said (a .map .now) (a .figures .now) (a .figures .now) (a .j) (n .result) (n .ensures .0) (a .word) (a .since) (a .stamp) (t .result) (t .ensures .0),
-      step-put (a .map .now) (a .figures .now) _ (a .j) (n .result) (n .ensures .0) (a .word) (a .since) (a .stamp) (t .ensures .1),
+      step-said (a .graph .now) (a .figures .now) (a .figures .now) (a .j) (n .result) (n .ensures .0) (a .word) (a .since) (a .stamp) (t .result) (t .ensures .0),
+      step-put (a .graph .now) (a .figures .now) _ (a .j) (n .result) (n .ensures .0) (a .word) (a .since) (a .stamp) (t .ensures .1),
     )
 
 pub step-at-spec : {M : Type 1} → statement M

@@ -6,7 +6,7 @@ use borrow.Author.Needs.{needs}
 use lib.ListN.{getD}
 use Rattle.value.specs.declared.Row.{Row}
 use Rattle.value.specs.declared.Value.{Value}
-use Rattle.eval.specs.Body.{count-place, entry-rows, row}
+use Rattle.eval.specs.Body.{count-at, entry-rows, row}
 use Rattle.rows.specs.Rows.{final-found, many, rows-at}
 use Rattle.rows.proofs.Laws.{body-each, body-one}
 use Rattle.rows.proofs.body_rows.Statement.{statement}
@@ -15,8 +15,8 @@ use Rattle.rows.proofs.body_rows.Tie as tie
 at-most-requires : tie.Need-at-most-requires
 at-most-requires c κs = search needs
 
-place-of-requires : tie.Need-place-of-requires
-place-of-requires c κs = search needs
+count-at-requires : tie.Need-count-at-requires
+count-at-requires c κs = search needs
 
 byte-requires : tie.Need-byte-requires
 byte-requires c κs = search needs
@@ -32,11 +32,11 @@ returns c =
     let a = c .before .before .before .before .before .before .before .args in
     let plan : List ℕ = a .plan .now in
     let F : ℕ → List Row = rows-at (a .figures .now) (a .paths) in
-    let place = c .before .before .before .place-of .ensures .0 in
+    let at = c .before .before .before .count-at .ensures .0 in
     let count = c .before .before .before .before .at-most .ensures in
     let kind = sym (c .before .before .byte .ensures) ∙ c .before .if1 .taken in
     c .entry-rows .ensures
-    ∙ ap many (ap₂ (λ (i k : ℕ). entry-rows plan (i + 2) F k) place count ∙ sym (body-each plan F (min (a .n) 256) kind))
+    ∙ ap many (ap₂ (λ (i k : ℕ). entry-rows plan (i + 2) F k) at count ∙ sym (body-each plan F (min (a .n) 256) kind))
 
 byte-requires-2 : tie.Need-byte-requires-2
 byte-requires-2 c κs = search needs
@@ -61,16 +61,16 @@ returns-2 c =
     let a = c .before .before .before .before .before .before .before .before .before .before .before .args in
     let plan : List ℕ = a .plan .now in
     let F : ℕ → List Row = rows-at (a .figures .now) (a .paths) in
-    let place = c .before .before .before .before .before .before .before .place-of .ensures .0 in
+    let at = c .before .before .before .before .before .before .before .count-at .ensures .0 in
     let count = c .before .before .before .before .before .before .before .before .at-most .ensures in
     let kind = c .before .before .before .before .before .before .byte .ensures in
-    let read = c .before .before .before .wide .ensures .0 ∙ c .before .before .before .before .byte2 .ensures ∙ ap (λ (i : ℕ). getD plan i 0) place in
+    let read = c .before .before .before .wide .ensures .0 ∙ c .before .before .before .before .byte2 .ensures ∙ ap (λ (i : ℕ). getD plan i 0) at in
     let entries = c .before .before .at-most2 .ensures ∙ ap (λ (k : ℕ). min k 8) read in
-    let e : ℕ = min (getD plan (count-place plan) 0) 8 in
+    let e : ℕ = min (getD plan (count-at plan) 0) 8 in
     let final =
     c .before .final-of .ensures
-    ∙ ap (λ (k : ℕ). final-found k plan (c .before .before .before .before .before .before .before .place-of .result + 1) F (c .before .before .before .before .before .before .before .before .at-most .result)) entries
-    ∙ ap₂ (λ (i k : ℕ). final-found e plan (i + 1) F k) place count in
+    ∙ ap (λ (k : ℕ). final-found k plan (c .before .before .before .before .before .before .before .count-at .result + 1) F (c .before .before .before .before .before .before .before .before .at-most .result)) entries
+    ∙ ap₂ (λ (i k : ℕ). final-found e plan (i + 1) F k) at count in
     c .single .ensures
     ∙ ap many (ap (λ (v : Value). row v ∷ []) final ∙ sym (body-one plan F (min (a .n) 256) (λ z. c .before .before .before .before .before .if1 .left (kind ∙ z))))
 
@@ -79,7 +79,7 @@ body-rows-spec =
     tie.close
     (tie.spec
     at-most-requires
-    place-of-requires
+    count-at-requires
     byte-requires
     add-entry-rows
     entry-rows-requires

@@ -1,4 +1,4 @@
--- `rows::results_of` meets its contract: the results of the first k entries are filled, and the next one starts at `place`. Assumes nothing.
+-- `rows::results_of` meets its contract: the results of the first k entries are filled, and the next one starts at `next`. Assumes nothing.
 use Prim.Native.Nat.{ℕ, _≤_, _+_, _-_}
 use mathlib.Core.Path.{_≡_, sym, ap, ap₂, _∙_}
 use mathlib.Core.List.{List}
@@ -12,16 +12,16 @@ use Rattle.eval.specs.Body.{entries-end, expression-end, row}
 use Rattle.eval.proofs.Ends.{end-within}
 use Rattle.eval.proofs.Fill.{filled, fill-next, fill-none}
 use Rattle.rows.specs.Rows.{rows-at}
-use Rattle.rows.proofs.Laws.{place-next, place-none, result-at, result-row, results-filled}
+use Rattle.rows.proofs.Laws.{end-next, end-none, result-at, result-row, results-filled}
 use Rattle.rows.proofs.results_of.Statement.{statement}
 use Rattle.rows.proofs.results_of.Tie as tie
 
 abbrev Inv-loop : tie.InvT-loop
-Inv-loop plan at figures paths n e rows₀ place₀ k₀ rows place k =
-    (k ≤ e) × (place ≤ length plan + 2048 + k) × (place ≡ entries-end k plan at) × (rows ≡ filled 8 (result-row plan (rows-at figures paths) n at) (row Absent) k)
+Inv-loop plan at figures paths n e rows₀ next₀ k₀ rows next k =
+    (k ≤ e) × (next ≤ length plan + 2048 + k) × (next ≡ entries-end k plan at) × (rows ≡ filled 8 (result-row plan (rows-at figures paths) n at) (row Absent) k)
 
 abbrev μ-loop : tie.MeasureT-loop
-μ-loop plan at figures paths n e rows₀ place₀ k₀ rows place k = e - k
+μ-loop plan at figures paths n e rows₀ next₀ k₀ rows next k = e - k
 
 loop-holds : tie.Need-loop-holds Inv-loop μ-loop
 loop-holds c =
@@ -29,7 +29,7 @@ loop-holds c =
     let a = s .args in (
       omega arith,
       omega (arith, s .pre .1),
-      place-none (a .plan .now) (a .at),
+      end-none (a .plan .now) (a .at),
       sym (fill-none 8 (result-row (a .plan .now) (rows-at (a .figures .now) (a .paths)) (a .n) (a .at)) (row Absent)),
     )
 
@@ -62,8 +62,8 @@ loop-again c =
     let plan : List ℕ = a .plan .now in
     let F : ℕ → List Row = rows-at (a .figures .now) (a .paths) in
     let end = c .expression-end .ensures in
-    let within = end-within plan (length plan + 2048 + (l .k + 1)) (l .place + 1) (omega arith) (omega arith) in
-    let next = end ∙ ap (λ (i : ℕ). expression-end plan (i + 1)) (l .inv .2) ∙ place-next plan (l .k) (a .at) ∙ ap (λ (k : ℕ). entries-end k plan (a .at)) (sym (add-one (l .k))) in
+    let within = end-within plan (length plan + 2048 + (l .k + 1)) (l .next + 1) (omega arith) (omega arith) in
+    let next = end ∙ ap (λ (i : ℕ). expression-end plan (i + 1)) (l .inv .2) ∙ end-next plan (l .k) (a .at) ∙ ap (λ (k : ℕ). entries-end k plan (a .at)) (sym (add-one (l .k))) in
     let one = c .before .result-of .ensures ∙ ap (result-at plan F (a .n)) (l .inv .2) in (
       omega arith,
       omega (arith, end, within),

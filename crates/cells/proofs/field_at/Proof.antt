@@ -1,9 +1,9 @@
--- `cells::capacity_at` meets its contract. Assumes nothing.
+-- `cells::field_at` meets its contract. Assumes nothing.
 use native.Mathlib.Omega.{arith}
 use Rattle.graph.proofs.Accepted.{accepted}
 use borrow.Author.Needs.{needs}
-use Rattle.cells.proofs.capacity_at.Statement.{statement}
-use Rattle.cells.proofs.capacity_at.Tie as tie
+use Rattle.cells.proofs.field_at.Statement.{statement}
+use Rattle.cells.proofs.field_at.Tie as tie
 
 mul-read16 : tie.Need-mul-read16
 mul-read16 c = let h = accepted _ (c .before .pre .0) in omega (arith, h .exact)
@@ -20,5 +20,5 @@ read16-requires c κs = let h = accepted _ (c .before .pre .0) in omega (arith, 
 returns : tie.Need-returns
 returns c = search needs
 
-pub capacity-at-spec : {M : Type 1} → statement M
-capacity-at-spec = tie.close (tie.spec mul-read16 add-read16 add-read16-2 read16-requires returns)
+pub field-at-spec : {M : Type 1} → statement M
+field-at-spec = tie.close (tie.spec mul-read16 add-read16 add-read16-2 read16-requires returns)

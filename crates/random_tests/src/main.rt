@@ -71,13 +71,6 @@ struct Expected {
     stop: u16,
 }
 
-// The vertex at which a term is worked out, of n, over walks of at most so many edges.
-struct View {
-    n: u16,
-    vertex: u16,
-    most: usize,
-}
-
 struct Score {
     seed: u64,
     cases: u64,
@@ -90,8 +83,6 @@ struct Score {
     several: u64,
     full: u64,
     deep: u64,
-    most: u64,
-    deepest: u64,
     differences: u64,
 }
 
@@ -137,10 +128,6 @@ fn count(x: u64, yes: bool) -> u64 {
 
 fn fewer(x: u64, k: u64) -> u64 {
     if k <= x { x - k } else { 0 }
-}
-
-fn greater(x: u64, y: u64) -> u64 {
-    if x < y { y } else { x }
 }
 
 fn lesser(x: u16, y: u16) -> u16
@@ -711,8 +698,8 @@ fn gathered(sheet: File, shape: Shape, q: &File, len: usize) -> File {
     table
 }
 
-// The value of a chain or a literal.
-fn leaf(q: &File, at: usize, rows: &[u16], view: View) -> Value {
+// The value of a chain or a literal at a vertex.
+fn leaf(q: &File, at: usize, rows: &[u16], vertex: u16, most: u16) -> Value {
     let code = byte(q, plus(at, 1));
     let path = match byte(q, at) {
         0x10 => path_at(q, plus(at, 1), code),
@@ -722,57 +709,53 @@ fn leaf(q: &File, at: usize, rows: &[u16], view: View) -> Value {
             return Value::Number(low + 65536 * word(q, plus(at, 3)));
         }
     };
-    walked::value_at(rows, path, view.vertex, view.most)
+    walked::value_at(rows, path, vertex, most as usize)
 }
 
-fn is_leaf(tag: u8) -> bool {
-    if tag == 0x31 {
-        return false;
-    }
-    arity(tag) == 0
-}
-
-// Where the entry that a term names starts: behind the byte of a reduction, or at its index.
+// Where the entry starts that a term is or names: behind the byte of a reduction, or at its index; 0 for any other term.
 fn entry_of(q: &File, at: usize) -> usize {
-    if byte(q, at) == 0x20 {
-        return plus(at, 1);
+    match byte(q, at) {
+        0x20 => plus(at, 1),
+        0x31 => behind(q, plus(slot(byte(q, 6)), 1), byte(q, plus(at, 1))),
+        _ => 0,
     }
-    behind(q, plus(slot(byte(q, 6)), 1), byte(q, plus(at, 1)))
 }
 
-fn at_vertex(view: View, vertex: u16) -> View {
-    let mut r = view;
-    r.vertex = vertex;
-    r
-}
-
-// The value of a term at a vertex: "an operator joins the values of its two terms, at the same place in a place term; a reduction goes
-// over all n places". An entry of a worksheet is worked out where it is named.
-fn worth(q: &File, at: usize, rows: &[u16], view: View, left: u64) -> Value {
+// The value of a term at a vertex of n, over walks of at most so many edges: "an operator joins the values of its two terms, at the same
+// place in a place term; a reduction goes over all n places". An entry of a worksheet is worked out where it is named.
+fn worth(q: &File, at: usize, rows: &[u16], n: u16, vertex: u16, most: u16, left: u64) -> Value {
     if left == 0 {
         return Value::Absent;
     }
-    if is_leaf(byte(q, at)) {
-        return leaf(q, at, rows, view);
-    }
     if arity(byte(q, at)) == 2 {
-        let x = worth(q, plus(at, 2), rows, view, left - 1);
-        let y = worth(q, behind(q, plus(at, 2), 1), rows, view, left - 1);
+        let x = worth(q, plus(at, 2), rows, n, vertex, most, left - 1);
+        let y = worth(
+            q,
+            behind(q, plus(at, 2), 1),
+            rows,
+            n,
+            vertex,
+            most,
+            left - 1,
+        );
         return value::operate_on(byte(q, plus(at, 1)), x, y);
     }
     let entry = entry_of(q, at);
+    if entry == 0 {
+        return leaf(q, at, rows, vertex, most);
+    }
     let absent = Row {
         value: Value::Absent,
     };
     let mut found = [absent; 256];
-    let n = lesser(view.n, 4);
+    let count = lesser(n, 4);
     let mut v: u16 = 0;
-    while v < n {
-        let x = worth(q, plus(entry, 1), rows, at_vertex(view, v), left - 1);
+    while v < count {
+        let x = worth(q, plus(entry, 1), rows, n, v, most, left - 1);
         found[v as usize] = Row { value: x };
         v += 1;
     }
-    value::reduce_rows(byte(q, entry), found, n as usize)
+    value::reduce_rows(byte(q, entry), found, count as usize)
 }
 
 // Where the term starts whose values are asked for.
@@ -816,12 +799,8 @@ fn wanted(code: u32, shape: Shape, rounds: u16, most: u16, q: &File, rows: &[u16
     let count = row_count(shape.kind, shape.n);
     let mut v: u16 = 0;
     while v < count {
-        let view = View {
-            n: shape.n,
-            vertex: v,
-            most: most as usize,
-        };
-        at = put_row(&mut out, at, worth(q, root, rows, view, 40));
+        let x = worth(q, root, rows, shape.n, v, most, 40);
+        at = put_row(&mut out, at, x);
         v += 1;
     }
     out
@@ -854,20 +833,16 @@ fn rounds_of(rows: &[u16], n: u16, table: &File) -> u16 {
     0
 }
 
-fn is_no_vertex(source: u16, n: u16) -> bool {
-    if source == ANYWHERE {
-        return false;
-    }
-    n <= source
-}
-
+// Is there a source that is no vertex?
 fn bad_source(table: &File, n: u16) -> bool {
     let count = byte(table, 6);
     let mut j: u8 = 0;
     while j < count {
         let path = tabled_path(table, j);
-        if is_no_vertex(path.source, n) {
-            return true;
+        if path.source != ANYWHERE {
+            if n <= path.source {
+                return true;
+            }
         }
         j += 1;
     }
@@ -1067,13 +1042,9 @@ fn outcome(e: Expected, question: bool, text: File, map: File) -> u8 {
 
 // ---- counts
 
-fn field(name: &[u8], value: u64) {
+fn line(name: &[u8], value: u64) {
     io::write_all(OUT, name);
     io::print_decimal(OUT, value);
-}
-
-fn line(name: &[u8], value: u64) {
-    field(name, value);
     io::write_all(OUT, b"\n");
 }
 
@@ -1084,8 +1055,7 @@ fn with_differences(score: Score, differences: u64) -> Score {
         return r;
     }
     if score.differences < 10 {
-        field(b"case ", score.cases);
-        line(b" differences ", differences);
+        line(b"differs in case ", score.cases);
     }
     r.differences = std::num::wrapping_add_u64(score.differences, differences);
     r
@@ -1101,8 +1071,6 @@ fn scored(score: Score, n: u16, m: Made, e: Expected, chains: u8, first: u8) -> 
     r.several = count(score.several, 1 < m.reductions);
     r.full = count(score.full, m.terms == 64);
     r.deep = count(score.deep, m.least == 1);
-    r.most = greater(score.most, m.terms);
-    r.deepest = greater(score.deepest, fewer(17, m.least));
     r
 }
 
@@ -1191,8 +1159,6 @@ fn try_all(question: bool) -> Score {
         several: 0,
         full: 0,
         deep: 0,
-        most: 0,
-        deepest: 0,
         differences: 0,
     };
     let mut i: u64 = 0;
@@ -1212,9 +1178,7 @@ fn print(score: Score) {
     line(b"more rounds than places ", score.long);
     line(b"more chain terms than chains ", score.shared);
     line(b"two reductions or more ", score.several);
-    line(b"largest number of terms ", score.most);
     line(b"of 64 terms ", score.full);
-    line(b"deepest ", score.deepest);
     line(b"of depth 16 ", score.deep);
     line(b"differences ", score.differences);
 }

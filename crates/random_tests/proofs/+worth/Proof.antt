@@ -8,11 +8,9 @@ use Rattle.random_tests.proofs.worth.Reads as worth
 use Rattle.random_tests.proofs.worth.Kinds as worth-kinds
 use Rattle.random_tests.proofs.+worth.Lts-worth as worth-lts
 use Rattle.random_tests.proofs.arity.Reads as arity-reads
-use Rattle.random_tests.proofs.at_vertex.Reads as at-vertex-reads
 use Rattle.random_tests.proofs.behind.Reads as behind-reads
 use Rattle.random_tests.proofs.byte.Reads as byte-reads
 use Rattle.random_tests.proofs.entry_of.Reads as entry-of-reads
-use Rattle.random_tests.proofs.is_leaf.Reads as is-leaf-reads
 use Rattle.random_tests.proofs.leaf.Reads as leaf-reads
 use Rattle.random_tests.proofs.lesser.Reads as lesser-reads
 use Rattle.random_tests.proofs.plus.Reads as plus-reads
@@ -22,7 +20,7 @@ use Rattle.random_tests.proofs.+worth.{statement}
 use Rattle.random_tests.proofs.+worth.Tie.{close}
 
 abbrev μ-worth : Measures 2 worth-kinds.ps ℕ
-μ-worth κs a = a .1 .1 .1 .1 .0
+μ-worth κs a = a .1 .1 .1 .1 .1 .1 .0
 
 abbrev worth-at : ℕ → In 2 worth-kinds.ps
 worth-at t = and 2 worth-kinds.ps (is 2 worth-kinds.ps μ-worth t) worth.Pre
@@ -31,18 +29,14 @@ abbrev worth-below : ℕ → In 2 worth-kinds.ps
 worth-below t = and 2 worth-kinds.ps (falls 2 worth-kinds.ps _<_ μ-worth t) worth.Pre
 
 abbrev worth-Inv-loop : worth-lts.InvT-loop
-worth-Inv-loop q at rows view left entry found₀ n v₀ found v = (v ≤ n) × (n ≤ 4)
+worth-Inv-loop q at rows n vertex most left entry found₀ count v₀ found v = (v ≤ count) × (count ≤ 4)
 
 abbrev worth-μ-loop : worth-lts.MeasureT-loop
-worth-μ-loop q at rows view left entry found₀ n v₀ found v = n - v
+worth-μ-loop q at rows n vertex most left entry found₀ count v₀ found v = count - v
 
 worth-returns : (t : ℕ) → worth-lts.Need-returns (
   byte-reads.Asked,
   byte-reads.Learnt,
-  is-leaf-reads.Asked,
-  is-leaf-reads.Learnt,
-  leaf-reads.Asked,
-  leaf-reads.Learnt,
   arity-reads.Asked,
   arity-reads.Learnt,
   plus-reads.Asked,
@@ -55,10 +49,10 @@ worth-returns : (t : ℕ) → worth-lts.Need-returns (
   operate-on-reads.Learnt,
   entry-of-reads.Asked,
   entry-of-reads.Learnt,
+  leaf-reads.Asked,
+  leaf-reads.Learnt,
   lesser-reads.Asked,
   lesser-reads.Learnt,
-  at-vertex-reads.Asked,
-  at-vertex-reads.Learnt,
   reduce-rows-reads.Asked,
   reduce-rows-reads.Learnt,
 ) (worth-at t) worth.Post worth-Inv-loop worth-μ-loop
@@ -67,10 +61,6 @@ worth-returns t c = search needs
 worth-byte-requires : (t : ℕ) → worth-lts.Need-byte-requires (
   byte-reads.Asked,
   byte-reads.Learnt,
-  is-leaf-reads.Asked,
-  is-leaf-reads.Learnt,
-  leaf-reads.Asked,
-  leaf-reads.Learnt,
   arity-reads.Asked,
   arity-reads.Learnt,
   plus-reads.Asked,
@@ -83,134 +73,18 @@ worth-byte-requires : (t : ℕ) → worth-lts.Need-byte-requires (
   operate-on-reads.Learnt,
   entry-of-reads.Asked,
   entry-of-reads.Learnt,
+  leaf-reads.Asked,
+  leaf-reads.Learnt,
   lesser-reads.Asked,
   lesser-reads.Learnt,
-  at-vertex-reads.Asked,
-  at-vertex-reads.Learnt,
   reduce-rows-reads.Asked,
   reduce-rows-reads.Learnt,
 ) (worth-at t) worth.Post worth-Inv-loop worth-μ-loop
 worth-byte-requires t c κs = search needs
 
-worth-is-leaf-requires : (t : ℕ) → worth-lts.Need-is-leaf-requires (
-  byte-reads.Asked,
-  byte-reads.Learnt,
-  is-leaf-reads.Asked,
-  is-leaf-reads.Learnt,
-  leaf-reads.Asked,
-  leaf-reads.Learnt,
-  arity-reads.Asked,
-  arity-reads.Learnt,
-  plus-reads.Asked,
-  plus-reads.Learnt,
-  worth-below t,
-  worth.Post,
-  behind-reads.Asked,
-  behind-reads.Learnt,
-  operate-on-reads.Asked,
-  operate-on-reads.Learnt,
-  entry-of-reads.Asked,
-  entry-of-reads.Learnt,
-  lesser-reads.Asked,
-  lesser-reads.Learnt,
-  at-vertex-reads.Asked,
-  at-vertex-reads.Learnt,
-  reduce-rows-reads.Asked,
-  reduce-rows-reads.Learnt,
-) (worth-at t) worth.Post worth-Inv-loop worth-μ-loop
-worth-is-leaf-requires t c κs = search needs
-
-worth-leaf-requires : (t : ℕ) → worth-lts.Need-leaf-requires (
-  byte-reads.Asked,
-  byte-reads.Learnt,
-  is-leaf-reads.Asked,
-  is-leaf-reads.Learnt,
-  leaf-reads.Asked,
-  leaf-reads.Learnt,
-  arity-reads.Asked,
-  arity-reads.Learnt,
-  plus-reads.Asked,
-  plus-reads.Learnt,
-  worth-below t,
-  worth.Post,
-  behind-reads.Asked,
-  behind-reads.Learnt,
-  operate-on-reads.Asked,
-  operate-on-reads.Learnt,
-  entry-of-reads.Asked,
-  entry-of-reads.Learnt,
-  lesser-reads.Asked,
-  lesser-reads.Learnt,
-  at-vertex-reads.Asked,
-  at-vertex-reads.Learnt,
-  reduce-rows-reads.Asked,
-  reduce-rows-reads.Learnt,
-) (worth-at t) worth.Post worth-Inv-loop worth-μ-loop
-worth-leaf-requires t c κs = search needs
-
-worth-returns-2 : (t : ℕ) → worth-lts.Need-returns-2 (
-  byte-reads.Asked,
-  byte-reads.Learnt,
-  is-leaf-reads.Asked,
-  is-leaf-reads.Learnt,
-  leaf-reads.Asked,
-  leaf-reads.Learnt,
-  arity-reads.Asked,
-  arity-reads.Learnt,
-  plus-reads.Asked,
-  plus-reads.Learnt,
-  worth-below t,
-  worth.Post,
-  behind-reads.Asked,
-  behind-reads.Learnt,
-  operate-on-reads.Asked,
-  operate-on-reads.Learnt,
-  entry-of-reads.Asked,
-  entry-of-reads.Learnt,
-  lesser-reads.Asked,
-  lesser-reads.Learnt,
-  at-vertex-reads.Asked,
-  at-vertex-reads.Learnt,
-  reduce-rows-reads.Asked,
-  reduce-rows-reads.Learnt,
-) (worth-at t) worth.Post worth-Inv-loop worth-μ-loop
-worth-returns-2 t c = search needs
-
-worth-byte-requires-2 : (t : ℕ) → worth-lts.Need-byte-requires-2 (
-  byte-reads.Asked,
-  byte-reads.Learnt,
-  is-leaf-reads.Asked,
-  is-leaf-reads.Learnt,
-  leaf-reads.Asked,
-  leaf-reads.Learnt,
-  arity-reads.Asked,
-  arity-reads.Learnt,
-  plus-reads.Asked,
-  plus-reads.Learnt,
-  worth-below t,
-  worth.Post,
-  behind-reads.Asked,
-  behind-reads.Learnt,
-  operate-on-reads.Asked,
-  operate-on-reads.Learnt,
-  entry-of-reads.Asked,
-  entry-of-reads.Learnt,
-  lesser-reads.Asked,
-  lesser-reads.Learnt,
-  at-vertex-reads.Asked,
-  at-vertex-reads.Learnt,
-  reduce-rows-reads.Asked,
-  reduce-rows-reads.Learnt,
-) (worth-at t) worth.Post worth-Inv-loop worth-μ-loop
-worth-byte-requires-2 t c κs = search needs
-
 worth-arity-requires : (t : ℕ) → worth-lts.Need-arity-requires (
   byte-reads.Asked,
   byte-reads.Learnt,
-  is-leaf-reads.Asked,
-  is-leaf-reads.Learnt,
-  leaf-reads.Asked,
-  leaf-reads.Learnt,
   arity-reads.Asked,
   arity-reads.Learnt,
   plus-reads.Asked,
@@ -223,10 +97,10 @@ worth-arity-requires : (t : ℕ) → worth-lts.Need-arity-requires (
   operate-on-reads.Learnt,
   entry-of-reads.Asked,
   entry-of-reads.Learnt,
+  leaf-reads.Asked,
+  leaf-reads.Learnt,
   lesser-reads.Asked,
   lesser-reads.Learnt,
-  at-vertex-reads.Asked,
-  at-vertex-reads.Learnt,
   reduce-rows-reads.Asked,
   reduce-rows-reads.Learnt,
 ) (worth-at t) worth.Post worth-Inv-loop worth-μ-loop
@@ -235,10 +109,6 @@ worth-arity-requires t c κs = search needs
 worth-plus-requires : (t : ℕ) → worth-lts.Need-plus-requires (
   byte-reads.Asked,
   byte-reads.Learnt,
-  is-leaf-reads.Asked,
-  is-leaf-reads.Learnt,
-  leaf-reads.Asked,
-  leaf-reads.Learnt,
   arity-reads.Asked,
   arity-reads.Learnt,
   plus-reads.Asked,
@@ -251,10 +121,10 @@ worth-plus-requires : (t : ℕ) → worth-lts.Need-plus-requires (
   operate-on-reads.Learnt,
   entry-of-reads.Asked,
   entry-of-reads.Learnt,
+  leaf-reads.Asked,
+  leaf-reads.Learnt,
   lesser-reads.Asked,
   lesser-reads.Learnt,
-  at-vertex-reads.Asked,
-  at-vertex-reads.Learnt,
   reduce-rows-reads.Asked,
   reduce-rows-reads.Learnt,
 ) (worth-at t) worth.Post worth-Inv-loop worth-μ-loop
@@ -263,10 +133,6 @@ worth-plus-requires t c κs = search needs
 worth-sub-worth : (t : ℕ) → worth-lts.Need-sub-worth (
   byte-reads.Asked,
   byte-reads.Learnt,
-  is-leaf-reads.Asked,
-  is-leaf-reads.Learnt,
-  leaf-reads.Asked,
-  leaf-reads.Learnt,
   arity-reads.Asked,
   arity-reads.Learnt,
   plus-reads.Asked,
@@ -279,10 +145,10 @@ worth-sub-worth : (t : ℕ) → worth-lts.Need-sub-worth (
   operate-on-reads.Learnt,
   entry-of-reads.Asked,
   entry-of-reads.Learnt,
+  leaf-reads.Asked,
+  leaf-reads.Learnt,
   lesser-reads.Asked,
   lesser-reads.Learnt,
-  at-vertex-reads.Asked,
-  at-vertex-reads.Learnt,
   reduce-rows-reads.Asked,
   reduce-rows-reads.Learnt,
 ) (worth-at t) worth.Post worth-Inv-loop worth-μ-loop
@@ -291,10 +157,6 @@ worth-sub-worth t c = search needs
 worth-worth-requires : (t : ℕ) → worth-lts.Need-worth-requires (
   byte-reads.Asked,
   byte-reads.Learnt,
-  is-leaf-reads.Asked,
-  is-leaf-reads.Learnt,
-  leaf-reads.Asked,
-  leaf-reads.Learnt,
   arity-reads.Asked,
   arity-reads.Learnt,
   plus-reads.Asked,
@@ -307,10 +169,10 @@ worth-worth-requires : (t : ℕ) → worth-lts.Need-worth-requires (
   operate-on-reads.Learnt,
   entry-of-reads.Asked,
   entry-of-reads.Learnt,
+  leaf-reads.Asked,
+  leaf-reads.Learnt,
   lesser-reads.Asked,
   lesser-reads.Learnt,
-  at-vertex-reads.Asked,
-  at-vertex-reads.Learnt,
   reduce-rows-reads.Asked,
   reduce-rows-reads.Learnt,
 ) (worth-at t) worth.Post worth-Inv-loop worth-μ-loop
@@ -319,10 +181,6 @@ worth-worth-requires t c κs = search needs
 worth-plus-requires-2 : (t : ℕ) → worth-lts.Need-plus-requires-2 (
   byte-reads.Asked,
   byte-reads.Learnt,
-  is-leaf-reads.Asked,
-  is-leaf-reads.Learnt,
-  leaf-reads.Asked,
-  leaf-reads.Learnt,
   arity-reads.Asked,
   arity-reads.Learnt,
   plus-reads.Asked,
@@ -335,10 +193,10 @@ worth-plus-requires-2 : (t : ℕ) → worth-lts.Need-plus-requires-2 (
   operate-on-reads.Learnt,
   entry-of-reads.Asked,
   entry-of-reads.Learnt,
+  leaf-reads.Asked,
+  leaf-reads.Learnt,
   lesser-reads.Asked,
   lesser-reads.Learnt,
-  at-vertex-reads.Asked,
-  at-vertex-reads.Learnt,
   reduce-rows-reads.Asked,
   reduce-rows-reads.Learnt,
 ) (worth-at t) worth.Post worth-Inv-loop worth-μ-loop
@@ -347,10 +205,6 @@ worth-plus-requires-2 t c κs = search needs
 worth-behind-requires : (t : ℕ) → worth-lts.Need-behind-requires (
   byte-reads.Asked,
   byte-reads.Learnt,
-  is-leaf-reads.Asked,
-  is-leaf-reads.Learnt,
-  leaf-reads.Asked,
-  leaf-reads.Learnt,
   arity-reads.Asked,
   arity-reads.Learnt,
   plus-reads.Asked,
@@ -363,10 +217,10 @@ worth-behind-requires : (t : ℕ) → worth-lts.Need-behind-requires (
   operate-on-reads.Learnt,
   entry-of-reads.Asked,
   entry-of-reads.Learnt,
+  leaf-reads.Asked,
+  leaf-reads.Learnt,
   lesser-reads.Asked,
   lesser-reads.Learnt,
-  at-vertex-reads.Asked,
-  at-vertex-reads.Learnt,
   reduce-rows-reads.Asked,
   reduce-rows-reads.Learnt,
 ) (worth-at t) worth.Post worth-Inv-loop worth-μ-loop
@@ -375,10 +229,6 @@ worth-behind-requires t c κs = search needs
 worth-sub-worth-2 : (t : ℕ) → worth-lts.Need-sub-worth-2 (
   byte-reads.Asked,
   byte-reads.Learnt,
-  is-leaf-reads.Asked,
-  is-leaf-reads.Learnt,
-  leaf-reads.Asked,
-  leaf-reads.Learnt,
   arity-reads.Asked,
   arity-reads.Learnt,
   plus-reads.Asked,
@@ -391,10 +241,10 @@ worth-sub-worth-2 : (t : ℕ) → worth-lts.Need-sub-worth-2 (
   operate-on-reads.Learnt,
   entry-of-reads.Asked,
   entry-of-reads.Learnt,
+  leaf-reads.Asked,
+  leaf-reads.Learnt,
   lesser-reads.Asked,
   lesser-reads.Learnt,
-  at-vertex-reads.Asked,
-  at-vertex-reads.Learnt,
   reduce-rows-reads.Asked,
   reduce-rows-reads.Learnt,
 ) (worth-at t) worth.Post worth-Inv-loop worth-μ-loop
@@ -403,10 +253,6 @@ worth-sub-worth-2 t c = search needs
 worth-worth-requires-2 : (t : ℕ) → worth-lts.Need-worth-requires-2 (
   byte-reads.Asked,
   byte-reads.Learnt,
-  is-leaf-reads.Asked,
-  is-leaf-reads.Learnt,
-  leaf-reads.Asked,
-  leaf-reads.Learnt,
   arity-reads.Asked,
   arity-reads.Learnt,
   plus-reads.Asked,
@@ -419,10 +265,10 @@ worth-worth-requires-2 : (t : ℕ) → worth-lts.Need-worth-requires-2 (
   operate-on-reads.Learnt,
   entry-of-reads.Asked,
   entry-of-reads.Learnt,
+  leaf-reads.Asked,
+  leaf-reads.Learnt,
   lesser-reads.Asked,
   lesser-reads.Learnt,
-  at-vertex-reads.Asked,
-  at-vertex-reads.Learnt,
   reduce-rows-reads.Asked,
   reduce-rows-reads.Learnt,
 ) (worth-at t) worth.Post worth-Inv-loop worth-μ-loop
@@ -431,10 +277,6 @@ worth-worth-requires-2 t c κs = search needs
 worth-plus-requires-3 : (t : ℕ) → worth-lts.Need-plus-requires-3 (
   byte-reads.Asked,
   byte-reads.Learnt,
-  is-leaf-reads.Asked,
-  is-leaf-reads.Learnt,
-  leaf-reads.Asked,
-  leaf-reads.Learnt,
   arity-reads.Asked,
   arity-reads.Learnt,
   plus-reads.Asked,
@@ -447,22 +289,18 @@ worth-plus-requires-3 : (t : ℕ) → worth-lts.Need-plus-requires-3 (
   operate-on-reads.Learnt,
   entry-of-reads.Asked,
   entry-of-reads.Learnt,
+  leaf-reads.Asked,
+  leaf-reads.Learnt,
   lesser-reads.Asked,
   lesser-reads.Learnt,
-  at-vertex-reads.Asked,
-  at-vertex-reads.Learnt,
   reduce-rows-reads.Asked,
   reduce-rows-reads.Learnt,
 ) (worth-at t) worth.Post worth-Inv-loop worth-μ-loop
 worth-plus-requires-3 t c κs = search needs
 
-worth-byte-requires-3 : (t : ℕ) → worth-lts.Need-byte-requires-3 (
+worth-byte-requires-2 : (t : ℕ) → worth-lts.Need-byte-requires-2 (
   byte-reads.Asked,
   byte-reads.Learnt,
-  is-leaf-reads.Asked,
-  is-leaf-reads.Learnt,
-  leaf-reads.Asked,
-  leaf-reads.Learnt,
   arity-reads.Asked,
   arity-reads.Learnt,
   plus-reads.Asked,
@@ -475,22 +313,18 @@ worth-byte-requires-3 : (t : ℕ) → worth-lts.Need-byte-requires-3 (
   operate-on-reads.Learnt,
   entry-of-reads.Asked,
   entry-of-reads.Learnt,
+  leaf-reads.Asked,
+  leaf-reads.Learnt,
   lesser-reads.Asked,
   lesser-reads.Learnt,
-  at-vertex-reads.Asked,
-  at-vertex-reads.Learnt,
   reduce-rows-reads.Asked,
   reduce-rows-reads.Learnt,
 ) (worth-at t) worth.Post worth-Inv-loop worth-μ-loop
-worth-byte-requires-3 t c κs = search needs
+worth-byte-requires-2 t c κs = search needs
 
 worth-operate-on-requires : (t : ℕ) → worth-lts.Need-operate-on-requires (
   byte-reads.Asked,
   byte-reads.Learnt,
-  is-leaf-reads.Asked,
-  is-leaf-reads.Learnt,
-  leaf-reads.Asked,
-  leaf-reads.Learnt,
   arity-reads.Asked,
   arity-reads.Learnt,
   plus-reads.Asked,
@@ -503,22 +337,18 @@ worth-operate-on-requires : (t : ℕ) → worth-lts.Need-operate-on-requires (
   operate-on-reads.Learnt,
   entry-of-reads.Asked,
   entry-of-reads.Learnt,
+  leaf-reads.Asked,
+  leaf-reads.Learnt,
   lesser-reads.Asked,
   lesser-reads.Learnt,
-  at-vertex-reads.Asked,
-  at-vertex-reads.Learnt,
   reduce-rows-reads.Asked,
   reduce-rows-reads.Learnt,
 ) (worth-at t) worth.Post worth-Inv-loop worth-μ-loop
 worth-operate-on-requires t c κs = search needs
 
-worth-returns-3 : (t : ℕ) → worth-lts.Need-returns-3 (
+worth-returns-2 : (t : ℕ) → worth-lts.Need-returns-2 (
   byte-reads.Asked,
   byte-reads.Learnt,
-  is-leaf-reads.Asked,
-  is-leaf-reads.Learnt,
-  leaf-reads.Asked,
-  leaf-reads.Learnt,
   arity-reads.Asked,
   arity-reads.Learnt,
   plus-reads.Asked,
@@ -531,22 +361,18 @@ worth-returns-3 : (t : ℕ) → worth-lts.Need-returns-3 (
   operate-on-reads.Learnt,
   entry-of-reads.Asked,
   entry-of-reads.Learnt,
+  leaf-reads.Asked,
+  leaf-reads.Learnt,
   lesser-reads.Asked,
   lesser-reads.Learnt,
-  at-vertex-reads.Asked,
-  at-vertex-reads.Learnt,
   reduce-rows-reads.Asked,
   reduce-rows-reads.Learnt,
 ) (worth-at t) worth.Post worth-Inv-loop worth-μ-loop
-worth-returns-3 t c = search needs
+worth-returns-2 t c = search needs
 
 worth-entry-of-requires : (t : ℕ) → worth-lts.Need-entry-of-requires (
   byte-reads.Asked,
   byte-reads.Learnt,
-  is-leaf-reads.Asked,
-  is-leaf-reads.Learnt,
-  leaf-reads.Asked,
-  leaf-reads.Learnt,
   arity-reads.Asked,
   arity-reads.Learnt,
   plus-reads.Asked,
@@ -559,22 +385,18 @@ worth-entry-of-requires : (t : ℕ) → worth-lts.Need-entry-of-requires (
   operate-on-reads.Learnt,
   entry-of-reads.Asked,
   entry-of-reads.Learnt,
+  leaf-reads.Asked,
+  leaf-reads.Learnt,
   lesser-reads.Asked,
   lesser-reads.Learnt,
-  at-vertex-reads.Asked,
-  at-vertex-reads.Learnt,
   reduce-rows-reads.Asked,
   reduce-rows-reads.Learnt,
 ) (worth-at t) worth.Post worth-Inv-loop worth-μ-loop
 worth-entry-of-requires t c κs = search needs
 
-worth-lesser-requires : (t : ℕ) → worth-lts.Need-lesser-requires (
+worth-leaf-requires : (t : ℕ) → worth-lts.Need-leaf-requires (
   byte-reads.Asked,
   byte-reads.Learnt,
-  is-leaf-reads.Asked,
-  is-leaf-reads.Learnt,
-  leaf-reads.Asked,
-  leaf-reads.Learnt,
   arity-reads.Asked,
   arity-reads.Learnt,
   plus-reads.Asked,
@@ -587,10 +409,58 @@ worth-lesser-requires : (t : ℕ) → worth-lts.Need-lesser-requires (
   operate-on-reads.Learnt,
   entry-of-reads.Asked,
   entry-of-reads.Learnt,
+  leaf-reads.Asked,
+  leaf-reads.Learnt,
   lesser-reads.Asked,
   lesser-reads.Learnt,
-  at-vertex-reads.Asked,
-  at-vertex-reads.Learnt,
+  reduce-rows-reads.Asked,
+  reduce-rows-reads.Learnt,
+) (worth-at t) worth.Post worth-Inv-loop worth-μ-loop
+worth-leaf-requires t c κs = search needs
+
+worth-returns-3 : (t : ℕ) → worth-lts.Need-returns-3 (
+  byte-reads.Asked,
+  byte-reads.Learnt,
+  arity-reads.Asked,
+  arity-reads.Learnt,
+  plus-reads.Asked,
+  plus-reads.Learnt,
+  worth-below t,
+  worth.Post,
+  behind-reads.Asked,
+  behind-reads.Learnt,
+  operate-on-reads.Asked,
+  operate-on-reads.Learnt,
+  entry-of-reads.Asked,
+  entry-of-reads.Learnt,
+  leaf-reads.Asked,
+  leaf-reads.Learnt,
+  lesser-reads.Asked,
+  lesser-reads.Learnt,
+  reduce-rows-reads.Asked,
+  reduce-rows-reads.Learnt,
+) (worth-at t) worth.Post worth-Inv-loop worth-μ-loop
+worth-returns-3 t c = search needs
+
+worth-lesser-requires : (t : ℕ) → worth-lts.Need-lesser-requires (
+  byte-reads.Asked,
+  byte-reads.Learnt,
+  arity-reads.Asked,
+  arity-reads.Learnt,
+  plus-reads.Asked,
+  plus-reads.Learnt,
+  worth-below t,
+  worth.Post,
+  behind-reads.Asked,
+  behind-reads.Learnt,
+  operate-on-reads.Asked,
+  operate-on-reads.Learnt,
+  entry-of-reads.Asked,
+  entry-of-reads.Learnt,
+  leaf-reads.Asked,
+  leaf-reads.Learnt,
+  lesser-reads.Asked,
+  lesser-reads.Learnt,
   reduce-rows-reads.Asked,
   reduce-rows-reads.Learnt,
 ) (worth-at t) worth.Post worth-Inv-loop worth-μ-loop
@@ -599,10 +469,6 @@ worth-lesser-requires t c κs = search needs
 worth-loop-holds : (t : ℕ) → worth-lts.Need-loop-holds (
   byte-reads.Asked,
   byte-reads.Learnt,
-  is-leaf-reads.Asked,
-  is-leaf-reads.Learnt,
-  leaf-reads.Asked,
-  leaf-reads.Learnt,
   arity-reads.Asked,
   arity-reads.Learnt,
   plus-reads.Asked,
@@ -615,10 +481,10 @@ worth-loop-holds : (t : ℕ) → worth-lts.Need-loop-holds (
   operate-on-reads.Learnt,
   entry-of-reads.Asked,
   entry-of-reads.Learnt,
+  leaf-reads.Asked,
+  leaf-reads.Learnt,
   lesser-reads.Asked,
   lesser-reads.Learnt,
-  at-vertex-reads.Asked,
-  at-vertex-reads.Learnt,
   reduce-rows-reads.Asked,
   reduce-rows-reads.Learnt,
 ) (worth-at t) worth.Post worth-Inv-loop worth-μ-loop
@@ -627,10 +493,6 @@ worth-loop-holds t c = search needs
 worth-plus-requires-4 : (t : ℕ) → worth-lts.Need-plus-requires-4 (
   byte-reads.Asked,
   byte-reads.Learnt,
-  is-leaf-reads.Asked,
-  is-leaf-reads.Learnt,
-  leaf-reads.Asked,
-  leaf-reads.Learnt,
   arity-reads.Asked,
   arity-reads.Learnt,
   plus-reads.Asked,
@@ -643,50 +505,18 @@ worth-plus-requires-4 : (t : ℕ) → worth-lts.Need-plus-requires-4 (
   operate-on-reads.Learnt,
   entry-of-reads.Asked,
   entry-of-reads.Learnt,
+  leaf-reads.Asked,
+  leaf-reads.Learnt,
   lesser-reads.Asked,
   lesser-reads.Learnt,
-  at-vertex-reads.Asked,
-  at-vertex-reads.Learnt,
   reduce-rows-reads.Asked,
   reduce-rows-reads.Learnt,
 ) (worth-at t) worth.Post worth-Inv-loop worth-μ-loop
 worth-plus-requires-4 t c κs = search needs
 
-worth-at-vertex-requires : (t : ℕ) → worth-lts.Need-at-vertex-requires (
-  byte-reads.Asked,
-  byte-reads.Learnt,
-  is-leaf-reads.Asked,
-  is-leaf-reads.Learnt,
-  leaf-reads.Asked,
-  leaf-reads.Learnt,
-  arity-reads.Asked,
-  arity-reads.Learnt,
-  plus-reads.Asked,
-  plus-reads.Learnt,
-  worth-below t,
-  worth.Post,
-  behind-reads.Asked,
-  behind-reads.Learnt,
-  operate-on-reads.Asked,
-  operate-on-reads.Learnt,
-  entry-of-reads.Asked,
-  entry-of-reads.Learnt,
-  lesser-reads.Asked,
-  lesser-reads.Learnt,
-  at-vertex-reads.Asked,
-  at-vertex-reads.Learnt,
-  reduce-rows-reads.Asked,
-  reduce-rows-reads.Learnt,
-) (worth-at t) worth.Post worth-Inv-loop worth-μ-loop
-worth-at-vertex-requires t c κs = search needs
-
 worth-sub-worth-3 : (t : ℕ) → worth-lts.Need-sub-worth-3 (
   byte-reads.Asked,
   byte-reads.Learnt,
-  is-leaf-reads.Asked,
-  is-leaf-reads.Learnt,
-  leaf-reads.Asked,
-  leaf-reads.Learnt,
   arity-reads.Asked,
   arity-reads.Learnt,
   plus-reads.Asked,
@@ -699,10 +529,10 @@ worth-sub-worth-3 : (t : ℕ) → worth-lts.Need-sub-worth-3 (
   operate-on-reads.Learnt,
   entry-of-reads.Asked,
   entry-of-reads.Learnt,
+  leaf-reads.Asked,
+  leaf-reads.Learnt,
   lesser-reads.Asked,
   lesser-reads.Learnt,
-  at-vertex-reads.Asked,
-  at-vertex-reads.Learnt,
   reduce-rows-reads.Asked,
   reduce-rows-reads.Learnt,
 ) (worth-at t) worth.Post worth-Inv-loop worth-μ-loop
@@ -711,10 +541,6 @@ worth-sub-worth-3 t c = search needs
 worth-worth-requires-3 : (t : ℕ) → worth-lts.Need-worth-requires-3 (
   byte-reads.Asked,
   byte-reads.Learnt,
-  is-leaf-reads.Asked,
-  is-leaf-reads.Learnt,
-  leaf-reads.Asked,
-  leaf-reads.Learnt,
   arity-reads.Asked,
   arity-reads.Learnt,
   plus-reads.Asked,
@@ -727,10 +553,10 @@ worth-worth-requires-3 : (t : ℕ) → worth-lts.Need-worth-requires-3 (
   operate-on-reads.Learnt,
   entry-of-reads.Asked,
   entry-of-reads.Learnt,
+  leaf-reads.Asked,
+  leaf-reads.Learnt,
   lesser-reads.Asked,
   lesser-reads.Learnt,
-  at-vertex-reads.Asked,
-  at-vertex-reads.Learnt,
   reduce-rows-reads.Asked,
   reduce-rows-reads.Learnt,
 ) (worth-at t) worth.Post worth-Inv-loop worth-μ-loop
@@ -739,10 +565,6 @@ worth-worth-requires-3 t c κs = search needs
 worth-cast-found : (t : ℕ) → worth-lts.Need-cast-found (
   byte-reads.Asked,
   byte-reads.Learnt,
-  is-leaf-reads.Asked,
-  is-leaf-reads.Learnt,
-  leaf-reads.Asked,
-  leaf-reads.Learnt,
   arity-reads.Asked,
   arity-reads.Learnt,
   plus-reads.Asked,
@@ -755,10 +577,10 @@ worth-cast-found : (t : ℕ) → worth-lts.Need-cast-found (
   operate-on-reads.Learnt,
   entry-of-reads.Asked,
   entry-of-reads.Learnt,
+  leaf-reads.Asked,
+  leaf-reads.Learnt,
   lesser-reads.Asked,
   lesser-reads.Learnt,
-  at-vertex-reads.Asked,
-  at-vertex-reads.Learnt,
   reduce-rows-reads.Asked,
   reduce-rows-reads.Learnt,
 ) (worth-at t) worth.Post worth-Inv-loop worth-μ-loop
@@ -767,10 +589,6 @@ worth-cast-found t c = search needs
 worth-mul-found : (t : ℕ) → worth-lts.Need-mul-found (
   byte-reads.Asked,
   byte-reads.Learnt,
-  is-leaf-reads.Asked,
-  is-leaf-reads.Learnt,
-  leaf-reads.Asked,
-  leaf-reads.Learnt,
   arity-reads.Asked,
   arity-reads.Learnt,
   plus-reads.Asked,
@@ -783,10 +601,10 @@ worth-mul-found : (t : ℕ) → worth-lts.Need-mul-found (
   operate-on-reads.Learnt,
   entry-of-reads.Asked,
   entry-of-reads.Learnt,
+  leaf-reads.Asked,
+  leaf-reads.Learnt,
   lesser-reads.Asked,
   lesser-reads.Learnt,
-  at-vertex-reads.Asked,
-  at-vertex-reads.Learnt,
   reduce-rows-reads.Asked,
   reduce-rows-reads.Learnt,
 ) (worth-at t) worth.Post worth-Inv-loop worth-μ-loop
@@ -795,10 +613,6 @@ worth-mul-found t c = search needs
 worth-array-set-from-found : (t : ℕ) → worth-lts.Need-array-set-from-found (
   byte-reads.Asked,
   byte-reads.Learnt,
-  is-leaf-reads.Asked,
-  is-leaf-reads.Learnt,
-  leaf-reads.Asked,
-  leaf-reads.Learnt,
   arity-reads.Asked,
   arity-reads.Learnt,
   plus-reads.Asked,
@@ -811,10 +625,10 @@ worth-array-set-from-found : (t : ℕ) → worth-lts.Need-array-set-from-found (
   operate-on-reads.Learnt,
   entry-of-reads.Asked,
   entry-of-reads.Learnt,
+  leaf-reads.Asked,
+  leaf-reads.Learnt,
   lesser-reads.Asked,
   lesser-reads.Learnt,
-  at-vertex-reads.Asked,
-  at-vertex-reads.Learnt,
   reduce-rows-reads.Asked,
   reduce-rows-reads.Learnt,
 ) (worth-at t) worth.Post worth-Inv-loop worth-μ-loop
@@ -823,10 +637,6 @@ worth-array-set-from-found t c = search needs
 worth-add-v : (t : ℕ) → worth-lts.Need-add-v (
   byte-reads.Asked,
   byte-reads.Learnt,
-  is-leaf-reads.Asked,
-  is-leaf-reads.Learnt,
-  leaf-reads.Asked,
-  leaf-reads.Learnt,
   arity-reads.Asked,
   arity-reads.Learnt,
   plus-reads.Asked,
@@ -839,10 +649,10 @@ worth-add-v : (t : ℕ) → worth-lts.Need-add-v (
   operate-on-reads.Learnt,
   entry-of-reads.Asked,
   entry-of-reads.Learnt,
+  leaf-reads.Asked,
+  leaf-reads.Learnt,
   lesser-reads.Asked,
   lesser-reads.Learnt,
-  at-vertex-reads.Asked,
-  at-vertex-reads.Learnt,
   reduce-rows-reads.Asked,
   reduce-rows-reads.Learnt,
 ) (worth-at t) worth.Post worth-Inv-loop worth-μ-loop
@@ -851,10 +661,6 @@ worth-add-v t c = search needs
 worth-loop-less : (t : ℕ) → worth-lts.Need-loop-less (
   byte-reads.Asked,
   byte-reads.Learnt,
-  is-leaf-reads.Asked,
-  is-leaf-reads.Learnt,
-  leaf-reads.Asked,
-  leaf-reads.Learnt,
   arity-reads.Asked,
   arity-reads.Learnt,
   plus-reads.Asked,
@@ -867,10 +673,10 @@ worth-loop-less : (t : ℕ) → worth-lts.Need-loop-less (
   operate-on-reads.Learnt,
   entry-of-reads.Asked,
   entry-of-reads.Learnt,
+  leaf-reads.Asked,
+  leaf-reads.Learnt,
   lesser-reads.Asked,
   lesser-reads.Learnt,
-  at-vertex-reads.Asked,
-  at-vertex-reads.Learnt,
   reduce-rows-reads.Asked,
   reduce-rows-reads.Learnt,
 ) (worth-at t) worth.Post worth-Inv-loop worth-μ-loop
@@ -879,10 +685,6 @@ worth-loop-less t c = search needs
 worth-loop-again : (t : ℕ) → worth-lts.Need-loop-again (
   byte-reads.Asked,
   byte-reads.Learnt,
-  is-leaf-reads.Asked,
-  is-leaf-reads.Learnt,
-  leaf-reads.Asked,
-  leaf-reads.Learnt,
   arity-reads.Asked,
   arity-reads.Learnt,
   plus-reads.Asked,
@@ -895,22 +697,18 @@ worth-loop-again : (t : ℕ) → worth-lts.Need-loop-again (
   operate-on-reads.Learnt,
   entry-of-reads.Asked,
   entry-of-reads.Learnt,
+  leaf-reads.Asked,
+  leaf-reads.Learnt,
   lesser-reads.Asked,
   lesser-reads.Learnt,
-  at-vertex-reads.Asked,
-  at-vertex-reads.Learnt,
   reduce-rows-reads.Asked,
   reduce-rows-reads.Learnt,
 ) (worth-at t) worth.Post worth-Inv-loop worth-μ-loop
 worth-loop-again t c = search needs
 
-worth-byte-requires-4 : (t : ℕ) → worth-lts.Need-byte-requires-4 (
+worth-byte-requires-3 : (t : ℕ) → worth-lts.Need-byte-requires-3 (
   byte-reads.Asked,
   byte-reads.Learnt,
-  is-leaf-reads.Asked,
-  is-leaf-reads.Learnt,
-  leaf-reads.Asked,
-  leaf-reads.Learnt,
   arity-reads.Asked,
   arity-reads.Learnt,
   plus-reads.Asked,
@@ -923,22 +721,18 @@ worth-byte-requires-4 : (t : ℕ) → worth-lts.Need-byte-requires-4 (
   operate-on-reads.Learnt,
   entry-of-reads.Asked,
   entry-of-reads.Learnt,
+  leaf-reads.Asked,
+  leaf-reads.Learnt,
   lesser-reads.Asked,
   lesser-reads.Learnt,
-  at-vertex-reads.Asked,
-  at-vertex-reads.Learnt,
   reduce-rows-reads.Asked,
   reduce-rows-reads.Learnt,
 ) (worth-at t) worth.Post worth-Inv-loop worth-μ-loop
-worth-byte-requires-4 t c κs = search needs
+worth-byte-requires-3 t c κs = search needs
 
 worth-cast-reduce-rows : (t : ℕ) → worth-lts.Need-cast-reduce-rows (
   byte-reads.Asked,
   byte-reads.Learnt,
-  is-leaf-reads.Asked,
-  is-leaf-reads.Learnt,
-  leaf-reads.Asked,
-  leaf-reads.Learnt,
   arity-reads.Asked,
   arity-reads.Learnt,
   plus-reads.Asked,
@@ -951,10 +745,10 @@ worth-cast-reduce-rows : (t : ℕ) → worth-lts.Need-cast-reduce-rows (
   operate-on-reads.Learnt,
   entry-of-reads.Asked,
   entry-of-reads.Learnt,
+  leaf-reads.Asked,
+  leaf-reads.Learnt,
   lesser-reads.Asked,
   lesser-reads.Learnt,
-  at-vertex-reads.Asked,
-  at-vertex-reads.Learnt,
   reduce-rows-reads.Asked,
   reduce-rows-reads.Learnt,
 ) (worth-at t) worth.Post worth-Inv-loop worth-μ-loop
@@ -963,10 +757,6 @@ worth-cast-reduce-rows t c = search needs
 worth-reduce-rows-requires : (t : ℕ) → worth-lts.Need-reduce-rows-requires (
   byte-reads.Asked,
   byte-reads.Learnt,
-  is-leaf-reads.Asked,
-  is-leaf-reads.Learnt,
-  leaf-reads.Asked,
-  leaf-reads.Learnt,
   arity-reads.Asked,
   arity-reads.Learnt,
   plus-reads.Asked,
@@ -979,10 +769,10 @@ worth-reduce-rows-requires : (t : ℕ) → worth-lts.Need-reduce-rows-requires (
   operate-on-reads.Learnt,
   entry-of-reads.Asked,
   entry-of-reads.Learnt,
+  leaf-reads.Asked,
+  leaf-reads.Learnt,
   lesser-reads.Asked,
   lesser-reads.Learnt,
-  at-vertex-reads.Asked,
-  at-vertex-reads.Learnt,
   reduce-rows-reads.Asked,
   reduce-rows-reads.Learnt,
 ) (worth-at t) worth.Post worth-Inv-loop worth-μ-loop
@@ -991,10 +781,6 @@ worth-reduce-rows-requires t c κs = search needs
 worth-returns-4 : (t : ℕ) → worth-lts.Need-returns-4 (
   byte-reads.Asked,
   byte-reads.Learnt,
-  is-leaf-reads.Asked,
-  is-leaf-reads.Learnt,
-  leaf-reads.Asked,
-  leaf-reads.Learnt,
   arity-reads.Asked,
   arity-reads.Learnt,
   plus-reads.Asked,
@@ -1007,10 +793,10 @@ worth-returns-4 : (t : ℕ) → worth-lts.Need-returns-4 (
   operate-on-reads.Learnt,
   entry-of-reads.Asked,
   entry-of-reads.Learnt,
+  leaf-reads.Asked,
+  leaf-reads.Learnt,
   lesser-reads.Asked,
   lesser-reads.Learnt,
-  at-vertex-reads.Asked,
-  at-vertex-reads.Learnt,
   reduce-rows-reads.Asked,
   reduce-rows-reads.Learnt,
 ) (worth-at t) worth.Post worth-Inv-loop worth-μ-loop
@@ -1020,10 +806,6 @@ pub +worth-spec : {M : Type 1} → statement M
 +worth-spec = close μ-worth λ t. worth-lts.spec (
   byte-reads.Asked,
   byte-reads.Learnt,
-  is-leaf-reads.Asked,
-  is-leaf-reads.Learnt,
-  leaf-reads.Asked,
-  leaf-reads.Learnt,
   arity-reads.Asked,
   arity-reads.Learnt,
   plus-reads.Asked,
@@ -1036,10 +818,10 @@ pub +worth-spec : {M : Type 1} → statement M
   operate-on-reads.Learnt,
   entry-of-reads.Asked,
   entry-of-reads.Learnt,
+  leaf-reads.Asked,
+  leaf-reads.Learnt,
   lesser-reads.Asked,
   lesser-reads.Learnt,
-  at-vertex-reads.Asked,
-  at-vertex-reads.Learnt,
   reduce-rows-reads.Asked,
   reduce-rows-reads.Learnt,
 )
@@ -1049,10 +831,6 @@ pub +worth-spec : {M : Type 1} → statement M
     worth-μ-loop
     (worth-returns t)
     (worth-byte-requires t)
-    (worth-is-leaf-requires t)
-    (worth-leaf-requires t)
-    (worth-returns-2 t)
-    (worth-byte-requires-2 t)
     (worth-arity-requires t)
     (worth-plus-requires t)
     (worth-sub-worth t)
@@ -1062,14 +840,15 @@ pub +worth-spec : {M : Type 1} → statement M
     (worth-sub-worth-2 t)
     (worth-worth-requires-2 t)
     (worth-plus-requires-3 t)
-    (worth-byte-requires-3 t)
+    (worth-byte-requires-2 t)
     (worth-operate-on-requires t)
-    (worth-returns-3 t)
+    (worth-returns-2 t)
     (worth-entry-of-requires t)
+    (worth-leaf-requires t)
+    (worth-returns-3 t)
     (worth-lesser-requires t)
     (worth-loop-holds t)
     (worth-plus-requires-4 t)
-    (worth-at-vertex-requires t)
     (worth-sub-worth-3 t)
     (worth-worth-requires-3 t)
     (worth-cast-found t)
@@ -1078,7 +857,7 @@ pub +worth-spec : {M : Type 1} → statement M
     (worth-add-v t)
     (worth-loop-less t)
     (worth-loop-again t)
-    (worth-byte-requires-4 t)
+    (worth-byte-requires-3 t)
     (worth-cast-reduce-rows t)
     (worth-reduce-rows-requires t)
     (worth-returns-4 t)

@@ -19,9 +19,6 @@ loop-holds c = search needs
 tabled-path-requires : tie.Need-tabled-path-requires Inv-loop μ-loop
 tabled-path-requires c κs = search needs
 
-is-no-vertex-requires : tie.Need-is-no-vertex-requires Inv-loop μ-loop
-is-no-vertex-requires c κs = search needs
-
 returns : tie.Need-returns Inv-loop μ-loop
 returns c = search needs
 
@@ -46,7 +43,6 @@ bad-source-spec =
     byte-requires
     loop-holds
     tabled-path-requires
-    is-no-vertex-requires
     returns
     add-j
     loop-less

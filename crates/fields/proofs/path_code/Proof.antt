@@ -1,6 +1,6 @@
 -- `fields::path_code` meets its contract. Assumes nothing.
-use Prim.Native.Nat.{ℕ, _+_}
-use mathlib.Core.Path.{_≡_, refl, ap, _∙_}
+use Prim.Native.Nat.{_+_}
+use mathlib.Core.Path.{_≡_, refl, _∙_}
 use borrow.Author.Needs.{needs}
 use native.Mathlib.Omega.{arith}
 use borrow.Author.Tests.{eq-eqb, ne-eqb}
@@ -21,7 +21,7 @@ code-of-requires : tie.Need-code-of-requires
 code-of-requires c κs = search needs
 
 count-is : (c : tie.After-code-of) → let a = c .before .before .before .before .args in c .code-of .result ≡ code-of (getD (a .s .now) (a .at) 256) 3
-count-is c = c .code-of .ensures ∙ ap (λ (n : ℕ). code-of n 3) (c .before .byte .ensures .0)
+count-is c = c .code-of .ensures ∙ rw (c .before .byte .ensures .0) refl
 
 returns-2 : tie.Need-returns-2
 unfolding path-code
@@ -37,9 +37,7 @@ keys-code-requires : tie.Need-keys-code-requires
 keys-code-requires c κs = omega (arith, c .before .before .byte .ensures .1)
 
 keys-are : (c : tie.After-keys-code) → let a = c .before .before .before .before .before .before .args in c .keys-code .result ≡ keys-code (getD (a .s .now) (a .at) 256) (a .s .now) (a .at + 1)
-keys-are c =
-    let a = c .before .before .before .before .before .before .args in
-    c .keys-code .ensures ∙ ap (λ (n : ℕ). keys-code n (a .s .now) (a .at + 1)) (c .before .before .before .byte .ensures .0)
+keys-are c = c .keys-code .ensures ∙ rw (c .before .before .before .byte .ensures .0) refl
 
 returns-3 : tie.Need-returns-3
 unfolding path-code

@@ -1,4 +1,5 @@
 -- `value::compute_of` meets its contract. Assumes nothing.
+use mathlib.Core.Path.{refl}
 use borrow.Author.Needs.{needs}
 use borrow.Author.Tests.{ne-eqb}
 use Rattle.value.specs.Value.{compute}
@@ -84,7 +85,7 @@ returns-11 c = rw (c .before .match .keys11) (c .either-of .ensures)
 
 returns-12 : tie.Need-returns-12
 unfolding compute
-returns-12 c = rw (ne-eqb _ 1 (c .match .rest .0 .0 .0 .0 .0 .0 .0 .0 .0 .0 .1), ne-eqb _ 2 (c .match .rest .0 .0 .0 .0 .0 .0 .0 .0 .0 .1), ne-eqb _ 3 (c .match .rest .0 .0 .0 .0 .0 .0 .0 .0 .1), ne-eqb _ 4 (c .match .rest .0 .0 .0 .0 .0 .0 .0 .1), ne-eqb _ 5 (c .match .rest .0 .0 .0 .0 .0 .0 .1), ne-eqb _ 6 (c .match .rest .0 .0 .0 .0 .0 .1), ne-eqb _ 7 (c .match .rest .0 .0 .0 .0 .1), ne-eqb _ 8 (c .match .rest .0 .0 .0 .1), ne-eqb _ 9 (c .match .rest .0 .0 .1), ne-eqb _ 10 (c .match .rest .0 .1), ne-eqb _ 11 (c .match .rest .1))
+returns-12 c = rw (ne-eqb _ 1 (c .match .rest .0 .0 .0 .0 .0 .0 .0 .0 .0 .0 .1), ne-eqb _ 2 (c .match .rest .0 .0 .0 .0 .0 .0 .0 .0 .0 .1), ne-eqb _ 3 (c .match .rest .0 .0 .0 .0 .0 .0 .0 .0 .1), ne-eqb _ 4 (c .match .rest .0 .0 .0 .0 .0 .0 .0 .1), ne-eqb _ 5 (c .match .rest .0 .0 .0 .0 .0 .0 .1), ne-eqb _ 6 (c .match .rest .0 .0 .0 .0 .0 .1), ne-eqb _ 7 (c .match .rest .0 .0 .0 .0 .1), ne-eqb _ 8 (c .match .rest .0 .0 .0 .1), ne-eqb _ 9 (c .match .rest .0 .0 .1), ne-eqb _ 10 (c .match .rest .0 .1), ne-eqb _ 11 (c .match .rest .1)) refl
 
 pub compute-of-spec : {M : Type 1} → statement M
 compute-of-spec = tie.close (tie.spec least-of-requires greatest-of-requires plus-requires minus-requires times-requires divide-requires truth-of-requires truth-of-requires-2 truth-of-requires-3 both-of-requires either-of-requires returns returns-2 returns-3 returns-4 returns-5 returns-6 returns-7 returns-8 returns-9 returns-10 returns-11 returns-12)

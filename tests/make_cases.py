@@ -1,8 +1,8 @@
 #!/usr/bin/env python3
-"""Writes the cases on which the program `cases` tries the readers and the writers.
+"""Writes the cases on which the program `cases` tries the readers and the writers, and those of runs (make_runs.py).
 
-    python3 tests/make_cases.py          writes crates/cases/data/cases.bin and crates/cases/stdout
-    python3 tests/make_cases.py list     prints each case: index, kind, number, name, length, first bytes
+    python3 tests/make_cases.py          writes cases.bin and runs.bin in crates/cases/data, and crates/cases/stdout
+    python3 tests/make_cases.py list     prints each case of cases.bin: index, kind, number, name, length, first bytes
 
 Each number here is written by hand from document 01 ("Numbers at the desk" and the order below that table); none is what
 a reader said. In the file a case is a kind byte (its place in KINDS), the number, a 16-bit length and as many bytes; all
@@ -15,8 +15,10 @@ integers low byte first. The bytes are those of the file to be judged, but for t
 import os
 import sys
 
+import make_runs
+
 FOLDER = os.path.join(os.path.dirname(os.path.abspath(__file__)), "..", "crates", "cases")
-MOST = 65535  # the program's buffer has one byte more
+MOST = 131071  # the program's buffer has one byte more
 
 # ------------------------------------------------------------------------------------------------ layouts
 
@@ -552,20 +554,29 @@ def table():
     return [(kind, number, name, body) for (kind, body), (number, name) in seen.items()]
 
 
+def write(name, cases, first):
+    """A file of (kind, number, bytes), the kinds counted from `first` on."""
+    data = b"".join(bytes([first + kind, number]) + u16(len(body)) + body for kind, number, body in cases)
+    assert len(data) <= MOST, len(data)
+    with open(os.path.join(FOLDER, "data", name), "wb") as f:
+        f.write(data)
+
+
+def counts(kinds, cases):
+    """What the program prints of a file."""
+    return [f"{word} {sum(case[0] == kind for case in cases)}\n" for kind, (word, _) in enumerate(kinds)] + ["differences 0\n"]
+
+
 def main():
-    cases = table()
+    cases, runs = table(), make_runs.table()
     if sys.argv[1:] == ["list"]:
         for index, (kind, number, name, body) in enumerate(cases):
             print(f"{index:3} {KINDS[kind][0]:10} {number:2}  {name}  [{len(body)}] {body[:48].hex()}")
         return
-    data = b"".join(bytes([kind, number]) + u16(len(body)) + body for kind, number, _, body in cases)
-    assert len(data) <= MOST, len(data)
-    with open(os.path.join(FOLDER, "data", "cases.bin"), "wb") as f:
-        f.write(data)
+    write("cases.bin", [(kind, number, body) for kind, number, _, body in cases], 0)
+    write("runs.bin", [(kind, case[4], make_runs.body(case)) for kind, case in runs], len(KINDS))
     with open(os.path.join(FOLDER, "stdout"), "w") as f:
-        for kind, (word, _) in enumerate(KINDS):
-            f.write(f"{word} {sum(case[0] == kind for case in cases)}\n")
-        f.write("differences 0\n")
+        f.writelines(counts(KINDS, cases) + counts(make_runs.KINDS, runs))
 
 
 main()

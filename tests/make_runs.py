@@ -1,23 +1,17 @@
 #!/usr/bin/env python3
-"""Writes the cases on which the program `runs` tries the runs: by pull, by push, and stopped after a number of rounds.
+"""The cases on which the program `cases` tries runs: by pull, by push, and stopped after a number of rounds. make_cases.py writes them.
 
-    python3 tests/make_runs.py           writes crates/runs/data/runs.bin and crates/runs/stdout
-    python3 tests/make_runs.py list      prints each case: index, kind, call, rounds, length lent, what is expected, name
+    python3 tests/make_runs.py           prints each case: index, kind, call, rounds, length lent, what is expected, name
 
 Worksheets and maps are written by hand as bytes. Rows, rounds and refusals are written by hand from document 01 too; none is
 what a run said. So that no slip of the hand stays, the script walks every walk outright (`outright` below: sets of walks, no
 rounds and no table of figures) and stops where the hand and the walks differ.
 
-In the file a case is a kind byte (its place in KINDS), a 16-bit length and as many bytes: the call (0 pull, 1 push, 2 pull
-stopped, 3 push stopped), the rounds at which it is stopped, the length lent, the refusal (0 for none), the lengths of worksheet
-and map, all of 16 bits but the call and the refusal; then worksheet, map and answer (none where refused). All integers low byte
-first. The program's buffer is longer than what is lent: every byte of it behind the answer must stay as it was filled.
+In the file (make_cases.py has its layout) a case has five numbers of 16 bits: the length lent, the call (0 pull, 1 push, 2 pull stopped,
+3 push stopped), the rounds at which it is stopped, where the worksheet and the map end behind these ten bytes; then worksheet, map and
+answer (none where refused). The program's buffer is longer than what is lent: every byte of it behind the answer must stay as it was
+filled.
 """
-import os
-import sys
-
-FOLDER = os.path.join(os.path.dirname(os.path.abspath(__file__)), "..", "crates", "runs")
-MOST = 131071  # the program's buffer has one byte more
 CALLS = ("pull", "push", "pull stopped", "push stopped")
 ANYWHERE = 65535
 _ = None  # absent
@@ -514,40 +508,30 @@ def lengths():
 
 # ------------------------------------------------------------------------------------------------ the file
 
-KINDS = (("trials", trials), ("traps", traps), ("worksheets", sheets), ("refusals", refusals), ("lent lengths", lengths))
+KINDS = (("trials run", trials), ("traps run", traps), ("worksheets run", sheets), ("refusals", refusals), ("lent lengths", lengths))
 
 
 def body(case):
-    _unused, call, stop, lent, refusal, sheet, graph, whole = case
-    return bytes([call]) + u16(stop) + u16(lent) + bytes([refusal]) + u16(len(sheet)) + u16(len(graph)) + sheet + graph + whole
+    _unused, call, stop, lent, _number, sheet, graph, whole = case
+    return b"".join(u16(x) for x in (lent, call, stop, len(sheet), len(sheet + graph))) + sheet + graph + whole
 
 
 def table():
-    """All cases, each once: (kind, case)."""
+    """All cases, each once: (kind, case). The same bytes under two names must have the same number."""
     seen = {}
     for kind, (_unused, part) in enumerate(KINDS):
         for case in part():
-            seen.setdefault(body(case), (kind, case))
+            known = seen.setdefault(body(case), (kind, case))
+            assert known[1][4] == case[4], f"{known} and {case}"
     return list(seen.values())
 
 
 def main():
-    cases = table()
-    if sys.argv[1:] == ["list"]:
-        for index, (kind, (name, call, stop, lent, refusal, sheet, graph, whole)) in enumerate(cases):
-            what = f"refused {refusal}" if refusal else whole.hex()
-            after = f" {stop}" if call > 1 else ""
-            print(f"{index:3} {KINDS[kind][0]:12} {CALLS[call]}{after}, lent {lent}: {name}: {what[:120]}")
-        return
-    data = b"".join(bytes([kind]) + u16(len(body(case))) + body(case) for kind, case in cases)
-    assert len(data) <= MOST, len(data)
-    os.makedirs(os.path.join(FOLDER, "data"), exist_ok=True)
-    with open(os.path.join(FOLDER, "data", "runs.bin"), "wb") as f:
-        f.write(data)
-    with open(os.path.join(FOLDER, "stdout"), "w") as f:
-        for kind, (word, _unused) in enumerate(KINDS):
-            f.write(f"{word} {sum(case[0] == kind for case in cases)}\n")
-        f.write("differences 0\n")
+    for index, (kind, (name, call, stop, lent, refusal, _sheet, _graph, whole)) in enumerate(table()):
+        what = f"refused {refusal}" if refusal else whole.hex()
+        after = f" {stop}" if call > 1 else ""
+        print(f"{index:3} {KINDS[kind][0]:14} {CALLS[call]}{after}, lent {lent}: {name}: {what[:120]}")
 
 
-main()
+if __name__ == "__main__":
+    main()

@@ -1,6 +1,6 @@
-// Tries the readers and writers on the cases of cases.bin, which tests/make_cases.py writes: a case is a kind byte, the
-// number expected, a 16-bit length and as many bytes. Prints the first cases that differ, then how many there are of each kind,
-// and how many differ.
+// Tries the readers and writers on the cases of cases.bin, and runs on those of runs.bin, which tests/make_cases.py writes: a case is
+// a kind byte, the number expected, a 16-bit length and as many bytes. Prints for each file the first cases that differ, then how many
+// there are of each kind, and how many differ.
 ghost use Rattle.io.specs.Counts.{Counts};
 ghost use mathlib.Core.Path.{_≡_};
 ghost use Prim.Native.Nat.{_≤_, _<_};
@@ -28,7 +28,7 @@ struct Case {
 struct Score {
     cases: u64,
     differences: u64,
-    kinds: [u64; 7],
+    kinds: [u64; 12],
 }
 
 fn load(path: &[u8], buf: &mut [u8]) -> usize
@@ -160,11 +160,40 @@ fn write_plan(fields: &[u8], file: &[u8], out: &mut [u8]) -> u32 {
     plan_form::write(form, out)
 }
 
+fn run(call: u8, rounds: u16, plan: &[u8], graph: &[u8], out: &mut [u8]) -> u32 {
+    match call {
+        0 => engine::pull(plan, graph, out),
+        1 => engine::push(plan, graph, out),
+        2 => engine::pull_rounds(plan, graph, rounds, out),
+        3 => engine::push_rounds(plan, graph, rounds, out),
+        _ => NOT_WRITTEN,
+    }
+}
+
+// A worksheet is run on a map: the call, the rounds at which it is stopped, where the worksheet and the map behind it end.
+fn run_files(fields: &[u8], file: &[u8], out: &mut [u8]) -> u32 {
+    let a = number(fields, 6) as usize;
+    let b = number(fields, 8) as usize;
+    if a <= b {
+        if b <= file.len() {
+            return run(
+                low(fields, 2),
+                number(fields, 4),
+                &file[0..a],
+                &file[a..b],
+                out,
+            );
+        }
+    }
+    NOT_WRITTEN
+}
+
 fn write_file(kind: u8, fields: &[u8], file: &[u8], out: &mut [u8]) -> u32 {
     match kind {
         4 => write_map(fields, file, out),
         5 => write_query(fields, file, out),
-        _ => write_plan(fields, file, out),
+        6 => write_plan(fields, file, out),
+        _ => run_files(fields, file, out),
     }
 }
 
@@ -176,7 +205,18 @@ fn lend(kind: u8, fields: &[u8], file: &[u8], lent: usize, out: &mut [u8]) -> u3
     NOT_WRITTEN
 }
 
-// Ten bytes of fields, and a file that is read and written.
+// Where what should be written starts: a writer writes the file that was read; a run, the answer behind worksheet and map.
+fn answer_at(kind: u8, fields: &[u8], file: &[u8]) -> usize
+    ensures { λ r. ⌜ r ≤ length (now (file .entry)) ⌝ }
+{
+    let end = number(fields, 8) as usize;
+    if kind < 7 {
+        return 0;
+    }
+    if end <= file.len() { end } else { file.len() }
+}
+
+// Ten bytes of fields, the length lent first, and files.
 fn write_case(kind: u8, s: &[u8]) -> u8 {
     if s.len() < 10 {
         return WRONG;
@@ -184,7 +224,8 @@ fn write_case(kind: u8, s: &[u8]) -> u8 {
     let file = &s[10..];
     let mut out = [FILL; 9000];
     let code = lend(kind, s, file, number(s, 0) as usize, &mut out);
-    written(code, file, &out)
+    let at = answer_at(kind, s, file);
+    written(code, &file[at..], &out)
 }
 
 // The fields of an answer and the room.
@@ -202,10 +243,8 @@ fn found(kind: u8, s: &[u8]) -> u8 {
         1 => query::judge(s),
         2 => plan::judge(s),
         3 => judge_answer(s),
-        4 => write_case(kind, s),
-        5 => write_case(kind, s),
-        6 => write_case(kind, s),
-        _ => WRONG,
+        WRONG => WRONG,
+        _ => write_case(kind, s),
     }
 }
 
@@ -233,7 +272,7 @@ fn more(x: u64) -> u64 {
 fn counted(score: Score, kind: u8) -> Score {
     let mut r = score;
     let k = wide(kind) as usize;
-    if k < 7 {
+    if k < 12 {
         r.kinds[k] = more(score.kinds[k]);
     }
     r.cases = more(score.cases);
@@ -254,7 +293,7 @@ fn scored(score: Score, c: Case, number: u8) -> Score {
 }
 
 fn run_all(s: &[u8]) -> Score {
-    let kinds = [0u64; 7];
+    let kinds = [0u64; 12];
     let mut score = Score {
         cases: 0,
         differences: 0,
@@ -271,10 +310,7 @@ fn run_all(s: &[u8]) -> Score {
     score
 }
 
-fn main() {
-    let mut buf = io::large_buffer();
-    let n = load(b"cases.bin", &mut buf);
-    let score = run_all(&buf[..n]);
+fn print_cases(score: Score) {
     line(b"maps ", score.kinds[0]);
     line(b"questions ", score.kinds[1]);
     line(b"worksheets ", score.kinds[2]);
@@ -283,4 +319,21 @@ fn main() {
     line(b"questions written ", score.kinds[5]);
     line(b"worksheets written ", score.kinds[6]);
     line(b"differences ", score.differences);
+}
+
+fn print_runs(score: Score) {
+    line(b"trials run ", score.kinds[7]);
+    line(b"traps run ", score.kinds[8]);
+    line(b"worksheets run ", score.kinds[9]);
+    line(b"refusals ", score.kinds[10]);
+    line(b"lent lengths ", score.kinds[11]);
+    line(b"differences ", score.differences);
+}
+
+fn main() {
+    let mut buf = [0u8; 131072];
+    let n = load(b"cases.bin", &mut buf);
+    print_cases(run_all(&buf[..n]));
+    let m = load(b"runs.bin", &mut buf);
+    print_runs(run_all(&buf[..m]));
 }

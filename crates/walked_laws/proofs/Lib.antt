@@ -1,3 +1,4 @@
 pub mod Best
 pub mod Listing
 pub mod Main
+pub mod Quiet

@@ -1,5 +1,6 @@
--- `counted::push` meets its contract: it is the thin function (proofs/Thin) over `push_by_value`. Assumes nothing.
-use native.Mathlib.Omega.{arith}
+-- `counted::push` meets its contract: it is the thin function (proofs/Thin) over `push_by_value`, and hands on its first slice first and its second one second (the last two facts).
+-- Assumes nothing.
+use borrow.Author.Needs.{needs}
 use contract.Running.{givenOf, tables, tablesOf}
 use denote.Triple.Spec.{tripleOf}
 use denote.Triple.Table.{entered, cited}
@@ -17,4 +18,4 @@ push-spec 𝓤 H 𝓜 𝓖 𝓡 =
     entered 𝓤 H (tripleOf 𝓤 H (𝓖 .A) push.signature (push.spec 𝓤 H (𝓖 .A) (𝓜 .mem) (𝓡 .run)))
     (tables 𝓤 H 𝓜 𝓡 code.env .C) (tables 𝓤 H 𝓜 𝓡 code.env .Λ) name code.function (code.unfolded 𝓤 H 𝓜 𝓡)
     (thin-meets 𝓤 H (𝓖 .A) (givenOf 𝓤 H 𝓜 𝓖) (𝓜 .mem) (𝓡 .run) by-value.name _ _ (tablesOf 𝓤 H 𝓜 (tables 𝓤 H 𝓜 𝓡 code.env))
-    (cited 𝓤 H (ByValue 𝓤 H (𝓖 .A) (𝓜 .mem) (𝓡 .run)) 𝓜 𝓡 code.env by-value.name by-value.routine code.calls-counted·push-by-value (by-value-thm.met 𝓤 H 𝓜 𝓖 𝓡)) (omega arith) (omega arith))
+    (cited 𝓤 H (ByValue 𝓤 H (𝓖 .A) (𝓜 .mem) (𝓡 .run)) 𝓜 𝓡 code.env by-value.name by-value.routine code.calls-counted·push-by-value (by-value-thm.met 𝓤 H 𝓜 𝓖 𝓡)) (search needs) (search needs))

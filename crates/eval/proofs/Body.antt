@@ -10,7 +10,8 @@ use Rattle.meaning.specs.Plan.{Body, Plan, each-vertex, one-result}
 use Rattle.meaning.specs.Query.{PathReduction, Term, VertexReduction}
 use Rattle.meaning.specs.Run.{at-vertices, body-rows, evaluate, reduced, tabulate}
 use Rattle.meaning.proofs.Lists.{tabulate-at, tabulate-length}
-use Rattle.plan.specs.Text.{body-bytes, encode, entries-bytes, row-bytes, rows-bytes}
+use Rattle.plan.proofs.PathRows.{rows-size}
+use Rattle.plan.specs.Text.{body-bytes, encode, entries-bytes, rows-bytes}
 use Rattle.term_text.specs.Text.{expression-bytes}
 use Rattle.term_text.proofs.Steps.{drop-on, tag-there}
 use Rattle.value.specs.declared.Row.{Row}
@@ -81,11 +82,6 @@ module _ (n count : ℕ) (F : ℕ → List Row) (G : ℕ → List Value) (agrees
         worth = rw (tag, rows, next, others .worth) refl;
         end = ap (entries-end (length es) s) next ∙ others .end ∙ (let z : at + 1 + length l + length (entries-bytes es) ≡ at + suc (length (l ++ entries-bytes es)) = omega (arith, length-append l (entries-bytes es)) in z);
       }
-
--- where the body's bytes start
-rows-size : (cs : List PathReduction) → length (rows-bytes cs) ≡ 6 * length cs
-rows-size [] = refl
-rows-size (c ∷ cs) = omega (arith, rows-size cs, length-append (row-bytes c) (rows-bytes cs))
 
 module _ (n : ℕ) (F : ℕ → List Row) (G : ℕ → List Value) (cs : List PathReduction) (agrees : Agrees n (length cs) F G) where
   abbrev text : Body → List ℕ

@@ -11,7 +11,8 @@ use Rattle.meaning.specs.Plan.{Body, Plan, each-vertex, one-result}
 use Rattle.meaning.specs.Query.{PathReduction}
 use Rattle.meaning.specs.Run.{body-rows, evaluate, tabulate}
 use Rattle.meaning.proofs.Lists.{map-append, tabulate-at, tabulate-length}
-use Rattle.plan.specs.Text.{encode, entries-bytes, row-bytes, rows-bytes}
+use Rattle.plan.proofs.PathRows.{rows-size}
+use Rattle.plan.specs.Text.{encode, entries-bytes, rows-bytes}
 use Rattle.term_text.specs.Text.{expression-bytes}
 use Rattle.term_text.proofs.Steps.{drop-on, tag-there}
 use Rattle.value.specs.declared.Row.{Row}
@@ -24,10 +25,6 @@ use Rattle.rounds.specs.Run.{value-in}
 use Rattle.rows.specs.Rows.{body-read, final-found, many, row-count, rows-at}
 
 -- ---- the entry count of a legal plan is not cut
-
-rows-size : (cs : List PathReduction) → length (rows-bytes cs) ≡ 6 * length cs
-rows-size [] = refl
-rows-size (c ∷ cs) = omega (arith, rows-size cs, length-append (row-bytes c) (rows-bytes cs))
 
 module _ (cs : List PathReduction) (F : ℕ → List Row) (n : ℕ) where
   abbrev text : Body → List ℕ

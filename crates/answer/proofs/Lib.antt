@@ -1,3 +1,4 @@
 pub mod Bytes
 pub mod Reply
 pub mod Decoded
+pub mod Samples

@@ -4,7 +4,7 @@ use Prim.Native.Nat.{ℕ, zero, _+_, _-_, _*_, _≤_, _<_, min}
 use mathlib.Core.Path.{_≡_, refl, ap, _∙_}
 use mathlib.Core.List.{List, [], _∷_, _++_}
 use native.Mathlib.Omega.{arith}
-use lib.ListN.{length, getD, drop, replicate, take, length-append}
+use lib.ListN.{length, getD, drop, replicate, take}
 use lib.Seq.{take-at}
 use Rattle.meaning.specs.Limits.{BodyLegal, PlanLegal}
 use Rattle.meaning.specs.Plan.{Body, Plan, each-vertex, one-result}

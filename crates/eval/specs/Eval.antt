@@ -14,9 +14,11 @@ use Rattle.eval.specs.declared.Found.{Found}
 use Rattle.eval.specs.declared.Head.{Head}
 use Rattle.eval.specs.declared.Head.the-variants.{Leaf, Apply}
 
+-- either of two tags
 abbrev pub one-of : ℕ → ℕ → ℕ → Bool
 one-of tag a b = eqb tag a || eqb tag b
 
+-- a value, and where the next term starts
 abbrev pub found : Value → ℕ → Found
 found v next = record { value = v; next = next }
 

@@ -17,6 +17,7 @@ pub record Returned (reply : Reply) (number : ℕ) (before after : List ℕ) : T
   pub said : number ≡ reply-number reply
   pub left : after ≡ reply-buffer reply before
 
+-- "a kind byte, 0 for a value at each place, 1 for one result"
 abbrev pub query-kind : Query → ℕ
 query-kind (each t) = 0
 query-kind (single t) = 1

@@ -6,3 +6,4 @@ pub mod Fits
 pub mod Exact
 pub mod Written
 pub mod Judged
+pub mod Samples

@@ -10,6 +10,7 @@ use Rattle.nodes.specs.declared.Node.{Node}
 use Rattle.nodes.specs.declared.Term.{Term}
 use Rattle.nodes.specs.declared.Term.the-variants.{Empty, Path, Literal, Apply, Reduce, ResultLiteral, ResultApply, PathIndex, EntryIndex, Entry}
 
+-- a term as an element of the row of nodes
 abbrev pub node : Term → Node
 node t = record { term = t }
 

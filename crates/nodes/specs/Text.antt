@@ -33,6 +33,7 @@ term-text (PathIndex i) = 0x30 ∷ i ∷ []
 term-text (EntryIndex i) = 0x31 ∷ i ∷ []
 term-text (Entry r) = r ∷ []
 
+-- the bytes of a node
 abbrev pub node-text : Node → List ℕ
 node-text n = term-text (n .term)
 

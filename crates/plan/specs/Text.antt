@@ -26,6 +26,7 @@ abbrev pub body-bytes : Body → List ℕ
 body-bytes (each-vertex t) = 1 ∷ 0 ∷ expression-bytes 2 t
 body-bytes (one-result es t) = length es ∷ (entries-bytes es ++ expression-bytes 3 t)
 
+-- "kind" and "e" of a worksheet's bytes
 abbrev pub kind-of : Body → ℕ
 kind-of (each-vertex t) = 0
 kind-of (one-result es t) = 1

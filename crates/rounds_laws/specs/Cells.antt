@@ -6,6 +6,7 @@ use mathlib.Core.Option.{Option, none, some}
 use lib.Dec.{eqb}
 use lib.ListN.{getD}
 
+-- of a vertex's four numbers in the table (DECISIONS 34): its stamp, and its figures
 abbrev pub stamp-at : List ℕ → ℕ → ℕ
 stamp-at l v = getD l (4 * v + 3) 0
 

@@ -74,6 +74,7 @@ leaf-step mode s w =
     (cond (eqb mode 2) (index-step s w (w .paths))
     (index-step s w (w .reductions))))
 
+-- the tag of the term that each kind of expression has instead of a literal or an operator: a chain, a reduction, a chain's index, an entry's index
 unfoldable pub leaf-tag : ℕ → ℕ
 leaf-tag mode = cond (eqb mode 0) 0x10 (cond (eqb mode 1) 0x20 (cond (eqb mode 2) 0x30 0x31))
 

@@ -32,9 +32,11 @@ unfoldable pub row : ℕ → KeyRow
 row zero = no-key
 row (suc k) = getD table k no-key
 
+-- "9 | code | an illegal .. key ..": a key is a number of the table
 abbrev pub known : ℕ → Bool
 known k = leb 1 k && leb k 6
 
+-- the columns of a key's row: "Value of a walk", "Kept", and whether it may stand before the last
 abbrev pub measure : ℕ → Measure
 measure k = row k .measure
 
@@ -59,6 +61,7 @@ in-order [] = true
 in-order (k ∷ []) = true
 in-order (k ∷ (j ∷ ks)) = early k && in-order (j ∷ ks)
 
+-- each key is one of the table's
 abbrev pub all-known : List ℕ → Bool
 all-known [] = true
 all-known (k ∷ ks) = known k && all-known ks

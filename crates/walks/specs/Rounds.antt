@@ -18,6 +18,7 @@ precedes (k ∷ ks) [] ys = true
 precedes (k ∷ ks) (x ∷ xs) [] = true
 precedes (k ∷ ks) (x ∷ xs) (y ∷ ys) = cond (eqb x y) (precedes ks xs ys) (good? (kept k) x y)
 
+-- the better of two lists of figures; with one absent, the other; of equal ones the first
 unfoldable pub best : List ℕ → Option (List ℕ) → Option (List ℕ) → Option (List ℕ)
 best ks none b = b
 best ks (some xs) none = some xs
@@ -70,6 +71,7 @@ same none (some ys) = false
 same (some xs) none = false
 same (some xs) (some ys) = same-list xs ys
 
+-- whether a place has a walk
 abbrev pub reached : Option (List ℕ) → Bool
 reached none = false
 reached (some xs) = true

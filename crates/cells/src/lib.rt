@@ -51,14 +51,7 @@ fn read16(s: &[u8], i: usize) -> usize
     byte_wide(s[i]) + 256 * byte_wide(s[i + 1])
 }
 
-// How many vertices and edges an accepted map has.
-pub fn vertices(graph: &[u8]) -> usize
-    requires { ⌜ graph-code (now graph) ≡ 0 ⌝ }
-    ensures { λ r. ⌜ (r ≡ at16 (now (graph .entry)) 5) × (r ≤ 256) ⌝ }
-{
-    read16(graph, 5)
-}
-
+// How many edges an accepted map has.
 fn edges(graph: &[u8]) -> usize
     requires { ⌜ graph-code (now graph) ≡ 0 ⌝ }
     ensures { λ r. ⌜ (r ≡ at16 (now (graph .entry)) 7) × (r ≤ 1024) ⌝ }

@@ -24,12 +24,20 @@ fn wide(x: u32) -> u64
     x as u64
 }
 
+// How many vertices an accepted map has.
+fn vertices(graph: &[u8]) -> usize
+    requires { ⌜ graph-code (now graph) ≡ 0 ⌝ }
+    ensures { λ r. ⌜ (r ≡ at16 (now (graph .entry)) 5) × (r ≤ 256) ⌝ }
+{
+    wire::half(graph, 5) as usize
+}
+
 // Path reduction j has the numbers from 1,024 * j on, four for each vertex.
 fn start_at(word: u64, graph: &[u8], j: usize, figures: &mut [u32])
     requires { ⌜ (graph-code (now graph) ≡ 0) × (j < 8) × (length (now figures) ≡ 8192) ⌝ }
     ensures { λ _. ⌜ now (figures .exit) ≡ started-at (now (graph .entry)) word j (now (figures .entry)) ⌝ }
 {
-    let n = cells::vertices(graph);
+    let n = vertices(graph);
     let a = 1024 * j;
     let e = a + 4 * n;
     cells::start(word, n, &mut figures[a..e])
@@ -59,7 +67,7 @@ fn step_at(
     requires { ⌜ (graph-code (now graph) ≡ 0) × (j < 8) × (length (now figures) ≡ 8192) × (length (now work) ≡ 4 * at16 (now graph) 5) ⌝ }
     ensures { λ r. ⌜ (r ≡ step-takes (now (graph .entry)) word j since stamp (now (figures .entry))) × (now (figures .exit) ≡ stepped (now (graph .entry)) word j since stamp (now (figures .entry))) ⌝ }
 {
-    let n = cells::vertices(graph);
+    let n = vertices(graph);
     let from = 1024 * j;
     let end = from + 4 * n;
     cells::step(word, graph, since, stamp, &mut figures[from..end], work)
@@ -179,7 +187,7 @@ pub fn run(
 {
     let mut rest = [0u8; 8];
     let mut buffer = [0u32; 1024];
-    let w = 4 * cells::vertices(graph);
+    let w = 4 * vertices(graph);
     start_all(graph, paths, table, figures);
     rounds(
         push,

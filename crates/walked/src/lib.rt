@@ -198,7 +198,7 @@ fn best_of(rows: &[u16], k: Kept, w: Walk, left: usize, found: Value) -> Value
 }
 
 // The figures of a path reduction at a vertex over all walks of at most `most` edges: key by key, the best among the walks kept so far.
-pub fn figures_at(rows: &[u16], path: PathReduction, vertex: u16, most: usize) -> Figures
+fn figures_at(rows: &[u16], path: PathReduction, vertex: u16, most: usize) -> Figures
     ensures { λ r. ⌜ r ≡ spec.figures-at (now (rows .entry)) path vertex most ⌝ }
 {
     let mut best = [0u64; 3];

@@ -19,7 +19,7 @@ use Rattle.value.specs.Value.{combine, compute}
 use Rattle.walks.specs.Keys.{row}
 use Rattle.walks.specs.Rounds.{best, first, gather, marked, rounds, state}
 use Rattle.wire.specs.Header.{header-code}
-use Rattle.trials.specs.Samples.{Run, outcome-by, questions, runs, samples, worksheets}
+use Rattle.trials.specs.Samples.{Run, outcome-by, queries, runs, samples, plans}
 use Rattle.trials.specs.Trials.{Fusing, Reading, Trial, found, fusings, readings, trials}
 
 -- THE MARKED TRIALS: by pull, by push, what readers say, and what fusing gives
@@ -38,7 +38,7 @@ pub runs-hold : (map (outcome-by pull) runs ≡ map (λ (s : Run). s .outcome) r
 unfolding run stopped rounds first state marked gather best row compute combine
 runs-hold = (refl, refl)
 
-pub numbers-hold : (map (λ (r : Reading). query-code (r .bytes)) questions ≡ map (λ (r : Reading). r .number) questions)
-    × (map (λ (r : Reading). plan-code (r .bytes)) worksheets ≡ map (λ (r : Reading). r .number) worksheets)
+pub numbers-hold : (map (λ (r : Reading). query-code (r .bytes)) queries ≡ map (λ (r : Reading). r .number) queries)
+    × (map (λ (r : Reading). plan-code (r .bytes)) plans ≡ map (λ (r : Reading). r .number) plans)
 unfolding query-scan header-code ended started blank read term-step leaf-step leaf-tag literal-tag path-step path-code keys-code kept-path slot-of advanced path-word reduce-step index-step literal-step row plan-scan rows-scan row-step row-code row-word body-scan moved entries-scan entry-scan final-scan
 numbers-hold = (refl, refl)

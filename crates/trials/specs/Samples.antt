@@ -110,8 +110,8 @@ runs =
 abbrev headed : ℕ → List ℕ → ℕ → Reading
 headed letter l number = record { bytes = 0x4c ∷ 0x50 ∷ letter ∷ 0x01 ∷ 0x00 ∷ l; number = number }
 
-abbrev pub questions : List Reading
-questions =
+abbrev pub queries : List Reading
+queries =
     -- keys 3,4,1: read; 6,1: 10; key 7, key counts 0 and 4: 9
     headed 0x51 (0x00 ∷ 0x10 ∷ 0x03 ∷ 0x03 ∷ 0x04 ∷ 0x01 ∷ 0x00 ∷ 0x00 ∷ []) 0
     ∷ headed 0x51 (0x00 ∷ 0x10 ∷ 0x02 ∷ 0x06 ∷ 0x01 ∷ 0x00 ∷ 0x00 ∷ []) 10
@@ -130,8 +130,8 @@ questions =
     ∷ headed 0x57 (0x00 ∷ 0x11 ∷ 0x00 ∷ 0x00 ∷ 0x00 ∷ 0x00 ∷ []) 2
     ∷ []
 
-abbrev pub worksheets : List Reading
-worksheets =
+abbrev pub plans : List Reading
+plans =
     -- "counts above 8 are 14 at that byte, but for kind 0 every e other than 1 is 9"
     headed 0x57 (0x01 ∷ 0x09 ∷ []) 14
     ∷ headed 0x57 (0x01 ∷ 0x00 ∷ 0x09 ∷ []) 14

@@ -1,6 +1,7 @@
 // Tries the readers and writers on the cases of cases.bin, and runs on those of runs.bin, which tests/make_cases.py writes: a case is
 // a kind byte, the number expected, a 16-bit length and as many bytes. Prints for each file the first cases that differ, then how many
 // there are of each kind, and how many differ.
+use engine::Limit;
 ghost use Rattle.io.specs.Counts.{Counts};
 ghost use mathlib.Core.Path.{_≡_};
 ghost use Prim.Native.Nat.{_≤_, _<_};
@@ -162,10 +163,10 @@ fn write_plan(fields: &[u8], file: &[u8], out: &mut [u8]) -> u32 {
 
 fn run(call: u8, rounds: u16, plan: &[u8], graph: &[u8], out: &mut [u8]) -> u32 {
     match call {
-        0 => engine::pull(plan, graph, out),
-        1 => engine::push(plan, graph, out),
-        2 => engine::pull_rounds(plan, graph, rounds, out),
-        3 => engine::push_rounds(plan, graph, rounds, out),
+        0 => engine::pull(plan, graph, Limit::Quiet, out),
+        1 => engine::push(plan, graph, Limit::Quiet, out),
+        2 => engine::pull(plan, graph, Limit::Rounds(rounds), out),
+        3 => engine::push(plan, graph, Limit::Rounds(rounds), out),
         _ => NOT_WRITTEN,
     }
 }

@@ -3,7 +3,6 @@ use Prim.Native.Nat.{ℕ, _+_, _<_}
 use mathlib.Core.Path.{_≡_, refl, ap, _∙_}
 use mathlib.Core.Bool.{Bool, true, false, cond}
 use mathlib.Core.List.{List}
-use mathlib.Core.Option.{Option}
 use native.Mathlib.Omega.{arith}
 use borrow.Author.Tests.{eqb-true, le-ltb, lt-ltb}
 use lib.Dec.{ltb, eqb}
@@ -13,6 +12,7 @@ use Rattle.answer.proofs.Bytes.{count-most, encode-length}
 use Rattle.answer.proofs.Reply.{fields}
 use Rattle.counters.specs.Counted.{counted-by}
 use Rattle.counters.specs.declared.Counters.{Counters}
+use Rattle.engine.specs.declared.Limit.{Limit}
 use Rattle.engine.specs.Run.{answered, paths-of, rounds-done, rows-after, run-reply}
 use Rattle.engine.specs.Steps.{run-code}
 use Rattle.engine.proofs.Meant.{run-judged}
@@ -49,7 +49,7 @@ told-answer n rounds kind vs room =
     told-unless (fields-code n kind) _ (λ z. told-fitted (answer-bytes n rounds kind vs) room
     (omega (arith, encode-length n kind (record { count = rounds; rows = answer-rows n kind vs }), length-take (row-count n kind) vs, count-most n kind 256 (fields n kind z .few-vertices) (omega arith))))
 
-told-run : (limit : Option ℕ) (s m : List ℕ) (room : ℕ) → Told (run-reply limit s m room)
+told-run : (limit : Limit) (s m : List ℕ) (room : ℕ) → Told (run-reply limit s m room)
 unfolding answered
 told-run limit s m room =
     let g = graph-of m in
@@ -58,6 +58,6 @@ told-run limit s m room =
     (told-unless (run-code (plan-scan s) m) (answered limit s g cs room) (λ _. told-answer (g .vertices) (rounds-done limit g cs) (getD s 5 0) (rows-after s g cs (rounds-done limit g cs)) room))
 
 -- THE COUNTERS BY THE NUMBER ARE THOSE BY THE REPLY
-pub counted-told : (limit : Option ℕ) (s m : List ℕ) (room : ℕ) (c : Counters) (n : ℕ) → n ≡ reply-number (run-reply limit s m room)
+pub counted-told : (limit : Limit) (s m : List ℕ) (room : ℕ) (c : Counters) (n : ℕ) → n ≡ reply-number (run-reply limit s m room)
     → counted-by c (ltb n 65536) ≡ counters-after (run-reply limit s m room) c
 counted-told limit s m room c n e = ap (λ (k : ℕ). counted-by c (ltb k 65536)) e ∙ ap (counted-by c) (told-run limit s m room)

@@ -1,11 +1,12 @@
 // Counted runs (document 01): "The tally is one record, lent to each counted run and changed in place".
 // The number and the buffer are those of the run that is not counted.
 use counters::Counters;
+use engine::Limit;
 ghost use mathlib.Core.Path.{_≡_};
-ghost use mathlib.Core.Option.{none};
 ghost use lib.ListN.{length};
 ghost use lib.Dec.{ltb};
 ghost use Rattle.wire.specs.Wire.{reply-number, reply-buffer};
+ghost use Rattle.engine.specs.declared.Limit.the-variants.{Quiet};
 ghost use Rattle.engine.specs.Run.{run-reply};
 ghost use Rattle.counters.specs.Counted.{counted-by};
 ghost use Rattle.counted.specs.Counted.{counters-after};
@@ -29,21 +30,21 @@ fn counted(number: u32, c: Counters) -> Ended
 
 // The counted run by pull, the counters by value.
 fn pull_by_value(plan: &[u8], graph: &[u8], out: &mut [u8], c: Counters) -> Ended
-    ensures { λ r. ⌜ (r .number ≡ reply-number (run-reply none (now (plan .entry)) (now (graph .entry)) (length (now (out .entry))))) × (now (out .exit) ≡ reply-buffer (run-reply none (now (plan .entry)) (now (graph .entry)) (length (now (out .entry)))) (now (out .entry))) × (r .counters ≡ counters-after (run-reply none (now (plan .entry)) (now (graph .entry)) (length (now (out .entry)))) c) ⌝ }
+    ensures { λ r. ⌜ (r .number ≡ reply-number (run-reply Quiet (now (plan .entry)) (now (graph .entry)) (length (now (out .entry))))) × (now (out .exit) ≡ reply-buffer (run-reply Quiet (now (plan .entry)) (now (graph .entry)) (length (now (out .entry)))) (now (out .entry))) × (r .counters ≡ counters-after (run-reply Quiet (now (plan .entry)) (now (graph .entry)) (length (now (out .entry)))) c) ⌝ }
 {
-    counted(engine::pull(plan, graph, out), c)
+    counted(engine::pull(plan, graph, Limit::Quiet, out), c)
 }
 
 // The same by push.
 fn push_by_value(plan: &[u8], graph: &[u8], out: &mut [u8], c: Counters) -> Ended
-    ensures { λ r. ⌜ (r .number ≡ reply-number (run-reply none (now (plan .entry)) (now (graph .entry)) (length (now (out .entry))))) × (now (out .exit) ≡ reply-buffer (run-reply none (now (plan .entry)) (now (graph .entry)) (length (now (out .entry)))) (now (out .entry))) × (r .counters ≡ counters-after (run-reply none (now (plan .entry)) (now (graph .entry)) (length (now (out .entry)))) c) ⌝ }
+    ensures { λ r. ⌜ (r .number ≡ reply-number (run-reply Quiet (now (plan .entry)) (now (graph .entry)) (length (now (out .entry))))) × (now (out .exit) ≡ reply-buffer (run-reply Quiet (now (plan .entry)) (now (graph .entry)) (length (now (out .entry)))) (now (out .entry))) × (r .counters ≡ counters-after (run-reply Quiet (now (plan .entry)) (now (graph .entry)) (length (now (out .entry)))) c) ⌝ }
 {
-    counted(engine::push(plan, graph, out), c)
+    counted(engine::push(plan, graph, Limit::Quiet, out), c)
 }
 
 // The counted run by pull: thin, since a struct lent by `&mut` is proved by hand (proofs/Thin, once for both runs).
 pub fn pull(plan: &[u8], graph: &[u8], out: &mut [u8], counters: &mut Counters) -> u32
-    ensures { λ r. ⌜ (r ≡ reply-number (run-reply none (now (plan .entry)) (now (graph .entry)) (length (now (out .entry))))) × (now (out .exit) ≡ reply-buffer (run-reply none (now (plan .entry)) (now (graph .entry)) (length (now (out .entry)))) (now (out .entry))) × (now (counters .exit) ≡ counters-after (run-reply none (now (plan .entry)) (now (graph .entry)) (length (now (out .entry)))) (now (counters .entry))) ⌝ }
+    ensures { λ r. ⌜ (r ≡ reply-number (run-reply Quiet (now (plan .entry)) (now (graph .entry)) (length (now (out .entry))))) × (now (out .exit) ≡ reply-buffer (run-reply Quiet (now (plan .entry)) (now (graph .entry)) (length (now (out .entry)))) (now (out .entry))) × (now (counters .exit) ≡ counters-after (run-reply Quiet (now (plan .entry)) (now (graph .entry)) (length (now (out .entry)))) (now (counters .entry))) ⌝ }
 {
     let r = pull_by_value(plan, graph, out, *counters);
     *counters = r.counters;
@@ -52,7 +53,7 @@ pub fn pull(plan: &[u8], graph: &[u8], out: &mut [u8], counters: &mut Counters) 
 
 // The counted run by push: the same.
 pub fn push(plan: &[u8], graph: &[u8], out: &mut [u8], counters: &mut Counters) -> u32
-    ensures { λ r. ⌜ (r ≡ reply-number (run-reply none (now (plan .entry)) (now (graph .entry)) (length (now (out .entry))))) × (now (out .exit) ≡ reply-buffer (run-reply none (now (plan .entry)) (now (graph .entry)) (length (now (out .entry)))) (now (out .entry))) × (now (counters .exit) ≡ counters-after (run-reply none (now (plan .entry)) (now (graph .entry)) (length (now (out .entry)))) (now (counters .entry))) ⌝ }
+    ensures { λ r. ⌜ (r ≡ reply-number (run-reply Quiet (now (plan .entry)) (now (graph .entry)) (length (now (out .entry))))) × (now (out .exit) ≡ reply-buffer (run-reply Quiet (now (plan .entry)) (now (graph .entry)) (length (now (out .entry)))) (now (out .entry))) × (now (counters .exit) ≡ counters-after (run-reply Quiet (now (plan .entry)) (now (graph .entry)) (length (now (out .entry)))) (now (counters .entry))) ⌝ }
 {
     let r = push_by_value(plan, graph, out, *counters);
     *counters = r.counters;

@@ -5,7 +5,6 @@ use mathlib.Core.Path.{_≡_, refl, sym, ap, _∙_, subst}
 use mathlib.Core.Logic.{_⊎_, inl, inr}
 use mathlib.Core.Bool.{Bool, true, false, cond}
 use mathlib.Core.List.{List, [], _∷_}
-use mathlib.Core.Option.{Option}
 use native.Mathlib.Omega.{arith}
 use borrow.Author.Tests.{eqb-true, eqb-false, le-ltb, lt-ltb, ltb-true, ne-eqb}
 use lib.Dec.{ltb, eqb}
@@ -44,7 +43,8 @@ use Rattle.walks.specs.Walks.{Graph}
 use Rattle.wire.specs.Header.{then}
 use Rattle.wire.proofs.Codes.{then-both}
 use Rattle.wire.specs.Wire.{Bytes, Reply, at16, fitted, refused, unless}
-use Rattle.engine.specs.Run.{answered, paths-of, rounds-done, rows-after, run-reply, source-code, sources-code}
+use Rattle.engine.specs.declared.Limit.{Limit}
+use Rattle.engine.specs.Run.{answered, paths-of, rounds-done, rows-after, run-reply, outside-code, sources-code}
 use Rattle.engine.specs.Steps.{count-of, finished, meant, run-code, table-after}
 use Rattle.engine.proofs.Numbers.{numbers-held, paths-held}
 
@@ -52,7 +52,7 @@ use Rattle.engine.proofs.Numbers.{numbers-held, paths-held}
 
 -- an accepted list of starts: each is a vertex, or anywhere
 module _ (n : ℕ) where
-  source-fits : (c : PathReduction) → PathFits 256 c → source-code n (c .source) ≡ 0 → PathFits n c
+  source-fits : (c : PathReduction) → PathFits 256 c → outside-code n (c .source) ≡ 0 → PathFits n c
   source-fits c f e = (f .0, go (eqb (c .source) anywhere) (ltb (c .source) n) refl refl e)
     where
       go : (a b : Bool) → eqb (c .source) anywhere ≡ a → ltb (c .source) n ≡ b → _≡_ {A = ℕ} (cond a 0 (cond b 0 13)) 0 → (c .source < n) ⊎ (c .source ≡ anywhere)
@@ -63,17 +63,17 @@ module _ (n : ℕ) where
   pub sources-fit : (cs : List PathReduction) → All (PathFits 256) cs → sources-code n cs ≡ 0 → All (PathFits n) cs
   unfolding sources-code
   sources-fit [] f e = tt
-  sources-fit (c ∷ cs) f e = go (eqb (source-code n (c .source)) 0) refl e (sources-fit cs (f .1))
+  sources-fit (c ∷ cs) f e = go (eqb (outside-code n (c .source)) 0) refl e (sources-fit cs (f .1))
     where
-      go : (b : Bool) → eqb (source-code n (c .source)) 0 ≡ b → cond b (sources-code n cs) (source-code n (c .source)) ≡ 0 → (sources-code n cs ≡ 0 → All (PathFits n) cs)
+      go : (b : Bool) → eqb (outside-code n (c .source)) 0 ≡ b → cond b (sources-code n cs) (outside-code n (c .source)) ≡ 0 → (sources-code n cs ≡ 0 → All (PathFits n) cs)
           → All (PathFits n) (c ∷ cs)
-      go true p z rest = (source-fits c (f .0) (eqb-true (source-code n (c .source)) 0 p), rest z)
-      go false p z rest = absurd (eqb-false (source-code n (c .source)) 0 p z)
+      go true p z rest = (source-fits c (f .0) (eqb-true (outside-code n (c .source)) 0 p), rest z)
+      go false p z rest = absurd (eqb-false (outside-code n (c .source)) 0 p z)
 
-  source-accepted : (c : PathReduction) → PathFits n c → source-code n (c .source) ≡ 0
+  source-accepted : (c : PathReduction) → PathFits n c → outside-code n (c .source) ≡ 0
   source-accepted c f = go (f .1) (eqb (c .source) anywhere) refl
     where
-      go : (c .source < n) ⊎ (c .source ≡ anywhere) → (b : Bool) → eqb (c .source) anywhere ≡ b → source-code n (c .source) ≡ 0
+      go : (c .source < n) ⊎ (c .source ≡ anywhere) → (b : Bool) → eqb (c .source) anywhere ≡ b → outside-code n (c .source) ≡ 0
       go x true p = rw p refl
       go (inl h) false p = rw (p, lt-ltb (c .source) n h) refl
       go (inr h) false p = absurd (eqb-false (c .source) anywhere p h)
@@ -86,7 +86,7 @@ module _ (n : ℕ) where
 -- ---- the answer
 
 -- the outcome of a plan: run to the first quiet round, or stopped
-abbrev pub outcome : Option ℕ → Graph → Plan → Outcome
+abbrev pub outcome : Limit → Graph → Plan → Outcome
 outcome limit g p = stopped (pull g) (g .vertices) p (rounds-done limit g (p .paths))
 
 module _ (p : Plan) (legal : PlanLegal 256 p) (m : List ℕ) (bytes : Bytes m) (graph-ok : graph-code m ≡ 0) (fits : All (PathFits (at16 m 5)) (p .paths)) where
@@ -123,7 +123,7 @@ module _ (p : Plan) (legal : PlanLegal 256 p) (m : List ℕ) (bytes : Bytes m) (
   rows-counted r = rows-length p (G r) n
 
   -- THE ANSWER OF THE DEFINITION IS THE ENCODING OF THE OUTCOME
-  pub answered-encodes : (limit : Option ℕ) (room : ℕ)
+  pub answered-encodes : (limit : Limit) (room : ℕ)
       → answered limit (encode p) (graph-of m) (p .paths) room ≡ fitted (answer.encode (at16 m 5) (kind-of (p .body)) (outcome limit (graph-of m) p)) room
   unfolding answered rows-after stopped
   answered-encodes limit room =
@@ -197,7 +197,7 @@ unless-then a b r = go (eqb a 0) refl
     go false e = rw e refl
 
 -- a run that is judged: refused by the first number, or answered
-pub run-judged : (limit : Option ℕ) (s m : List ℕ) (room : ℕ)
+pub run-judged : (limit : Limit) (s m : List ℕ) (room : ℕ)
     → run-reply limit s m room ≡ unless (run-code (plan-scan s) m) (answered limit s (graph-of m) (paths-of (plan-scan s)) room)
 unfolding run-reply run-code
 run-judged limit s m room =
@@ -205,7 +205,7 @@ run-judged limit s m room =
     let c = sources-code (at16 m 5) (paths-of (plan-scan s)) in
     sym (unless-then (plan-code s) (then (graph-code m) c) A ∙ ap (unless (plan-code s)) (unless-then (graph-code m) c A))
 
-pub run-refused : (limit : Option ℕ) (s m : List ℕ) (room k : ℕ) → k ≡ run-code (plan-scan s) m → (k ≡ 0 → ⊥) → run-reply limit s m room ≡ refused k
+pub run-refused : (limit : Limit) (s m : List ℕ) (room k : ℕ) → k ≡ run-code (plan-scan s) m → (k ≡ 0 → ⊥) → run-reply limit s m room ≡ refused k
 run-refused limit s m room k e h = run-judged limit s m room ∙ rw (← e, ne-eqb k 0 h) refl
 
 -- A LEGAL PLAN ON AN ACCEPTED MAP THAT HAS ITS STARTS: the reply is the encoding of the outcome, where it fits
@@ -213,7 +213,7 @@ module _ (p : Plan) (legal : PlanLegal 256 p) (m : List ℕ) (bytes : Bytes m) (
   paths-are-its : paths-of (plan-scan (encode p)) ≡ p .paths
   paths-are-its = paths-held (plan-scan (encode p)) (p .paths) (read-complete p legal .table)
 
-  pub run-answers : All (PathFits (at16 m 5)) (p .paths) → (limit : Option ℕ) (room : ℕ)
+  pub run-answers : All (PathFits (at16 m 5)) (p .paths) → (limit : Limit) (room : ℕ)
       → run-reply limit (encode p) m room ≡ fitted (answer.encode (at16 m 5) (kind-of (p .body)) (outcome limit (graph-of m) p)) room
   unfolding run-code
   run-answers fits limit room =
@@ -230,7 +230,7 @@ module _ (p : Plan) (legal : PlanLegal 256 p) (m : List ℕ) (bytes : Bytes m) (
 -- FOR ALL BYTES that are not refused before 15: they are those of a legal plan, and the reply is the encoding of its outcome, where it fits
 pub run-means : (s m : List ℕ) → Bytes s → Bytes m → run-code (plan-scan s) m ≡ 0
     → (p : Plan) × PlanLegal 256 p × (encode p ≡ s)
-    × ((limit : Option ℕ) (room : ℕ) → run-reply limit s m room ≡ fitted (answer.encode (at16 m 5) (kind-of (p .body)) (outcome limit (graph-of m) p)) room)
+    × ((limit : Limit) (room : ℕ) → run-reply limit s m room ≡ fitted (answer.encode (at16 m 5) (kind-of (p .body)) (outcome limit (graph-of m) p)) room)
 unfolding run-code
 run-means s m bs bm z =
     let a = then-both (plan-code s) (then (graph-code m) (sources-code (at16 m 5) (paths-of (plan-scan s)))) z in
@@ -241,15 +241,16 @@ run-means s m bs bm z =
     let fits = sources-fit (at16 m 5) (p .paths) (r .1 .paths-legal) (subst (λ (cs : List PathReduction). sources-code (at16 m 5) cs ≡ 0) its (subst (λ (t : List ℕ). sources-code (at16 m 5) (paths-of (plan-scan t)) ≡ 0) (sym (r .2)) (b .1))) in
     (p, r .1, r .2, λ limit room. ap (λ (t : List ℕ). run-reply limit t m room) (sym (r .2)) ∙ run-answers p (r .1) m bm (b .0) fits limit room)
 
-pub finished-meant : (push given : Bool) (limit : ℕ) (s m : List ℕ) (room : ℕ) → limit < 65536 → Bytes s → Bytes m → run-code (plan-scan s) m ≡ 0
-    → run-reply (meant given limit) s m room ≡ finished push given limit s (plan-scan s) m room
+pub finished-meant : (push given : Bool) (r : ℕ) (limit : Limit) → limit ≡ meant given r → (s m : List ℕ) (room : ℕ) → r < 65536 → Bytes s → Bytes m → run-code (plan-scan s) m ≡ 0
+    → run-reply limit s m room ≡ finished push given r s (plan-scan s) m room
 unfolding run-code
-finished-meant push given limit s m room h bs bm z =
+finished-meant push given r limit e s m room h bs bm z =
     let a = then-both (plan-code s) (then (graph-code m) (sources-code (at16 m 5) (paths-of (plan-scan s)))) z in
     let b = then-both (graph-code m) (sources-code (at16 m 5) (paths-of (plan-scan s))) (a .1) in
     let p = read-sound s bs (a .0) in
-    subst (λ (t : List ℕ). sources-code (at16 m 5) (paths-of (plan-scan t)) ≡ 0 → run-reply (meant given limit) t m room ≡ finished push given limit t (plan-scan t) m room) (p .2)
-    (finished-legal (p .0) (p .1) m bm (b .0) push given limit room h) (b .1)
+    ap (λ (l : Limit). run-reply l s m room) e
+    ∙ subst (λ (t : List ℕ). sources-code (at16 m 5) (paths-of (plan-scan t)) ≡ 0 → run-reply (meant given r) t m room ≡ finished push given r t (plan-scan t) m room) (p .2)
+    (finished-legal (p .0) (p .1) m bm (b .0) push given r room h) (b .1)
 
 -- the rows handed to the writer are 256
 pub rows-full : (s : List ℕ) (F : ℕ → List Row) (n : ℕ) → n ≤ 256 → length (values (many (body-read s F n))) ≡ 256

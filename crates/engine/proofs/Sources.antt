@@ -7,14 +7,14 @@ use native.Mathlib.Omega.{arith}
 use lib.ListN.{length, getD, take, drop}
 use lib.Seq.{drop-cons}
 use Rattle.wire.specs.Header.{then}
-use Rattle.engine.specs.Run.{path-of, source-code, sources-code}
+use Rattle.engine.specs.Run.{path-of, outside-code, sources-code}
 
 -- those from the i-th on, of the first `count`
 abbrev pub left : ℕ → List ℕ → ℕ → ℕ → ℕ
 left n table count i = sources-code n (map path-of (take (count - i) (drop i table)))
 
 module _ (n : ℕ) (table : List ℕ) (count i : ℕ) where
-  pub source-next : i < count → count ≤ length table → left n table count i ≡ then (source-code n (getD table i 0 / 4294967296)) (left n table count (i + 1))
+  pub source-next : i < count → count ≤ length table → left n table count i ≡ then (outside-code n (getD table i 0 / 4294967296)) (left n table count (i + 1))
   unfolding sources-code path-of
   source-next h k =
       let e : count - i ≡ suc (count - (i + 1)) = omega arith in

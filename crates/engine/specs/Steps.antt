@@ -2,7 +2,6 @@
 use Prim.Native.Nat.{ℕ, _*_, min}
 use mathlib.Core.Bool.{Bool, cond}
 use mathlib.Core.List.{List}
-use mathlib.Core.Option.{Option, none, some}
 use lib.ListN.{getD, replicate}
 use Rattle.answer.specs.Answer.{answer-reply}
 use Rattle.graph.specs.Graph.{graph-code}
@@ -12,6 +11,8 @@ use Rattle.terms.specs.declared.Walk.{Walk}
 use Rattle.value.specs.Value.{values}
 use Rattle.wire.specs.Header.{then}
 use Rattle.wire.specs.Wire.{Reply, at16}
+use Rattle.engine.specs.declared.Limit.{Limit}
+use Rattle.engine.specs.declared.Limit.the-variants.{Quiet, Rounds}
 use Rattle.engine.specs.Run.{paths-of, sources-code}
 
 -- the refusal of the worksheet, of the map, of the starts
@@ -19,8 +20,8 @@ unfoldable pub run-code : Walk → List ℕ → ℕ
 run-code w m = then (w .code) (then (graph-code m) (sources-code (at16 m 5) (paths-of w)))
 
 -- the limit as document 01 has it; at most so many rounds are done; so many are reported
-abbrev pub meant : Bool → ℕ → Option ℕ
-meant given limit = cond given (some limit) none
+abbrev pub meant : Bool → ℕ → Limit
+meant given limit = cond given (Rounds limit) Quiet
 
 abbrev pub limit-of : Bool → ℕ → ℕ → ℕ
 limit-of given limit n = cond given limit (2 * n)

@@ -2,13 +2,18 @@
 use terms::Walk;
 ghost use mathlib.Core.Path.{_≡_};
 ghost use mathlib.Core.List.{map};
-ghost use mathlib.Core.Option.{none, some};
 ghost use Prim.Native.Nat.{_≤_};
 ghost use lib.ListN.{length, take};
 ghost use Rattle.graph.specs.Graph.{graph-code};
 ghost use Rattle.wire.specs.Wire.{at16, reply-number, reply-buffer};
-ghost use Rattle.engine.specs.Run.{path-of, source-code, sources-code, run-reply};
-ghost use Rattle.engine.specs.Steps.{run-code, limit-of, count-of, finished, meant};
+ghost use Rattle.engine.specs.Run.{path-of, outside-code, sources-code, run-reply};
+ghost use Rattle.engine.specs.Steps.{run-code, limit-of, count-of, finished};
+
+// How long a run goes on: to the first quiet round, or for a given number of rounds.
+pub enum Limit {
+    Quiet,
+    Rounds(u16),
+}
 
 // How many vertices a map has, by its field.
 fn vertices(graph: &[u8]) -> u16
@@ -18,8 +23,8 @@ fn vertices(graph: &[u8]) -> u16
 }
 
 // 13 for a source that is no vertex and not anywhere.
-fn source_code(n: u64, source: u64) -> u8
-    ensures { λ r. ⌜ r ≡ source-code n source ⌝ }
+fn outside_code(n: u64, source: u64) -> u8
+    ensures { λ r. ⌜ r ≡ outside-code n source ⌝ }
 {
     if source == 65535 {
         return 0;
@@ -38,7 +43,7 @@ fn sources_code(table: [u64; 8], paths: usize, n: u64) -> u8
     let mut i: usize = 0;
     while i < count {
         let word = table[i];
-        let c = source_code(n, word / 4294967296);
+        let c = outside_code(n, word / 4294967296);
         if c != 0 {
             return c;
         }
@@ -119,41 +124,30 @@ fn finish(
     answer::write(n, reported(given, limit, count), kind, list, out)
 }
 
-fn run(push: bool, given: bool, limit: u16, plan: &[u8], graph: &[u8], out: &mut [u8]) -> u32
-    ensures { λ r. ⌜ (r ≡ reply-number (run-reply (meant given limit) (now (plan .entry)) (now (graph .entry)) (length (now (out .entry))))) × (now (out .exit) ≡ reply-buffer (run-reply (meant given limit) (now (plan .entry)) (now (graph .entry)) (length (now (out .entry)))) (now (out .entry))) ⌝ }
+fn run(push: bool, plan: &[u8], graph: &[u8], limit: Limit, out: &mut [u8]) -> u32
+    ensures { λ r. ⌜ (r ≡ reply-number (run-reply limit (now (plan .entry)) (now (graph .entry)) (length (now (out .entry))))) × (now (out .exit) ≡ reply-buffer (run-reply limit (now (plan .entry)) (now (graph .entry)) (length (now (out .entry)))) (now (out .entry))) ⌝ }
 {
     let w = plan::scan(plan);
     let code = judge(w, graph);
     if code != 0 {
         return 65536 + code as u32;
     }
-    finish(push, given, limit, plan, w, graph, out)
+    match limit {
+        Limit::Quiet => finish(push, false, 0, plan, w, graph, out),
+        Limit::Rounds(r) => finish(push, true, r, plan, w, graph, out),
+    }
 }
 
-// The run by pull, to the first quiet round.
-pub fn pull(plan: &[u8], graph: &[u8], out: &mut [u8]) -> u32
-    ensures { λ r. ⌜ (r ≡ reply-number (run-reply none (now (plan .entry)) (now (graph .entry)) (length (now (out .entry))))) × (now (out .exit) ≡ reply-buffer (run-reply none (now (plan .entry)) (now (graph .entry)) (length (now (out .entry)))) (now (out .entry))) ⌝ }
+// The run by pull.
+pub fn pull(plan: &[u8], graph: &[u8], limit: Limit, out: &mut [u8]) -> u32
+    ensures { λ r. ⌜ (r ≡ reply-number (run-reply limit (now (plan .entry)) (now (graph .entry)) (length (now (out .entry))))) × (now (out .exit) ≡ reply-buffer (run-reply limit (now (plan .entry)) (now (graph .entry)) (length (now (out .entry)))) (now (out .entry))) ⌝ }
 {
-    run(false, false, 0, plan, graph, out)
+    run(false, plan, graph, limit, out)
 }
 
 // The run by push: the same.
-pub fn push(plan: &[u8], graph: &[u8], out: &mut [u8]) -> u32
-    ensures { λ r. ⌜ (r ≡ reply-number (run-reply none (now (plan .entry)) (now (graph .entry)) (length (now (out .entry))))) × (now (out .exit) ≡ reply-buffer (run-reply none (now (plan .entry)) (now (graph .entry)) (length (now (out .entry)))) (now (out .entry))) ⌝ }
+pub fn push(plan: &[u8], graph: &[u8], limit: Limit, out: &mut [u8]) -> u32
+    ensures { λ r. ⌜ (r ≡ reply-number (run-reply limit (now (plan .entry)) (now (graph .entry)) (length (now (out .entry))))) × (now (out .exit) ≡ reply-buffer (run-reply limit (now (plan .entry)) (now (graph .entry)) (length (now (out .entry)))) (now (out .entry))) ⌝ }
 {
-    run(true, false, 0, plan, graph, out)
-}
-
-// The run by pull of a given number of rounds.
-pub fn pull_rounds(plan: &[u8], graph: &[u8], rounds: u16, out: &mut [u8]) -> u32
-    ensures { λ r. ⌜ (r ≡ reply-number (run-reply (some rounds) (now (plan .entry)) (now (graph .entry)) (length (now (out .entry))))) × (now (out .exit) ≡ reply-buffer (run-reply (some rounds) (now (plan .entry)) (now (graph .entry)) (length (now (out .entry)))) (now (out .entry))) ⌝ }
-{
-    run(false, true, rounds, plan, graph, out)
-}
-
-// The run by push of a given number of rounds: the same.
-pub fn push_rounds(plan: &[u8], graph: &[u8], rounds: u16, out: &mut [u8]) -> u32
-    ensures { λ r. ⌜ (r ≡ reply-number (run-reply (some rounds) (now (plan .entry)) (now (graph .entry)) (length (now (out .entry))))) × (now (out .exit) ≡ reply-buffer (run-reply (some rounds) (now (plan .entry)) (now (graph .entry)) (length (now (out .entry)))) (now (out .entry))) ⌝ }
-{
-    run(true, true, rounds, plan, graph, out)
+    run(true, plan, graph, limit, out)
 }

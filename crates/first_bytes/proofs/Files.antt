@@ -3,12 +3,12 @@ use Prim.Native.Nat.{ℕ, _≤_}
 use mathlib.Core.Path.{_≡_, refl, ap}
 use mathlib.Core.Bool.{Bool, true, false}
 use mathlib.Core.List.{List}
-use mathlib.Core.Option.{Option}
 use native.Mathlib.Omega.{arith}
 use borrow.Author.Tests.{leb-true, leb-false, ne-eqb}
 use lib.Dec.{leb}
 use lib.ListN.{length, take, length-take}
 use lib.Seq.{getD-take, take-all}
+use Rattle.engine.specs.declared.Limit.{Limit}
 use Rattle.engine.specs.Run.{run-reply}
 use Rattle.fusion.specs.Fusion.{fuse-reply}
 use Rattle.graph.specs.Graph.{graph-code}
@@ -37,7 +37,7 @@ long-query s k room h = go (leb (length s) k) refl
         refused-both (query-code (take k s)) (query-code s) _ _ (ap (λ (w : Walk). w .code) (r .0)) (r .1)
 
 -- a map by 8,202 bytes or more
-pub long-graph : (limit : Option ℕ) (w s : List ℕ) (k room : ℕ) → 8202 ≤ k → run-reply limit w (take k s) room ≡ run-reply limit w s room
+pub long-graph : (limit : Limit) (w s : List ℕ) (k room : ℕ) → 8202 ≤ k → run-reply limit w (take k s) room ≡ run-reply limit w s room
 unfolding run-reply
 long-graph limit w s k room h = go (leb (length s) k) refl
   where

@@ -3,13 +3,13 @@
 use Prim.Native.Nat.{ℕ, zero, _+_, _*_, _≤_}
 use mathlib.Core.Path.{_≡_, refl, sym, ap, _∙_, subst}
 use mathlib.Core.List.{List, _++_}
-use mathlib.Core.Option.{none, some}
 use borrow.Author.Tests.{le-ltb}
 use lib.ListN.{length, take, drop}
 use lib.Seq.{take-at}
 use Rattle.answer.specs.Answer.{answer-size, row-count}
 use Rattle.answer.specs.Answer as answer
 use Rattle.answer.proofs.Bytes.{encode-length}
+use Rattle.engine.specs.declared.Limit.the-variants.{Quiet, Rounds}
 use Rattle.engine.specs.Run.{rounds-done, run-reply}
 use Rattle.engine.proofs.Meant.{outcome, run-answers}
 use Rattle.fusion.proofs.Exact.{fuse-fits}
@@ -47,7 +47,7 @@ module _ (q : Query) (legal : QueryLegal 256 q) (m : List ℕ) (bytes : Bytes m)
   fits = graph.read-sound m bytes graph-ok .0 .fits
 
   abbrev o : Outcome
-  o = outcome none (graph-of m) (fuse q)
+  o = outcome Quiet (graph-of m) (fuse q)
 
   abbrev text : List ℕ
   text = answer.encode (at16 m 5) (query-kind q) o
@@ -57,14 +57,14 @@ module _ (q : Query) (legal : QueryLegal 256 q) (m : List ℕ) (bytes : Bytes m)
   right = pull-correct (graph-of m) fits q starts
 
   -- the reply of the run of the fused worksheet
-  run-is : (room : ℕ) → run-reply none (plan.encode (fuse q)) m room ≡ fitted (answer.encode (at16 m 5) (query-kind q) (outcome none (graph-of m) (fuse q))) room
+  run-is : (room : ℕ) → run-reply Quiet (plan.encode (fuse q)) m room ≡ fitted (answer.encode (at16 m 5) (query-kind q) (outcome Quiet (graph-of m) (fuse q))) room
   run-is room =
-      run-answers (fuse q) (fuse-legal 256 q legal) m bytes graph-ok (fused-fit (graph-of m) fits q starts) none room
+      run-answers (fuse q) (fuse-legal 256 q legal) m bytes graph-ok (fused-fit (graph-of m) fits q starts) Quiet room
       ∙ ap (λ (k : ℕ). fitted (answer.encode (at16 m 5) k o) room) (kind-fused q)
 
   -- A LEGAL QUERY: fused into a buffer of 560 bytes or more, and run into one that the answer fits
   pub answers-legal : (plan-before plan-after : List ℕ) (fused : ℕ) (before after : List ℕ) (number : ℕ) → Called (query.encode q) m plan-before plan-after fused before after number
-      → 560 ≤ length plan-before → length (answer.encode (at16 m 5) (query-kind q) (outcome none (graph-of m) (fuse q))) ≤ length before
+      → 560 ≤ length plan-before → length (answer.encode (at16 m 5) (query-kind q) (outcome Quiet (graph-of m) (fuse q))) ≤ length before
       → Answers q m before after number
   answers-legal plan-before plan-after fused before after number c room long =
       let ws = plan.encode (fuse q) in
@@ -72,8 +72,8 @@ module _ (q : Query) (legal : QueryLegal 256 q) (m : List ℕ) (bytes : Bytes m)
       let said : fused ≡ length ws = c .fuse-call .said ∙ ap reply-number f in
       let held : plan-after ≡ ws ++ drop (length ws) plan-before = c .fuse-call .left ∙ ap (λ (r : Reply). reply-buffer r plan-before) f in
       let first : take fused plan-after ≡ ws = rw held (take-at ws (drop (length ws) plan-before) fused (sym said)) in
-      let ran : run-reply none (take fused plan-after) m (length before) ≡ done text =
-      ap (λ (s : List ℕ). run-reply none s m (length before)) first ∙ run-is (length before) ∙ rw (le-ltb (length before) (length text) long) refl in
+      let ran : run-reply Quiet (take fused plan-after) m (length before) ≡ done text =
+      ap (λ (s : List ℕ). run-reply Quiet s m (length before)) first ∙ run-is (length before) ∙ rw (le-ltb (length before) (length text) long) refl in
       let count : number ≡ length text = c .run-call .said ∙ ap reply-number ran in
       record {
         outcome = o;
@@ -83,18 +83,18 @@ module _ (q : Query) (legal : QueryLegal 256 q) (m : List ℕ) (bytes : Bytes m)
       }
 
   -- how long the answer is: 10 bytes and 9 for each row
-  pub answer-long : length (answer.encode (at16 m 5) (query-kind q) (outcome none (graph-of m) (fuse q))) ≡ answer-size (at16 m 5) (query-kind q)
-  answer-long = encode-length (at16 m 5) (query-kind q) o ∙ ap (λ (k : ℕ). 10 + 9 * k) (rows-counted q (graph-of m) (rounds-done none (graph-of m) (fuse q .paths)))
+  pub answer-long : length (answer.encode (at16 m 5) (query-kind q) (outcome Quiet (graph-of m) (fuse q))) ≡ answer-size (at16 m 5) (query-kind q)
+  answer-long = encode-length (at16 m 5) (query-kind q) o ∙ ap (λ (k : ℕ). 10 + 9 * k) (rows-counted q (graph-of m) (rounds-done Quiet (graph-of m) (fuse q .paths)))
 
   -- DEMAND 2 over queries: stopped after r rounds, the fused worksheet is answered by the meaning over walks of at most r edges, and r is reported
   pub answers-stopped : (r room : ℕ)
-      → (o : Outcome) × UnfusedWithin (graph-of m) r q (o .rows) × (o .count ≡ r) × (run-reply (some r) (plan.encode (fuse q)) m room ≡ fitted (answer.encode (at16 m 5) (query-kind q) o) room)
+      → (o : Outcome) × UnfusedWithin (graph-of m) r q (o .rows) × (o .count ≡ r) × (run-reply (Rounds r) (plan.encode (fuse q)) m room ≡ fitted (answer.encode (at16 m 5) (query-kind q) o) room)
   answers-stopped r room =
       let s : Outcome = stopped (pull (graph-of m)) (at16 m 5) (fuse q) r in (
         s,
         pull-within (graph-of m) fits q starts r,
         stopped-count (pull (graph-of m)) (at16 m 5) (fuse q) r,
-        run-answers (fuse q) (fuse-legal 256 q legal) m bytes graph-ok (fused-fit (graph-of m) fits q starts) (some r) room
+        run-answers (fuse q) (fuse-legal 256 q legal) m bytes graph-ok (fused-fit (graph-of m) fits q starts) (Rounds r) room
             ∙ ap (λ (k : ℕ). fitted (answer.encode (at16 m 5) k s) room) (kind-fused q),
       )
 

@@ -2,9 +2,9 @@
 use Prim.Native.Nat.{ℕ}
 use mathlib.Core.Path.{_≡_}
 use mathlib.Core.List.{List, _++_}
-use mathlib.Core.Option.{none}
 use lib.ListN.{length, take, drop}
 use Rattle.answer.specs.Answer.{encode}
+use Rattle.engine.specs.declared.Limit.the-variants.{Quiet}
 use Rattle.engine.specs.Run.{run-reply}
 use Rattle.fusion.specs.Fusion.{fuse-reply}
 use Rattle.graph.specs.Graph.{graph-of}
@@ -25,7 +25,7 @@ query-kind (single t) = 1
 -- a question was fused into a buffer, and the worksheet in its first bytes was run on the map into another, by pull or by push
 pub record Called (query-bytes graph-bytes : List ℕ) (plan-before plan-after : List ℕ) (fused : ℕ) (before after : List ℕ) (number : ℕ) : Type 0 where
   pub fuse-call : Returned (fuse-reply query-bytes (length plan-before)) fused plan-before plan-after
-  pub run-call : Returned (run-reply none (take fused plan-after) graph-bytes (length before)) number before after
+  pub run-call : Returned (run-reply Quiet (take fused plan-after) graph-bytes (length before)) number before after
 
 -- "the buffer begins with the answer in document 01's layout, its rows are exactly the unfused meaning .., the rest of the buffer is untouched; the rounds reported are
 -- the smallest count .." (`Correct`): what is left, and the number, where the question is q

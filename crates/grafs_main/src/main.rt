@@ -1,6 +1,7 @@
 // The program (document 01): "reads `question.lpq` and `map.lpm` (an unreadable file counts as no bytes), judges the question first, runs by pull and prints a rounds
 // line, then place and value lines with `-` for absent; for kind 1 `result` and the value in their stead; or `refused` and the number alone. One space parts the
 // fields and a line feed ends each line."
+use engine::Limit;
 use value::Value;
 ghost use mathlib.Core.Path.{_≡_};
 ghost use Prim.Native.Nat.{_+_, _*_, _≤_};
@@ -102,7 +103,7 @@ fn print_answer(answer: &[u8])
 // No answer is longer than 2,314 bytes (`size-most` of crate answer): 15 does not occur.
 fn run(plan: &[u8], graph: &[u8]) {
     let mut answer = [0u8; 2314];
-    let done = engine::pull(plan, graph, &mut answer);
+    let done = engine::pull(plan, graph, Limit::Quiet, &mut answer);
     if REFUSAL <= done {
         line(b"refused ", (done - REFUSAL) as u64);
         return;

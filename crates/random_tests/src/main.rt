@@ -4,6 +4,7 @@
 // terms, a reduction goes over all places. So a question is compared UNFUSED, as document 01 has it: "each chain where it is written".
 // Some files are damaged instead: they are refused, or the reader of worksheets takes what is run or written. Prints how many cases,
 // what they were like, and how many calls differ.
+use engine::Limit;
 use value::Row;
 use value::Value;
 use walked::PathReduction;
@@ -894,10 +895,10 @@ const JUDGE: u8 = 5;
 
 fn run(call: u8, rounds: u16, file: &[u8], map: &[u8], out: &mut [u8]) -> u32 {
     match call {
-        0 => engine::pull(file, map, out),
-        1 => engine::push(file, map, out),
-        2 => engine::pull_rounds(file, map, rounds, out),
-        3 => engine::push_rounds(file, map, rounds, out),
+        0 => engine::pull(file, map, Limit::Quiet, out),
+        1 => engine::push(file, map, Limit::Quiet, out),
+        2 => engine::pull(file, map, Limit::Rounds(rounds), out),
+        3 => engine::push(file, map, Limit::Rounds(rounds), out),
         4 => fusion::fuse(file, out),
         _ => plan::judge(file) as u32,
     }

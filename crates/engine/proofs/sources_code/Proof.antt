@@ -31,8 +31,8 @@ mul-word c = omega arith
 array-read-word : tie.Need-array-read-word Inv-loop μ-loop
 array-read-word c = omega arith
 
-source-code-requires : tie.Need-source-code-requires Inv-loop μ-loop
-source-code-requires c κs = search needs
+outside-code-requires : tie.Need-outside-code-requires Inv-loop μ-loop
+outside-code-requires c κs = search needs
 
 whole : (c : tie.After-lesser Inv-loop μ-loop) → sources-code (c .before .args .n) (map path-of (take (c .lesser .result) (c .before .args .t1))) ≡ sources-code (c .before .args .n) (map path-of (take (c .before .args .paths) (c .before .args .t1)))
 whole c = ap (λ (l : List ℕ). sources-code (c .before .args .n) (map path-of l)) (take-least (c .before .args .paths) 8 (c .lesser .result) (c .before .args .t1) (omega arith) (c .lesser .ensures .0))
@@ -42,7 +42,7 @@ returns c =
     let l = c .before .before .before .loop in
     let a = c .before .before .before .before .before .args in
     let e = source-next (a .n) (a .t1) _ (l .i) (c .before .before .loop-test .taken) (omega arith) in
-    sym (sym (whole (c .before .before .before .before)) ∙ sym (l .inv .1) ∙ e ∙ rw (← c .before .source-code .ensures, ne-eqb _ 0 (c .if1 .taken)) refl)
+    sym (sym (whole (c .before .before .before .before)) ∙ sym (l .inv .1) ∙ e ∙ rw (← c .before .outside-code .ensures, ne-eqb _ 0 (c .if1 .taken)) refl)
 
 add-i : tie.Need-add-i Inv-loop μ-loop
 add-i c = omega arith
@@ -55,7 +55,7 @@ loop-again c =
     let l = c .before .before .before .loop in
     let a = c .before .before .before .before .before .args in
     let e = source-next (a .n) (a .t1) _ (l .i) (c .before .before .loop-test .taken) (omega arith) in
-    (omega arith, sym (e ∙ rw (← c .before .source-code .ensures, eq-eqb _ 0 (c .if1 .left)) refl) ∙ l .inv .1)
+    (omega arith, sym (e ∙ rw (← c .before .outside-code .ensures, eq-eqb _ 0 (c .if1 .left)) refl) ∙ l .inv .1)
 
 returns-2 : tie.Need-returns-2 Inv-loop μ-loop
 returns-2 c =
@@ -73,7 +73,7 @@ sources-code-spec =
     loop-holds
     mul-word
     array-read-word
-    source-code-requires
+    outside-code-requires
     returns
     add-i
     loop-less

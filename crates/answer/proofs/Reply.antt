@@ -4,17 +4,17 @@ use mathlib.Core.Path.{_≡_, refl, sym, ap, _∙_}
 use mathlib.Core.Bool.{Bool, true, false, cond}
 use mathlib.Core.List.{List, _++_}
 use native.Mathlib.Omega.{arith}
-use native.Mathlib.Nat.{zero-add}
 use borrow.Author.Tests.{ltb-false, eqb-true, eqb-false, eq-eqb, ne-eqb}
 use lib.Dec.{ltb, eqb}
 use lib.ListN.{length, take, drop}
-use lib.Seq.{sets, sets-eq}
+use lib.Seq.{sets}
 use Rattle.meaning.specs.Meaning.{Outcome}
 use Rattle.value.specs.declared.Value.{Value}
 use Rattle.wire.specs.Wire.{done, fitted, refused, unless}
 use Rattle.wire.proofs.Codes.{past}
+use Rattle.wire.proofs.Stores.{sets-front}
 use Rattle.answer.specs.Answer.{answer-bytes, answer-code, answer-reply, answer-rows, answer-size, encode, fields-code, head-bytes, row-count, rows-bytes}
-use Rattle.answer.proofs.Bytes.{answer-length, count-most, encode-length, sets-append}
+use Rattle.answer.proofs.Bytes.{answer-length, count-most, encode-length}
 
 -- ---- what was judged
 
@@ -65,10 +65,7 @@ reply-fits n rounds kind vs room z = rw (eq-eqb _ _ z)
 pub answer-laid : (n rounds kind : ℕ) (vs : List Value) (out : List ℕ) → length (answer-bytes n rounds kind vs) ≤ length out →
     sets (sets out 0 (head-bytes n rounds kind)) 10 (rows-bytes (answer-rows n kind vs)) ≡ answer-bytes n rounds kind vs ++ drop (length (answer-bytes n rounds kind vs)) out
 unfolding answer-bytes
-answer-laid n rounds kind vs out h =
-    sets-append out 0 (head-bytes n rounds kind) (rows-bytes (answer-rows n kind vs))
-    ∙ sets-eq (answer-bytes n rounds kind vs) out 0 (omega arith)
-    ∙ ap (λ (k : ℕ). answer-bytes n rounds kind vs ++ drop k out) (zero-add (length (answer-bytes n rounds kind vs)))
+answer-laid n rounds kind vs out h = sets-front out (head-bytes n rounds kind) (rows-bytes (answer-rows n kind vs)) 10 refl h
 
 module _ (n rounds kind : ℕ) (vs : List Value) (full : length vs ≡ 256) where
   pub answer-sized : Fields n kind → length (answer-bytes n rounds kind vs) ≡ answer-size n kind

@@ -2,11 +2,11 @@
 use value::Row;
 use value::Value;
 ghost use mathlib.Core.Path.{_≡_};
-ghost use Prim.Native.Nat.{_+_, _*_, _<_, _≤_};
-ghost use lib.ListN.{length, take};
+ghost use Prim.Native.Nat.{_+_, _*_, _/_, _%_, _<_, _≤_};
+ghost use lib.ListN.{length, take, set};
 ghost use lib.Seq.{sets};
 ghost use Rattle.value.specs.Value.{values};
-ghost use Rattle.wire.specs.Wire.{le16, le64, reply-number, reply-buffer};
+ghost use Rattle.wire.specs.Wire.{le64, reply-number, reply-buffer};
 ghost use Rattle.answer.specs.Answer.{row-bytes, rows-bytes, letters, head-bytes, row-count, fields-code, answer-size, answer-code, answer-reply};
 
 // "n rows for kind 0 or one row for kind 1"
@@ -59,7 +59,7 @@ pub fn judge(n: u16, kind: u8, room: usize) -> u8
 // The low 16 bits of x, low byte first.
 fn put16(out: &mut [u8], at: usize, x: u64)
     requires { ⌜ at + 1 < length (now out) ⌝ }
-    ensures { λ _. ⌜ now (out .exit) ≡ sets (now (out .entry)) at (le16 x) ⌝ }
+    ensures { λ _. ⌜ now (out .exit) ≡ set (set (now (out .entry)) at (x % 256)) (at + 1) (x / 256 % 256) ⌝ }
 {
     out[at] = (x % 256) as u8;
     out[at + 1] = (x / 256 % 256) as u8;

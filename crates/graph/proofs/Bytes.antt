@@ -1,18 +1,21 @@
 -- The bytes of edges, and the edges of bytes. Assumes nothing.
 use Prim.Native.Nat.{ℕ, zero, suc, _+_, _*_, _/_, _%_, _≤_, _<_, suc-le-suc}
 use mathlib.Core.Path.{_≡_, refl, sym, ap, _∙_}
-use mathlib.Core.List.{List, [], _∷_, _++_, append-assoc}
+use mathlib.Core.List.{List, [], _∷_, _++_, map, append-assoc}
 use native.Mathlib.Numerals.{add-one}
 use native.Mathlib.Omega.{arith}
 use native.Mathlib.Nat.{add-zero, add-assoc}
-use lib.ListN.{length, getD, drop, length-append, drop-of-length-le}
-use lib.Seq.{getD-append-add, drop-cons}
+use lib.ListN.{length, getD, drop, take, length-append, length-map, drop-of-length-le}
+use lib.Seq.{getD-append-add, drop-cons, sets}
 use Rattle.meaning.specs.Run.{tabulate}
+use Rattle.meaning.proofs.Lists.{map-append}
 use Rattle.walks.specs.Walks.{Edge, edge-at}
 use Rattle.wire.specs.Header.{header-bytes}
 use Rattle.wire.specs.Wire.{Bytes, at16, le16}
-use Rattle.graph.specs.Encode.{edge-bytes, edges-bytes, head-bytes}
-use Rattle.graph.specs.Graph.{edge-in, edges-in}
+use Rattle.wire.proofs.Stores.{sets-more}
+use Rattle.graph.specs.declared.EdgeRow.{EdgeRow}
+use Rattle.graph.specs.Encode.{edge-bytes, edges-bytes, head-bytes, row-edge}
+use Rattle.graph.specs.Graph.{blank-row, edge-in, edges-in}
 use Rattle.graph.proofs.Accepted.{Accepted}
 
 -- ---- 16 bits
@@ -89,10 +92,18 @@ unfolding edges-bytes
 edges-length [] = refl
 edges-length (e ∷ es) = length-append (edge-bytes e) (edges-bytes es) ∙ omega (arith, edges-length es)
 
-pub edges-append : (es fs : List Edge) → edges-bytes (es ++ fs) ≡ edges-bytes es ++ edges-bytes fs
+edges-append : (es fs : List Edge) → edges-bytes (es ++ fs) ≡ edges-bytes es ++ edges-bytes fs
 unfolding edges-bytes
 edges-append [] fs = refl
 edges-append (e ∷ es) fs = rw (edges-append es fs) (sym (append-assoc (edge-bytes e) (edges-bytes es) (edges-bytes fs)))
+
+-- row i stored behind those before it
+pub row-more : (out : List ℕ) (rows : List EdgeRow) (i : ℕ) → i < length rows →
+    sets (sets out 9 (edges-bytes (map row-edge (take i rows)))) (9 + 8 * i) (edge-bytes (row-edge (getD rows i blank-row))) ≡ sets out 9 (edges-bytes (map row-edge (take (i + 1) rows)))
+unfolding edges-bytes
+row-more out rows i h =
+    sets-more 8 (λ (l : List EdgeRow). edges-bytes (map row-edge l)) (λ l. edges-length (map row-edge l) ∙ rw (length-map l row-edge))
+    (λ l k. ap edges-bytes (map-append row-edge l k) ∙ edges-append (map row-edge l) (map row-edge k)) out 9 rows i blank-row h
 
 at16-after : (q ys : List ℕ) (a k : ℕ) → length q ≡ a → at16 (q ++ ys) (a + k) ≡ at16 ys k
 at16-after q ys a k h =

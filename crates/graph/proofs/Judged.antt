@@ -1,22 +1,23 @@
 -- What is judged of a typed form by its fields is what is judged of its bytes; and the writer's three ways out. Assumes nothing.
 use Prim.Native.Nat.{ℕ, _+_, _*_, _≤_, _<_}
-use mathlib.Core.Path.{_≡_, sym, ap, _∙_}
+use mathlib.Core.Path.{_≡_, refl, sym, ap, _∙_}
 use mathlib.Core.List.{List, _++_}
 use native.Mathlib.Omega.{arith}
 use borrow.Author.Tests.{lt-ltb, le-ltb, eq-eqb, ne-eqb}
 use lib.ListN.{length, drop, length-append}
+use lib.Seq.{sets}
 use Rattle.wire.specs.Wire.{done, refused}
 use Rattle.wire.proofs.Codes.{then-both}
+use Rattle.wire.proofs.Stores.{sets-front}
 use Rattle.graph.specs.declared.EdgeTable.{EdgeTable}
 use Rattle.graph.specs.Encode.{edges-bytes, encode, head-bytes, table-bytes, table-graph, write-reply}
 use Rattle.graph.specs.Graph.{counts-code, graph-code}
-use Rattle.graph.specs.Steps.{table-code, with-edges}
+use Rattle.graph.specs.Steps.{table-code}
 use Rattle.graph.proofs.Accepted.{counts}
 use Rattle.graph.proofs.Bytes.{edges-length}
 use Rattle.graph.proofs.Exact.{judged-bytes}
 use Rattle.graph.proofs.Fits.{TableFits}
 use Rattle.graph.proofs.Table.{table-count, table-there}
-use Rattle.graph.proofs.Written.{with-all}
 
 module _ (t : EdgeTable) (f : TableFits t) where
   edges-few : t .count ≤ 1024 → t .count ≡ length (table-graph t .edges)
@@ -56,10 +57,8 @@ module _ (t : EdgeTable) (f : TableFits t) where
   unfolding write-reply
   write-done room z h = rw (judged, eq-eqb _ _ z, table-size (table-few z), le-ltb _ _ h)
 
-  -- the rows laid behind the header are the bytes
-  pub table-laid : (out : List ℕ) → table-code t ≡ 0 →
-      with-edges (head-bytes (t .vertices) (t .count) ++ drop 9 out) (table-graph t .edges) (t .count) ≡ table-bytes t ++ drop (length (table-bytes t)) out
+  -- the rows stored behind the header are the bytes
+  pub table-laid : (out : List ℕ) → table-code t ≡ 0 → 9 + 8 * t .count ≤ length out →
+      sets (sets out 0 (head-bytes (t .vertices) (t .count))) 9 (edges-bytes (table-graph t .edges)) ≡ table-bytes t ++ drop (length (table-bytes t)) out
   unfolding table-bytes
-  table-laid out z =
-      with-all (t .vertices) (t .count) (table-graph t .edges) out (sym (edges-few (table-few z)))
-      ∙ ap (λ (k : ℕ). table-bytes t ++ drop k out) (sym (table-size (table-few z)))
+  table-laid out z h = sets-front out (head-bytes (t .vertices) (t .count)) (edges-bytes (table-graph t .edges)) 9 refl (omega (arith, table-size (table-few z)))

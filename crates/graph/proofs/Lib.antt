@@ -4,6 +4,5 @@ pub mod Bytes
 pub mod Table
 pub mod Fits
 pub mod Exact
-pub mod Written
 pub mod Judged
 pub mod Samples

@@ -59,8 +59,8 @@ filled es = map row-of es ++ replicate (1024 - length es) blank-row
 unfoldable pub table-of : Graph → EdgeTable
 table-of g = record { vertices = g .vertices; count = length (g .edges); rows = filled (g .edges) }
 
-unfoldable pub blank-table : EdgeTable
-blank-table = table-of (record { vertices = 0; edges = [] })
+abbrev pub blank-table : EdgeTable
+blank-table = record { vertices = 0; count = 0; rows = replicate 1024 blank-row }
 
 -- 0 and the typed form; or the refusal, and one blank table for all refusals
 unfoldable pub graph-reading : List ℕ → Reading

@@ -1,14 +1,14 @@
 // Graphs (document 01, map `LPM`): judged on their bytes, read into a typed form, and written from it.
 ghost use mathlib.Core.Path.{_≡_};
-ghost use mathlib.Core.List.{_++_, map};
-ghost use Prim.Native.Nat.{_+_, _*_, _<_, _≤_};
-ghost use lib.ListN.{length, take, drop};
+ghost use mathlib.Core.List.{map};
+ghost use Prim.Native.Nat.{_+_, _*_, _/_, _%_, _<_, _≤_};
+ghost use lib.ListN.{length, take, set};
 ghost use lib.Seq.{sets};
 ghost use Rattle.wire.specs.Header.{header-bytes};
-ghost use Rattle.wire.specs.Wire.{at16, le16, reply-number, reply-buffer};
+ghost use Rattle.wire.specs.Wire.{at16, reply-number, reply-buffer};
 ghost use Rattle.graph.specs.Graph.{edge-in, edges-in, edge-code, edges-code, counts-code, graph-code, graph-of, row-of, table-of, blank-table, graph-reading};
-ghost use Rattle.graph.specs.Encode.{row-edge, edge-bytes, head-bytes, write-reply};
-ghost use Rattle.graph.specs.Steps.{table-code, with-edges};
+ghost use Rattle.graph.specs.Encode.{row-edge, edge-bytes, edges-bytes, head-bytes, write-reply};
+ghost use Rattle.graph.specs.Steps.{table-code};
 
 // A passage: "from, to, seconds, crate size".
 pub struct EdgeRow {
@@ -224,7 +224,7 @@ fn judge_table(graph: EdgeTable) -> u8
 // 16 bits, low byte first.
 fn put16(out: &mut [u8], at: usize, x: u16)
     requires { ⌜ at + 1 < length (now out) ⌝ }
-    ensures { λ _. ⌜ now (out .exit) ≡ sets (now (out .entry)) at (le16 x) ⌝ }
+    ensures { λ _. ⌜ now (out .exit) ≡ set (set (now (out .entry)) at (x % 256)) (at + 1) (x / 256 % 256) ⌝ }
 {
     out[at] = (x % 256) as u8;
     out[at + 1] = (x / 256 % 256) as u8;
@@ -254,7 +254,7 @@ fn put_header(out: &mut [u8])
 
 fn put_head(out: &mut [u8], n: u16, m: u16)
     requires { ⌜ 9 ≤ length (now out) ⌝ }
-    ensures { λ _. ⌜ now (out .exit) ≡ head-bytes n m ++ drop 9 (now (out .entry)) ⌝ }
+    ensures { λ _. ⌜ now (out .exit) ≡ sets (now (out .entry)) 0 (head-bytes n m) ⌝ }
 {
     put_header(out);
     put16(out, 5, n);
@@ -264,7 +264,7 @@ fn put_head(out: &mut [u8], n: u16, m: u16)
 // The rows, behind nine bytes.
 fn put_rows(out: &mut [u8], count: usize, rows: [EdgeRow; 1024])
     requires { ⌜ (count ≤ 1024) × (9 + 8 * count ≤ length (now out)) ⌝ }
-    ensures { λ _. ⌜ now (out .exit) ≡ with-edges (now (out .entry)) (map row-edge (take count rows)) count ⌝ }
+    ensures { λ _. ⌜ now (out .exit) ≡ sets (now (out .entry)) 9 (edges-bytes (map row-edge (take count rows))) ⌝ }
 {
     let mut i: usize = 0;
     while i < count {

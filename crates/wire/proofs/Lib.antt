@@ -2,3 +2,4 @@ pub mod Laid
 pub mod Codes
 pub mod Header
 pub mod Past
+pub mod Stores

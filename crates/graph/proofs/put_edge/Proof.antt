@@ -1,8 +1,6 @@
 -- `graph::put_edge` meets its contract. Assumes nothing.
-use Prim.Native.Nat.{suc, _+_}
-use mathlib.Core.Path.{_≡_}
-use native.Mathlib.Omega.{arith}
 use borrow.Author.Needs.{needs}
+use Rattle.wire.proofs.Stores.{four-stored}
 use Rattle.graph.proofs.put_edge.Statement.{statement}
 use Rattle.graph.proofs.put_edge.Tie as tie
 
@@ -32,11 +30,9 @@ same-length c = search needs
 
 returns : tie.Need-returns
 returns c =
-    let at = c .before .before .before .before .before .before .before .before .before .before .before .before .before .before .before .before .before .args .at in
-    let e2 : at + 2 ≡ suc (suc at) = omega arith in
-    let e4 : at + 4 ≡ suc (suc (suc (suc at))) = omega arith in
-    let e6 : at + 6 ≡ suc (suc (suc (suc (suc (suc at))))) = omega arith in
-    rw (c .before .before .put164 .ensures, c .before .before .before .before .before .before .put163 .ensures, c .before .before .before .before .before .before .before .before .before .before .put162 .ensures, c .before .before .before .before .before .before .before .before .before .before .before .before .before .before .put16 .ensures, e2, e4, e6)
+    let a = c .before .before .before .before .before .before .before .before .before .before .before .before .before .before .before .before .before .args in
+    rw (c .before .before .put164 .ensures, c .before .before .before .before .before .before .put163 .ensures, c .before .before .before .before .before .before .before .before .before .before .put162 .ensures, c .before .before .before .before .before .before .before .before .before .before .before .before .before .before .put16 .ensures)
+    (four-stored (a .out .now) (a .at) (a .row .from) (a .row .to) (a .row .weight) (a .row .capacity))
 
 pub put-edge-spec : {M : Type 1} → statement M
 put-edge-spec =

@@ -1,7 +1,5 @@
 -- `graph::put_head` meets its contract. Assumes nothing.
 use borrow.Author.Needs.{needs}
-use lib.Seq.{sets-eq}
-use Rattle.graph.specs.Encode.{head-bytes}
 use Rattle.graph.proofs.put_head.Statement.{statement}
 use Rattle.graph.proofs.put_head.Tie as tie
 
@@ -19,9 +17,7 @@ same-length c = search needs
 
 returns : tie.Need-returns
 returns c =
-    let a = c .before .before .before .before .before .before .before .before .before .before .before .before .before .args in
     rw (c .before .before .put162 .ensures, c .before .before .before .before .before .before .put16 .ensures, c .before .before .before .before .before .before .before .before .before .before .put-header .ensures)
-    (sets-eq (head-bytes (a .n) (a .m)) (a .out .now) 0 (c .before .before .before .before .before .before .before .before .before .before .before .before .before .pre))
 
 pub put-head-spec : {M : Type 1} → statement M
 put-head-spec =

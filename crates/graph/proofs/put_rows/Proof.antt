@@ -1,25 +1,24 @@
 -- `graph::put_rows` meets its contract: i rows stand behind the nine bytes. Assumes nothing.
-use Prim.Native.Nat.{_+_, _-_, _*_, _≤_}
-use mathlib.Core.Path.{_≡_, refl, sym, ap, _∙_}
+use Prim.Native.Nat.{_-_, _≤_}
+use mathlib.Core.Path.{_≡_, refl, _∙_}
 use mathlib.Core.List.{map}
 use native.Mathlib.Omega.{arith}
-use lib.ListN.{length, getD, take}
-use lib.Seq.{length-sets}
-use Rattle.graph.specs.Encode.{edge-bytes, row-edge}
-use Rattle.graph.specs.Graph.{blank-row}
-use Rattle.graph.specs.Steps.{with-edges}
-use Rattle.graph.proofs.Written.{row-more, with-none}
+use lib.ListN.{length, take}
+use lib.Seq.{sets}
+use Rattle.graph.specs.Encode.{edges-bytes, row-edge}
+use Rattle.graph.proofs.Bytes.{row-more}
 use Rattle.graph.proofs.put_rows.Statement.{statement}
 use Rattle.graph.proofs.put_rows.Tie as tie
 
 abbrev Inv-loop : tie.InvT-loop
-Inv-loop out₀ count rows i₀ out i = (i ≤ count) × (length out ≡ length out₀) × (out ≡ with-edges out₀ (map row-edge (take count rows)) i)
+Inv-loop out₀ count rows i₀ out i = (i ≤ count) × (length out ≡ length out₀) × (out ≡ sets out₀ 9 (edges-bytes (map row-edge (take i rows))))
 
 abbrev μ-loop : tie.MeasureT-loop
 μ-loop out₀ count rows i₀ out i = count - i
 
 loop-holds : tie.Need-loop-holds Inv-loop μ-loop
-loop-holds c = let a = c .before .args in (omega arith, refl, sym (with-none (a .out .now) (map row-edge (take (a .count) (a .t3)))))
+unfolding edges-bytes
+loop-holds c = (omega arith, refl, refl)
 
 mul-row : tie.Need-mul-row Inv-loop μ-loop
 mul-row c = omega arith
@@ -46,10 +45,10 @@ loop-again : tie.Need-loop-again Inv-loop μ-loop
 loop-again c =
     let a = c .before .before .before .before .before .before .before .before .args in
     let l = c .before .before .before .before .before .before .loop in
-    let e = c .before .before .put-edge .ensures in (
+    let p = c .before .before .put-edge in (
       omega arith,
-      ap length e ∙ length-sets (l .out) (9 + 8 * l .i) (edge-bytes (row-edge (getD (a .t3) (l .i) blank-row))) ∙ l .inv .1,
-      e ∙ row-more (a .out .now) (a .count) (a .t3) (l .i) (l .out) (omega arith) (omega arith) (omega arith) (l .inv .2),
+      p .kept .0 ∙ l .inv .1,
+      p .ensures ∙ rw (l .inv .2) (row-more (a .out .now) (a .t3) (l .i) (omega arith)),
     )
 
 same-length : tie.Need-same-length Inv-loop μ-loop
@@ -60,7 +59,7 @@ returns c =
     let a = c .before .before .before .args in
     let l = c .before .loop in
     let e : l .i ≡ a .count = omega arith in
-    l .inv .2 ∙ ap (with-edges (a .out .now) (map row-edge (take (a .count) (a .t3)))) e
+    l .inv .2 ∙ rw e
 
 pub put-rows-spec : {M : Type 1} → statement M
 put-rows-spec =

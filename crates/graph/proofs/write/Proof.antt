@@ -1,16 +1,11 @@
 -- `graph::write` meets its contract. Assumes nothing.
-use Prim.Native.Nat.{ℕ}
 use mathlib.Core.Path.{sym, ap, _∙_}
-use mathlib.Core.List.{List}
 use native.Mathlib.Omega.{arith}
 use borrow.Author.Needs.{needs}
 use lib.ListN.{length}
 use Rattle.wire.specs.Wire.{Reply, reply-buffer, reply-number}
-use Rattle.graph.specs.Encode.{table-graph}
-use Rattle.graph.specs.Steps.{with-edges}
 use Rattle.graph.proofs.Fits.{table-fits}
 use Rattle.graph.proofs.Judged.{table-few, table-laid, table-size, write-done, write-refused, write-short}
-use Rattle.graph.proofs.Written.{head-kept}
 use Rattle.graph.proofs.write.Statement.{statement}
 use Rattle.graph.proofs.write.Tie as tie
 
@@ -55,9 +50,7 @@ put-rows-requires c κs =
     let a = c .before .before .before .before .before .before .before .before .before .before .args in
     let f = table-fits (a .graph) _ (c .before .before .before .before .before .before .before .before .before .before .good .0) in
     let z = sym (c .before .before .before .before .before .before .before .before .judge-table .ensures) ∙ c .before .before .before .before .before .before .before .if1 .left in
-    let few = table-few (a .graph) f z in
-    let l = head-kept (a .out .now) _ (a .graph .vertices) (a .graph .count) (c .before .before .before .before .put-head .ensures) (omega (arith, c .before .before .before .before .before .before .if2 .left)) in
-    (few, omega (arith, c .before .before .before .before .before .before .if2 .left))
+    (table-few (a .graph) f z, omega arith)
 
 cast-result : tie.Need-cast-result
 cast-result c = search needs
@@ -75,8 +68,7 @@ returns-3 c =
     let size = table-size g f (table-few g f z) in (
       sym (ap reply-number e ∙ size),
       c .before .before .put-rows .ensures
-          ∙ ap (λ (o : List ℕ). with-edges o (table-graph g .edges) (g .count)) (c .before .before .before .before .before .before .before .put-head .ensures)
-          ∙ table-laid g f (a .out .now) z
+          ∙ rw (c .before .before .before .before .before .before .before .put-head .ensures) (table-laid g f (a .out .now) z (omega arith))
           ∙ ap (λ (r : Reply). reply-buffer r (a .out .now)) (sym e),
     )
 

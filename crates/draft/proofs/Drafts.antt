@@ -28,7 +28,6 @@ pub record Holds (d : Draft) (l : List ℕ) : Type 0 where
   pub size : length (d .bytes) ≡ 576
 
 holds-empty : Holds empty-draft []
-unfolding empty-draft
 holds-empty = record { len = refl; text = refl; size = length-replicate {A = ℕ} 576 0 }
 
 holds-byte : (d : Draft) (l : List ℕ) (b : ℕ) → Holds d l → length l < 576 → Holds (put-byte d b) (l ++ (b ∷ []))

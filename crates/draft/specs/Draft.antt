@@ -7,7 +7,7 @@ use lib.ListN.{set, replicate}
 use Rattle.draft.specs.declared.Draft.{Draft}
 
 -- these mirror the program and need not be believed: what the draft holds is said of the bytes put (`put-holds`)
-unfoldable pub empty-draft : Draft
+abbrev pub empty-draft : Draft
 empty-draft = record { bytes = replicate 576 0; len = 0 }
 
 unfoldable pub put-byte : Draft → ℕ → Draft

@@ -1,9 +1,9 @@
 // A draft of bytes to be written, by value: those of a question's or worksheet's typed form are at most 560 (document 01, "Layouts").
 ghost use mathlib.Core.Path.{_≡_};
 ghost use mathlib.Core.List.{_∷_, []};
-ghost use Rattle.wire.specs.Header.{header-bytes};
 ghost use lib.ListN.{length, take};
-ghost use Rattle.wire.specs.Wire.{le16, le32, fitted, reply-number, reply-buffer, unless};
+ghost use Rattle.wire.specs.Header.{header-bytes};
+ghost use Rattle.wire.specs.Wire.{le16, fitted, reply-number, reply-buffer, unless};
 ghost use Rattle.draft.specs.Draft.{empty-draft, put-byte, put-list};
 
 // Bytes to be written: the first `len` of `bytes`.
@@ -13,7 +13,7 @@ pub struct Draft {
 }
 
 // A draft of no bytes.
-pub fn empty() -> Draft
+fn empty() -> Draft
     ensures { λ r. ⌜ r ≡ empty-draft ⌝ }
 {
     let bytes = [0u8; 576];
@@ -46,14 +46,6 @@ pub fn put16(d: Draft, x: u64) -> Draft
     ensures { λ r. ⌜ r ≡ put-list d (le16 x) ⌝ }
 {
     put_two(d, (x % 256) as u8, (x / 256 % 256) as u8)
-}
-
-// 32 bits, low byte first.
-pub fn put32(d: Draft, x: u32) -> Draft
-    ensures { λ r. ⌜ r ≡ put-list d (le32 x) ⌝ }
-{
-    let wide = x as u64;
-    put16(put16(d, wide), wide / 65536)
 }
 
 // The first five bytes of a question or worksheet.

@@ -85,9 +85,6 @@ module _ (m count : ℕ) (made : ℕ → single.Term) (is : (s : List ℕ) (i : 
   unfolding texts
   index-text = text-term (index-leaves m count) index-nodes m (λ j f. append-nil (term-text (made j)) ∙ text j)
 
-  index-size : (t : Term ℕ) → length (term-nodes m index-nodes t) ≡ terms unit t
-  index-size = count-term (index-leaves m count) index-nodes m (λ j. refl)
-
 -- entries, over the indices of path reductions
 pub entry-collected : (count : ℕ) (s : List ℕ) (t : Term ℕ) → Every (λ j. j < count) t → Collects (index-leaves 2 count) (λ j. node (PathIndex j) ∷ []) 2 s t
 unfolding leaf-tag term-text
@@ -98,8 +95,7 @@ unfolding leaf-tag term-text
 entry-text count = index-text 2 count PathIndex (λ s i. refl) (λ s i. refl) (λ j. refl)
 
 pub entry-size : (t : Term ℕ) → length (entry-nodes t) ≡ terms unit t
-unfolding leaf-tag term-text
-entry-size = index-size 2 0 PathIndex (λ s i. refl) (λ s i. refl) (λ j. refl)
+entry-size = count-term (index-leaves 2 0) (λ j. node (PathIndex j) ∷ []) 2 (λ j. refl)
 
 -- final expressions, over the indices of entries
 pub final-collected : (count : ℕ) (s : List ℕ) (t : Term ℕ) → Every (λ j. j < count) t → Collects (index-leaves 3 count) (λ j. node (EntryIndex j) ∷ []) 3 s t
@@ -111,5 +107,4 @@ unfolding leaf-tag term-text
 final-text count = index-text 3 count EntryIndex (λ s i. refl) (λ s i. refl) (λ j. refl)
 
 pub final-size : (t : Term ℕ) → length (final-nodes t) ≡ terms unit t
-unfolding leaf-tag term-text
-final-size = index-size 3 0 EntryIndex (λ s i. refl) (λ s i. refl) (λ j. refl)
+final-size = count-term (index-leaves 3 0) (λ j. node (EntryIndex j) ∷ []) 3 (λ j. refl)

@@ -115,7 +115,7 @@ fn put_key(d: Draft, n: u64, j: u64, b: u8) -> Draft
 }
 
 // A path reduction as a question writes it: its key count, as many keys as that says, and its source.
-pub fn put_path(d: Draft, w: u64) -> Draft
+fn put_path(d: Draft, w: u64) -> Draft
     ensures { λ r. ⌜ r ≡ put-list d (path-text w) ⌝ }
 {
     let n = w % 256;
@@ -126,15 +126,16 @@ pub fn put_path(d: Draft, w: u64) -> Draft
     draft::put16(d3, w / 4294967296)
 }
 
-// A tag and 32 bits.
+// A tag and 32 bits, low byte first.
 fn put_literal(d: Draft, tag: u8, x: u32) -> Draft
     ensures { λ r. ⌜ r ≡ put-list d (tag ∷ le32 x) ⌝ }
 {
-    draft::put32(draft::put(d, tag), x)
+    let wide = x as u64;
+    draft::put16(draft::put16(draft::put(d, tag), wide), wide / 65536)
 }
 
 // A term without those that it contains. An empty one is a byte that no term starts with.
-pub fn put_term(d: Draft, t: Term) -> Draft
+fn put_term(d: Draft, t: Term) -> Draft
     ensures { λ r. ⌜ r ≡ put-list d (term-text t) ⌝ }
 {
     match t {

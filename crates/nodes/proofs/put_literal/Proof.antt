@@ -1,4 +1,5 @@
 -- `nodes::put_literal` meets its contract. Assumes nothing.
+use mathlib.Core.Path.{refl, _∙_}
 use borrow.Author.Needs.{needs}
 use Rattle.draft.specs.Draft.{put-list}
 use Rattle.nodes.proofs.put_literal.Statement.{statement}
@@ -7,12 +8,15 @@ use Rattle.nodes.proofs.put_literal.Tie as tie
 put-requires : tie.Need-put-requires
 put-requires c κs = search needs
 
-put32-requires : tie.Need-put32-requires
-put32-requires c κs = search needs
+put16-requires : tie.Need-put16-requires
+put16-requires c κs = search needs
+
+put16-requires-2 : tie.Need-put16-requires-2
+put16-requires-2 c κs = search needs
 
 returns : tie.Need-returns
 unfolding put-list
-returns c = rw (← c .before .put .ensures) (c .put32 .ensures)
+returns c = c .put162 .ensures ∙ rw (c .before .put16 .ensures, c .before .before .put .ensures) refl
 
 pub put-literal-spec : {M : Type 1} → statement M
-put-literal-spec = tie.close (tie.spec put-requires put32-requires returns)
+put-literal-spec = tie.close (tie.spec put-requires put16-requires put16-requires-2 returns)

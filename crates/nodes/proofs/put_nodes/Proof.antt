@@ -1,14 +1,12 @@
 -- `nodes::put_nodes` meets its contract. Assumes nothing.
 use Prim.Native.Nat.{_-_, _≤_}
-use mathlib.Core.Path.{_≡_, sym, ap, _∙_}
-use mathlib.Core.List.{List}
+use mathlib.Core.Path.{_≡_, sym, _∙_}
 use native.Mathlib.Omega.{arith}
 use native.Mathlib.Nat.{sub-zero}
 use borrow.Author.Needs.{needs}
 use lib.ListN.{take}
 use Rattle.draft.specs.Draft.{put-list}
-use Rattle.draft.proofs.Texts.{left, put-more, put-done, take-least}
-use Rattle.nodes.specs.declared.Node.{Node}
+use Rattle.draft.proofs.Texts.{left, put-more, put-done}
 use Rattle.nodes.specs.declared.Term.the-variants.{Empty}
 use Rattle.nodes.specs.Nodes.{node}
 use Rattle.nodes.specs.Text.{node-text, nodes-text}
@@ -52,9 +50,7 @@ returns : tie.Need-returns Inv-loop μ-loop
 returns c =
     let l = c .before .loop in
     let a = c .before .before .before .args in (
-      sym (put-done node-text (l .r) (a .t2) _ (l .k) (c .loop-test .left))
-          ∙ l .inv .1
-          ∙ ap (λ (t : List Node). put-list (a .d) (nodes-text t)) (take-least (a .count) 72 _ (a .t2) (omega arith) (c .before .before .lesser .ensures .0)),
+      put-done node-text (l .r) (a .t2) _ (l .k) (a .count) 72 (a .d) (c .loop-test .left) (omega arith) (c .before .before .lesser .ensures .0) (l .inv .1),
       nodes-short (a .count) (a .t2) (omega arith),
     )
 

@@ -1,13 +1,12 @@
 -- `plan_form::put_rows` meets its contract. Assumes nothing.
-use Prim.Native.Nat.{ℕ, _-_, _≤_}
-use mathlib.Core.Path.{_≡_, sym, ap, _∙_}
-use mathlib.Core.List.{List}
+use Prim.Native.Nat.{_-_, _≤_}
+use mathlib.Core.Path.{_≡_, sym, _∙_}
 use native.Mathlib.Omega.{arith}
 use native.Mathlib.Nat.{sub-zero}
 use borrow.Author.Needs.{needs}
 use lib.ListN.{take}
 use Rattle.draft.specs.Draft.{put-list}
-use Rattle.draft.proofs.Texts.{left, put-more, put-done, take-least}
+use Rattle.draft.proofs.Texts.{left, put-more, put-done}
 use Rattle.plan_form.specs.Form.{row-text, rows-text}
 use Rattle.plan_form.proofs.Written.{rows-short}
 use Rattle.plan_form.proofs.put_rows.Statement.{statement}
@@ -49,9 +48,7 @@ returns : tie.Need-returns Inv-loop μ-loop
 returns c =
     let l = c .before .loop in
     let a = c .before .before .before .args in (
-      sym (put-done row-text (l .r) (a .t2) _ (l .i) (c .loop-test .left))
-          ∙ l .inv .1
-          ∙ ap (λ (t : List ℕ). put-list (a .d) (rows-text t)) (take-least (a .paths) 8 _ (a .t2) (omega arith) (c .before .before .lesser .ensures .0)),
+      put-done row-text (l .r) (a .t2) _ (l .i) (a .paths) 8 (a .d) (c .loop-test .left) (omega arith) (c .before .before .lesser .ensures .0) (l .inv .1),
       rows-short (a .paths) (a .t2) (omega arith),
     )
 

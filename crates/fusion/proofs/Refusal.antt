@@ -7,13 +7,13 @@ use borrow.Author.Tests.{eq-eqb, eqb-true, ne-eqb}
 use lib.Dec.{eqb}
 use Rattle.plan_form.specs.Form.{write-reply}
 use Rattle.query.specs.Query.{query-code, query-scan}
-use Rattle.query_form.specs.Form.{blank-reading, query-reading, read-after}
+use Rattle.query_form.specs.Form.{query-reading, read-after}
 use Rattle.terms.specs.declared.Walk.{Walk}
 use Rattle.wire.specs.Wire.{refused}
 use Rattle.fusion.specs.Fusion.{fuse-reply, fused-form}
 
 pub reading-code : (s : List ℕ) → query-reading s .code ≡ query-code s
-unfolding read-after blank-reading
+unfolding read-after
 reading-code s = go (query-scan s) (eqb (query-code s) 0) refl
   where
     go : (w : Walk) (b : Bool) → eqb (w .code) 0 ≡ b → read-after s w .code ≡ w .code

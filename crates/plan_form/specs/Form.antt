@@ -57,7 +57,7 @@ unfoldable pub write-reply : Form → ℕ → Reply
 write-reply f room = unless (plan-code (form-bytes f)) (fitted (form-bytes f) room)
 
 -- the reading of bytes. These mirror the program and need not be believed: `read-form` says that the reading of a legal plan's bytes is its typed form
-unfoldable pub blank-reading : ℕ → Reading
+abbrev pub blank-reading : ℕ → Reading
 blank-reading code = record {
   code = code;
   form = record { kind = 0; paths = 0; table = replicate 8 0; entries = 0; count = 0; nodes = replicate 72 (node Empty) };

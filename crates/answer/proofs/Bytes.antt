@@ -1,4 +1,4 @@
--- The bytes of answers: how many, and laid into a buffer one piece behind the other. Assumes nothing.
+-- The bytes of answers: how many there are, and rows stored one behind the other. Assumes nothing.
 use Prim.Native.Nat.{ℕ, _+_, _*_, _≤_, _<_}
 use mathlib.Core.Path.{_≡_, refl, sym, _∙_}
 use mathlib.Core.Bool.{Bool, true, false, cond}
@@ -17,7 +17,8 @@ use Rattle.answer.specs.Answer.{answer-bytes, answer-rows, answer-size, 
 
 -- ---- how many
 
-pub row-length : (v : Value) → length (row-bytes v) ≡ 9
+-- nine bytes each
+row-length : (v : Value) → length (row-bytes v) ≡ 9
 row-length Absent = refl
 row-length (Number x) = refl
 
@@ -26,6 +27,7 @@ unfolding rows-bytes
 rows-length [] = refl
 rows-length (v ∷ vs) = length-append (row-bytes v) (rows-bytes vs) ∙ omega (arith, row-length v, rows-length vs)
 
+-- and ten before them
 pub encode-length : (n kind : ℕ) (o : Outcome) → length (encode n kind o) ≡ 10 + 9 * length (o .rows)
 encode-length n kind o = length-append (head-bytes n (o .count) kind) (rows-bytes (o .rows)) ∙ omega (arith, rows-length (o .rows))
 
@@ -43,13 +45,15 @@ unfolding answer-bytes
 answer-length n rounds kind vs h =
     encode-length n kind (record { count = rounds; rows = answer-rows n kind vs }) ∙ omega (arith, length-take-le (row-count n kind) vs h)
 
--- ---- row i stored behind those before it
+-- ---- stored in turn
 
+-- the bytes of two lists are one behind the other
 rows-append : (us vs : List Value) → rows-bytes (us ++ vs) ≡ rows-bytes us ++ rows-bytes vs
 unfolding rows-bytes
 rows-append [] vs = refl
 rows-append (u ∷ us) vs = rw (rows-append us vs) (sym (append-assoc (row-bytes u) (rows-bytes us) (rows-bytes vs)))
 
+-- ROW i STORED BEHIND THOSE BEFORE IT
 pub row-more : (out : List ℕ) (rows : List Row) (i : ℕ) (d : Row) → i < length rows →
     sets (sets out 10 (rows-bytes (take i (values rows)))) (10 + 9 * i) (row-bytes (getD rows i d .value)) ≡ sets out 10 (rows-bytes (take (i + 1) (values rows)))
 unfolding rows-bytes

@@ -18,11 +18,13 @@ use Rattle.answer.proofs.Bytes.{answer-length, count-most, encode-lengt
 
 -- ---- what was judged
 
+-- n and a kind that are not refused
 pub record Fields (n kind : ℕ) : Type 0 where
   pub some-vertex : 0 < n
   pub few-vertices : n ≤ 256
   pub known-kind : kind ≤ 1
 
+-- what the judge of the fields lets pass
 pub fields : (n kind : ℕ) → fields-code n kind ≡ 0 → Fields n kind
 unfolding fields-code
 fields n kind e =
@@ -36,6 +38,7 @@ fields n kind e =
 pub size-most : (n kind : ℕ) → Fields n kind → answer-size n kind ≤ 2314
 size-most n kind f = omega (arith, count-most n kind 256 (f .few-vertices) (omega arith))
 
+-- what the judge lets pass: the fields, and the bytes fit
 pub judged-right : (n kind room : ℕ) → answer-code n kind room ≡ 0 → Fields n kind × (answer-size n kind ≤ room)
 unfolding answer-code
 judged-right n kind room z = go (eqb (fields-code n kind) 0) refl z
@@ -46,7 +49,7 @@ judged-right n kind room z = go (eqb (fields-code n kind) 0) refl z
     go false e z = absurd (eqb-false _ _ e z)
 
 -- BYTES OF AN ANSWER'S SIZE FIT EXACTLY WHERE THE JUDGE SAYS SO, and else it says 15
-pub judged-fits : (n kind room : ℕ) (bs : List ℕ) → fields-code n kind ≡ 0 → length bs ≡ answer-size n kind →
+judged-fits : (n kind room : ℕ) (bs : List ℕ) → fields-code n kind ≡ 0 → length bs ≡ answer-size n kind →
     unless (answer-code n kind room) (done bs) ≡ fitted bs room
 unfolding answer-code
 judged-fits n kind room bs z e = rw (eq-eqb _ _ z, e) (go (ltb room (answer-size n kind)))
@@ -57,7 +60,8 @@ judged-fits n kind room bs z e = rw (eq-eqb _ _ z, e) (go (ltb room (answer-size
 
 -- ---- the reply
 
-pub reply-fits : (n rounds kind : ℕ) (vs : List Value) (room : ℕ) → fields-code n kind ≡ 0 → answer-reply n rounds kind vs room ≡ fitted (answer-bytes n rounds kind vs) room
+-- no refusal of the fields: the bytes where they fit
+reply-fits : (n rounds kind : ℕ) (vs : List Value) (room : ℕ) → fields-code n kind ≡ 0 → answer-reply n rounds kind vs room ≡ fitted (answer-bytes n rounds kind vs) room
 unfolding answer-reply
 reply-fits n rounds kind vs room z = rw (eq-eqb _ _ z)
 
@@ -68,10 +72,11 @@ unfolding answer-bytes
 answer-laid n rounds kind vs out h = sets-front out (head-bytes n rounds kind) (rows-bytes (answer-rows n kind vs)) 10 refl h
 
 module _ (n rounds kind : ℕ) (vs : List Value) (full : length vs ≡ 256) where
+  -- how many bytes there are, of 256 values handed over
   pub answer-sized : Fields n kind → length (answer-bytes n rounds kind vs) ≡ answer-size n kind
   answer-sized f = answer-length n rounds kind vs (omega (arith, count-most n kind 256 (f .few-vertices) (omega arith)))
 
-  -- by the judge's number
+  -- THE REPLY IS BY THE JUDGE'S NUMBER
   pub reply-judged : (room : ℕ) → answer-reply n rounds kind vs room ≡ unless (answer-code n kind room) (done (answer-bytes n rounds kind vs))
   unfolding answer-reply answer-code
   reply-judged room = go (eqb (fields-code n kind) 0) refl
@@ -83,9 +88,11 @@ module _ (n rounds kind : ℕ) (vs : List Value) (full : length vs ≡ 256) wher
           reply-fits n rounds kind vs room z ∙ sym (judged-fits n kind room (answer-bytes n rounds kind vs) z (answer-sized (fields n kind z)))
       go false e = rw (e, e)
 
+  -- the judge refuses: so does the writer, by the same number
   pub reply-refused : (room k : ℕ) → k ≡ answer-code n kind room → (k ≡ 0 → ⊥) → answer-reply n rounds kind vs room ≡ refused k
   reply-refused room k e h = reply-judged room ∙ rw (← e, ne-eqb k 0 h)
 
+  -- it does not: all bytes are written
   pub reply-done : (room : ℕ) → answer-code n kind room ≡ 0 → answer-reply n rounds kind vs room ≡ done (answer-bytes n rounds kind vs)
   reply-done room z = reply-judged room ∙ rw (eq-eqb _ _ z)
 
@@ -102,5 +109,6 @@ module _ (n kind : ℕ) (o : Outcome) (vs : List Value) (all : length (o .rows) 
   unfolding answer-bytes
   write-encodes = rw (← all, begin)
 
+  -- and so is the reply, where it fits
   pub reply-encodes : fields-code n kind ≡ 0 → (room : ℕ) → answer-reply n (o .count) kind vs room ≡ fitted (encode n kind o) room
   reply-encodes z room = reply-fits n (o .count) kind vs room z ∙ ap (λ (bs : List ℕ). fitted bs room) write-encodes

@@ -1,10 +1,11 @@
 -- Answers byte by byte, written by hand from document 01: that of its first trial ("keys 2 from 0: 0, 5, 2, 5; rounds 3"); one row, absent; a number of 64 bits, 256
--- places and 512 rounds.
+-- vertices and 512 rounds.
 use mathlib.Core.Path.{_≡_, refl}
 use mathlib.Core.List.{[], _∷_}
 use Rattle.answer.specs.Answer.{answer-bytes, rows-bytes}
 use Rattle.value.specs.declared.Value.the-variants.{Absent, Number}
 
+-- THE BYTES OF THREE ANSWERS
 pub answer-samples : (answer-bytes 4 3 0 (Number 0 ∷ Number 5 ∷ Number 2 ∷ Number 5 ∷ [])
     ≡ 0x4c ∷ 0x50 ∷ 0x41 ∷ 1 ∷ 0 ∷ 4 ∷ 0 ∷ 3 ∷ 0 ∷ 0
     ∷ 1 ∷ 0 ∷ 0 ∷ 0 ∷ 0 ∷ 0 ∷ 0 ∷ 0 ∷ 0

@@ -14,14 +14,16 @@ abbrev pub row-bytes : Value → List ℕ
 row-bytes Absent = 0 ∷ le64 0
 row-bytes (Number x) = 1 ∷ le64 x
 
+-- rows in turn
 unfoldable pub rows-bytes : List Value → List ℕ
 rows-bytes [] = []
 rows-bytes (v ∷ vs) = row-bytes v ++ rows-bytes vs
 
--- "three letters and a 16-bit version, 1", "n (16 bits), rounds (16 bits), kind byte"
+-- "three letters", here `LPA`
 abbrev pub letters : List ℕ
 letters = 0x4c ∷ 0x50 ∷ 0x41 ∷ []
 
+-- "three letters and a 16-bit version, 1", "n (16 bits), rounds (16 bits), kind byte"
 abbrev pub head-bytes : ℕ → ℕ → ℕ → List ℕ
 head-bytes n rounds kind = letters ++ le16 1 ++ le16 n ++ le16 rounds ++ (kind ∷ [])
 
@@ -29,13 +31,15 @@ head-bytes n rounds kind = letters ++ le16 1 ++ le16 n ++ le16 rounds ++ (kind �
 abbrev pub encode : ℕ → ℕ → Outcome → List ℕ
 encode n kind o = head-bytes n (o .count) kind ++ rows-bytes (o .rows)
 
--- "then n rows for kind 0 or one row for kind 1": as many of the values handed over
+-- "then n rows for kind 0 or one row for kind 1"
 abbrev pub row-count : ℕ → ℕ → ℕ
 row-count n kind = cond (eqb kind 0) n 1
 
+-- as many of the values handed over
 abbrev pub answer-rows : ℕ → ℕ → List Value → List Value
 answer-rows n kind vs = take (row-count n kind) vs
 
+-- the bytes of what the writer is handed
 unfoldable pub answer-bytes : ℕ → ℕ → ℕ → List Value → List ℕ
 answer-bytes n rounds kind vs = encode n kind (record { count = rounds; rows = answer-rows n kind vs })
 
@@ -47,10 +51,10 @@ fields-code n kind = cond (eqb n 0) 4 (cond (ltb 256 n) 4 (cond (ltb 1 kind) 9 0
 unfoldable pub answer-reply : ℕ → ℕ → ℕ → List Value → ℕ → Reply
 answer-reply n rounds kind vs room = unless (fields-code n kind) (fitted (answer-bytes n rounds kind vs) room)
 
--- THE JUDGE'S NUMBER, 0 for none: 4, 9, then 15, before there are values, since how many bytes there are depends on n and the kind alone (`answer-length`,
--- proofs/Bytes); `reply-judged` (proofs/Reply) says that it is the writer's
+-- how many bytes there are, by n and the kind alone (`answer-length`, proofs/Bytes)
 abbrev pub answer-size : ℕ → ℕ → ℕ
 answer-size n kind = 10 + 9 * row-count n kind
 
+-- THE JUDGE'S NUMBER, 0 for none: 4, 9, then 15, before there are values; `reply-judged` (proofs/Reply) says that it is the writer's
 unfoldable pub answer-code : ℕ → ℕ → ℕ → ℕ
 answer-code n kind room = cond (eqb (fields-code n kind) 0) (cond (ltb room (answer-size n kind)) 15 0) (fields-code n kind)

@@ -102,6 +102,7 @@ fn put_letters(out: &mut [u8])
     out[2] = 0x41;
 }
 
+// The ten bytes before the rows.
 fn put_head(out: &mut [u8], n: u16, rounds: u16, kind: u8)
     requires { ⌜ 10 ≤ length (now out) ⌝ }
     ensures { λ _. ⌜ now (out .exit) ≡ sets (now (out .entry)) 0 (head-bytes n rounds kind) ⌝ }

@@ -1,4 +1,4 @@
--- DRAFTS HOLD WHAT WAS PUT, while there is room. Assumes nothing.
+-- A DRAFT HOLDS WHAT WAS PUT, while there is room. Assumes nothing.
 use Prim.Native.Nat.{ℕ, _+_, _≤_, _<_}
 use mathlib.Core.Path.{_≡_, refl, sym, ap, _∙_, subst}
 use mathlib.Core.List.{List, [], _∷_, _++_, append-nil}
@@ -10,6 +10,7 @@ use lib.Seq.{append-snoc, take-suc-set}
 use Rattle.draft.specs.declared.Draft.{Draft}
 use Rattle.draft.specs.Draft.{empty-draft, put-byte, put-list}
 
+-- two pieces are put one after the other; so are three, and four
 pub put-append : (a b : List ℕ) (d : Draft) → put-list d (a ++ b) ≡ put-list (put-list d a) b
 unfolding put-list
 put-append [] b d = refl
@@ -27,9 +28,11 @@ pub record Holds (d : Draft) (l : List ℕ) : Type 0 where
   pub text : take (d .len) (d .bytes) ≡ l
   pub size : length (d .bytes) ≡ 576
 
+-- nothing, at first
 holds-empty : Holds empty-draft []
 holds-empty = record { len = refl; text = refl; size = length-replicate {A = ℕ} 576 0 }
 
+-- one byte more
 holds-byte : (d : Draft) (l : List ℕ) (b : ℕ) → Holds d l → length l < 576 → Holds (put-byte d b) (l ++ (b ∷ []))
 unfolding put-byte
 holds-byte d l b h k =
@@ -48,5 +51,6 @@ put-holds (b ∷ m) l d h k =
     subst (Holds (put-list (put-byte d b) m)) (append-snoc l b m)
     (put-holds m (l ++ (b ∷ [])) (put-byte d b) (holds-byte d l b h (omega arith)) (omega (arith, length-append l (b ∷ []))))
 
+-- a draft made of nothing but these bytes holds them
 pub drafted : (l : List ℕ) → length l ≤ 576 → (d : Draft) → d ≡ put-list empty-draft l → take (d .len) (d .bytes) ≡ l
 drafted l short d e = rw e (put-holds l [] empty-draft holds-empty (omega arith) .text)

@@ -1,4 +1,4 @@
--- Things put one after the other, each by its text. Assumes nothing.
+-- Things put into a draft one after the other, each by its text. Assumes nothing.
 use Prim.Native.Nat.{ℕ, suc, _+_, _-_, _*_, _≤_, _<_, min}
 use mathlib.Core.Path.{_≡_, refl, sym, ap, _∙_}
 use mathlib.Core.List.{List, [], _∷_, _++_, append-assoc}

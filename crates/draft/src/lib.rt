@@ -1,4 +1,4 @@
-// A draft of bytes to be written, by value: those of a question's or worksheet's typed form are at most 560 (document 01, "Layouts").
+// A draft of bytes to be written, by value: those of a query's or plan's typed form are at most 560 (document 01, "Layouts").
 ghost use mathlib.Core.Path.{_≡_};
 ghost use mathlib.Core.List.{_∷_, []};
 ghost use lib.ListN.{length, take};
@@ -48,7 +48,7 @@ pub fn put16(d: Draft, x: u64) -> Draft
     put_two(d, (x % 256) as u8, (x / 256 % 256) as u8)
 }
 
-// The first five bytes of a question or worksheet.
+// The first five bytes of a query or plan: "three letters and a 16-bit version, 1".
 pub fn header(letter: u8) -> Draft
     ensures { λ r. ⌜ r ≡ put-list empty-draft (header-bytes letter) ⌝ }
 {

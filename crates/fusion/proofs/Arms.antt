@@ -1,4 +1,4 @@
--- The terms that the last arm of a `match` stands for. Assumes nothing.
+-- What the last arm of a `match` on a term may answer: each definition, at the terms that no arm before it names. Assumes nothing.
 use Prim.Native.Nat.{ℕ}
 use mathlib.Core.Path.{_≡_, refl}
 use mathlib.Core.List.{List, [], _∷_}
@@ -13,6 +13,7 @@ use Rattle.fusion.specs.Fusion.{entry-term, final-term, reduces, size}
 abbrev Among : List ℕ → Term → Type 0
 Among ks t = OneOf ks (tagOf the-type t)
 
+-- in the entries the others are nothing
 pub entry-others : (table : List ℕ) (t : Term) → Among (0 ∷ 5 ∷ 6 ∷ 7 ∷ 8 ∷ 9 ∷ []) t → entry-term table t ≡ Empty
 unfolding entry-term
 entry-others table Empty h = refl
@@ -26,6 +27,7 @@ entry-others table (PathIndex i) h = refl
 entry-others table (EntryIndex i) h = refl
 entry-others table (Entry o) h = refl
 
+-- in the final expression too
 pub final-others : (k : ℕ) (t : Term) → Among (0 ∷ 1 ∷ 2 ∷ 3 ∷ 7 ∷ 8 ∷ 9 ∷ []) t → final-term k t ≡ Empty
 unfolding final-term
 final-others k Empty h = refl
@@ -39,6 +41,7 @@ final-others k (PathIndex i) h = refl
 final-others k (EntryIndex i) h = refl
 final-others k (Entry o) h = refl
 
+-- every other term takes one node
 pub size-others : (t : Term) → Among (1 ∷ 2 ∷ 3 ∷ 4 ∷ 5 ∷ 6 ∷ 7 ∷ 8 ∷ 9 ∷ []) t → size t ≡ 1
 unfolding size
 size-others Empty h = absurd (miss (1 ∷ 2 ∷ 3 ∷ 4 ∷ 5 ∷ 6 ∷ 7 ∷ 8 ∷ 9 ∷ []) 0 tt h)
@@ -52,6 +55,7 @@ size-others (PathIndex i) h = refl
 size-others (EntryIndex i) h = refl
 size-others (Entry o) h = refl
 
+-- and is no reduction
 pub reduces-others : (t : Term) → Among (0 ∷ 1 ∷ 2 ∷ 3 ∷ 5 ∷ 6 ∷ 7 ∷ 8 ∷ 9 ∷ []) t → reduces t ≡ 0
 unfolding reduces
 reduces-others Empty h = refl

@@ -1,4 +1,4 @@
--- THE REPLY TO A LEGAL QUESTION IS THE ENCODING OF ITS FUSED TREE. Assumes nothing.
+-- THE REPLY TO A LEGAL QUERY IS THE ENCODING OF ITS FUSED TREE. Assumes nothing.
 use Prim.Native.Nat.{ℕ, _+_, _-_, _≤_}
 use mathlib.Core.Path.{_≡_, refl, sym, ap, _∙_, subst}
 use mathlib.Core.List.{List, [], _∷_, _++_, map, append-nil}
@@ -54,6 +54,7 @@ both-parts table nodes d l a b h p q r =
     subst (λ (x : List Node). Holds (put-part 1 table 0 (put-part 0 table 0 d nodes) nodes) (l ++ a ++ x)) q
     (holds-part 1 table nodes 0 (put-part 0 table 0 d nodes) (l ++ a) one (omega (arith, n, ap length q)))
 
+-- a query's nodes and kind, the table of its path reductions, and the nodes that fusing makes of them
 abbrev query-nodes : Query → List Node
 query-nodes (each t) = vertex-nodes t
 query-nodes (single t) = result-nodes t
@@ -68,6 +69,7 @@ table-of q rest = map path-number (fuse q .paths) ++ rest
 abbrev both : List ℕ → ℕ → List Node → Written
 both table kind nodes = put-part 1 table 0 (put-part 0 table 0 (started kind) nodes) nodes
 
+-- which are those of the fused plan
 parts-held : (q : Query) → QueryLegal 256 q → (rest : List ℕ) → Holds (both (table-of q rest) (query-kind q) (query-nodes q)) (body-nodes (fuse q .body))
 unfolding started
 parts-held (each t) h rest =
@@ -88,7 +90,7 @@ parts-held (single t) h rest =
     (result-entries cs (l .paths-legal) rest 0 t (h .legal) (each-body (λ c. T (among c cs)) (leaves t) (put-all-has [] (bodies (leaves t)))))
     (result-final (table-of (single t) rest) 0 t) (body-short 256 (fuse (single t)) l)
 
--- the fields of the question's typed form
+-- the fields of the query's typed form
 kind-read : (q : Query) → form-of q .kind ≡ query-kind q
 unfolding form-of
 kind-read (each t) = refl
@@ -99,6 +101,7 @@ unfolding form-of
 nodes-read (each t) = first-nodes (query-terms (each t)) (vertex-nodes t) (vertex-size t)
 nodes-read (single t) = first-nodes (query-terms (single t)) (result-nodes t) (result-size t)
 
+-- kind and entry count are those of the fused plan
 kind-fused : (q : Query) → query-kind q ≡ plan.kind-of (fuse q .body)
 kind-fused (each t) = refl
 kind-fused (single t) = refl
@@ -125,10 +128,11 @@ fused-as q h r a =
       nodes = w .list;
     }
 
+-- the same of the reading of its bytes
 pub fuse-form : (q : Query) → QueryLegal 256 q → FormOf (fuse q) (fused-form (query-reading (encode q)))
 fuse-form q h = fused-as q h (query-reading (encode q)) (read-form q h)
 
--- A FUSED WORKSHEET IS ALWAYS ACCEPTED BY THE READER
+-- A FUSED PLAN IS ALWAYS ACCEPTED BY THE READER
 pub fused-accepted : (q : Query) → QueryLegal 256 q → plan-code (plan.encode (fuse q)) ≡ 0
 fused-accepted q h = reader.read-complete (fuse q) (fuse-legal 256 q h) .accepted
 
@@ -139,7 +143,7 @@ fuse-encodes q h room =
     let e = write-form (fuse q) (fuse-legal 256 q h) (fused-form (query-reading (encode q))) (fuse-form q h) in
     reply-written (encode q) room (read-form q h .code) ∙ rw (e, fused-accepted q h) refl
 
--- NO WORKSHEET IS LONGER THAN 560 BYTES: 8, 6 for each of 8 path reductions, 7 for each of 72 nodes
+-- NO LEGAL PLAN IS LONGER THAN 560 BYTES: 8, 6 for each of 8 path reductions, 7 for each of 72 nodes
 pub plan-short : (p : Plan) → PlanLegal 256 p → length (plan.encode p) ≤ 560
 unfolding form-bytes
 plan-short p l =
@@ -160,16 +164,16 @@ plan-short p l =
     let all : length (f .nodes) ≡ 72 = omega (arith, length-append (body-nodes (p .body)) empty, length-replicate {A = Node} (72 - length (body-nodes (p .body))) (node Empty), body-short 256 p l) in
     omega (arith, e, length-append rows (f .entries ∷ text), rows-short (f .paths) (f .table) eight, nodes-short (f .count) (f .nodes) all)
 
--- with room for 560 bytes nothing but the question is refused
+-- with room for 560 bytes nothing but the query is refused
 pub fuse-fits : (q : Query) → QueryLegal 256 q → (room : ℕ) → 560 ≤ room → fuse-reply (encode q) room ≡ done (plan.encode (fuse q))
 fuse-fits q h room r =
     fuse-encodes q h room ∙ rw (le-ltb room (length (plan.encode (fuse q))) (omega (arith, plan-short (fuse q) (fuse-legal 256 q h)))) refl
 
--- FOR ALL BYTES: a question that is refused is refused by its number ..
+-- FOR ALL BYTES: a query that is refused is refused by its number ..
 pub fuse-refused : (s : List ℕ) → (query-code s ≡ 0 → ⊥) → (room : ℕ) → fuse-reply s room ≡ refused (query-code s)
 fuse-refused s n room = reply-refused s room (λ z. n (sym (reading-code s) ∙ z)) ∙ ap refused (reading-code s)
 
--- .. and one that is accepted is a legal query's, and the reply is the encoding of its fused tree: a legal worksheet that its reader accepts, of at most 560 bytes
+-- .. and one that is accepted is a legal query's, and the reply is the encoding of its fused tree: a legal plan that its reader accepts, of at most 560 bytes
 pub record Fused (s : List ℕ) (room : ℕ) : Type 0 where
   pub query : Query
   pub legal : QueryLegal 256 query

@@ -23,7 +23,7 @@ use Rattle.fusion.specs.Fusion.{entry-term, final-term, fused-term, inde
 use Rattle.fusion.proofs.Selected.{reduced, reduced-append, selected, selected-append}
 
 -- the number of a path reduction stands in the table where the path reduction stands in the list
-pub index-position : (c : PathReduction) → PathFits 256 c → (cs : List PathReduction) → All (PathFits 256) cs → (rest : List ℕ) → T (among c cs)
+index-position : (c : PathReduction) → PathFits 256 c → (cs : List PathReduction) → All (PathFits 256) cs → (rest : List ℕ) → T (among c cs)
     → index-of (path-number c) (map path-number cs ++ rest) ≡ position c cs
 unfolding index-of
 index-position c f [] g rest t = absurd t
@@ -34,13 +34,14 @@ index-position c f (d ∷ ds) g rest t = rw (same-number c d f (g .0)) (go (same
     go true t h = refl
     go false t h = ap suc (h t)
 
--- place terms: no reduction, and nothing of them in the final expression
-pub vertex-reduced : (t : VertexTerm) → reduced (vertex-nodes t) ≡ 0
+-- a vertex term has no reduction
+vertex-reduced : (t : VertexTerm) → reduced (vertex-nodes t) ≡ 0
 unfolding reduced reduces apply-node literal-node literal-tag
 vertex-reduced (leaf c) = refl
 vertex-reduced (literal x) = refl
 vertex-reduced (apply o s t) = omega (arith, reduced-append (vertex-nodes s) (vertex-nodes t), vertex-reduced s, vertex-reduced t)
 
+-- and nothing of it is in the final expression
 pub vertex-final : (table : List ℕ) (k : ℕ) (t : VertexTerm) → selected 1 table k (vertex-nodes t) ≡ []
 unfolding selected fused-term final-term size apply-node literal-node literal-tag
 vertex-final table k (leaf c) = refl
@@ -49,13 +50,14 @@ vertex-final table k (apply o s t) =
     let j = k + reduces (Apply o) in
     selected-append 1 table j (vertex-nodes s) (vertex-nodes t) ∙ ap₂ _++_ (vertex-final table j s) (vertex-final table (j + reduced (vertex-nodes s)) t)
 
--- result terms: the reductions are numbered as written
-pub result-reduced : (t : ResultTerm) → reduced (result-nodes t) ≡ length (leaves t)
+-- a result term has as many reductions as leaves
+result-reduced : (t : ResultTerm) → reduced (result-nodes t) ≡ length (leaves t)
 unfolding reduced reduces apply-node literal-node literal-tag
 result-reduced (leaf e) = omega (arith, vertex-reduced (e .body))
 result-reduced (literal x) = refl
 result-reduced (apply o s t) = omega (arith, reduced-append (result-nodes s) (result-nodes t), result-reduced s, result-reduced t, length-append (leaves s) (leaves t))
 
+-- THE FINAL EXPRESSION: the reductions are numbered as written
 pub result-final : (table : List ℕ) (k : ℕ) (t : ResultTerm) → selected 1 table k (result-nodes t) ≡ final-nodes (enumerate k t)
 unfolding selected fused-term final-term size reduces apply-node literal-node literal-tag
 result-final table k (leaf e) = ap (λ (l : List Node). node (EntryIndex k) ∷ l) (vertex-final table (k + 1) (e .body))
@@ -67,6 +69,7 @@ result-final table k (apply o s t) =
     ∙ ap₂ _++_ (ap (λ (j : ℕ). selected 1 table j (result-nodes s)) e ∙ result-final table k s)
     (ap₂ (λ (i j : ℕ). selected 1 table (i + j) (result-nodes t)) e (result-reduced s) ∙ result-final table (k + length (leaves s)) t))
 
+-- the nodes of two lists of entries are one behind the other
 entries-append : (es ds : List (VertexReduction ℕ)) → entries-nodes (es ++ ds) ≡ entries-nodes es ++ entries-nodes ds
 entries-append [] ds = refl
 entries-append (e ∷ es) ds =
@@ -78,9 +81,11 @@ module _ (cs : List PathReduction) (legal : All (PathFits 256) cs) (rest : List 
   abbrev table : List ℕ
   table = map path-number cs ++ rest
 
+  -- its path reductions are among them
   abbrev Known : VertexTerm → Type 0
   Known t = All (λ c. T (among c cs)) (leaves t)
 
+  -- A VERTEX TERM IN AN ENTRY: each path reduction by its position
   pub vertex-entry : (k : ℕ) (t : VertexTerm) → Every (PathFits 256) t → Known t → selected 0 table k (vertex-nodes t) ≡ entry-nodes (rename (λ c. position c cs) t)
   unfolding selected fused-term entry-term size apply-node literal-node literal-tag
   vertex-entry k (leaf c) f h = ap (λ (i : ℕ). node (PathIndex i) ∷ []) (index-position c f cs legal rest (h .0))
@@ -91,6 +96,7 @@ module _ (cs : List PathReduction) (legal : All (PathFits 256) cs) (rest : List 
       (selected-append 0 table j (vertex-nodes s) (vertex-nodes t)
       ∙ ap₂ _++_ (vertex-entry j s (f .2) (all-left _ (leaves s) (leaves t) h)) (vertex-entry (j + reduced (vertex-nodes s)) t (f .3) (all-right _ (leaves s) (leaves t) h)))
 
+  -- THE ENTRIES: one for each reduction, in written order
   pub result-entries : (k : ℕ) (t : ResultTerm) → Every (EveryBody (PathFits 256)) t → All (λ e. Known (e .body)) (leaves t)
       → selected 0 table k (result-nodes t) ≡ entries-nodes (map (entry cs) (leaves t))
   unfolding selected fused-term entry-term size apply-node literal-node literal-tag

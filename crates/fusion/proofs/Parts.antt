@@ -1,4 +1,4 @@
--- What the loops' proofs cite: the search in a table, and what is left of the nodes. Assumes nothing.
+-- The loops of fusing: the search in a table, and one part of a plan put node by node. Assumes nothing.
 use Prim.Native.Nat.{ℕ, suc, _+_, _-_, _≤_, _<_}
 use mathlib.Core.Path.{_≡_, refl, ap, _∙_}
 use mathlib.Core.List.{List, [], _∷_}
@@ -13,16 +13,19 @@ use Rattle.nodes.specs.Nodes.{node}
 use Rattle.fusion.specs.declared.Written.{Written}
 use Rattle.fusion.specs.Fusion.{fused-term, index-of, put-part, put-term, reduces, size}
 
--- from place i on the search goes as from the start
+-- the search from index i on, of which what was passed is added
 module _ (w : ℕ) (table : List ℕ) (i : ℕ) (h : i < length table) where
+  -- the number stands at i
   pub index-here : getD table i 0 ≡ w → i + index-of w (drop i table) ≡ i
   unfolding index-of
   index-here e = rw (drop-cons table i 0 h, eq-eqb (getD table i 0) w e) (omega arith)
 
+  -- it does not: the search goes on
   pub index-next : (getD table i 0 ≡ w → ⊥) → i + index-of w (drop i table) ≡ i + 1 + index-of w (drop (i + 1) table)
   unfolding index-of
   index-next n = rw (drop-cons table i 0 h, ne-eqb (getD table i 0) w n, add-one i) (omega arith)
 
+-- it stands nowhere
 pub index-none : (w : ℕ) (table : List ℕ) (i : ℕ) → length table ≤ i → i + index-of w (drop i table) ≡ i
 unfolding index-of
 index-none w table i h = rw (drop-of-length-le table h) (omega arith)
@@ -35,6 +38,7 @@ left l n i = take (n - i) (drop i l)
 abbrev pub written : List Node → ℕ → Written
 written l n = record { list = l; len = n }
 
+-- a term put where there is room
 put-room : (list : List Node) (len : ℕ) (t : Term) → len < 72 → put-term (written list len) t ≡ written (set list len (node t)) (len + size t)
 unfolding put-term
 put-room list len t h = rw (lt-leb 72 len h) refl
@@ -52,6 +56,7 @@ part-more part table k list len l n i z r h m =
     ap (put-part part table k (written list len)) q
     ∙ ap (λ (d : Written). put-part part table (k + reduces (getD l i z .term)) d (left l n (i + 1))) (put-room list len t r)
 
+-- no node is left
 pub part-done : (part : ℕ) (table : List ℕ) (k : ℕ) (d : Written) (l : List Node) (n i : ℕ) → n ≤ i → put-part part table k d (left l n i) ≡ d
 unfolding put-part
 part-done part table k d l n i h = let e : n - i ≡ 0 = omega arith in rw e refl

@@ -12,6 +12,7 @@ use Rattle.terms.specs.declared.Walk.{Walk}
 use Rattle.wire.specs.Wire.{refused}
 use Rattle.fusion.specs.Fusion.{fuse-reply, fused-form}
 
+-- the number of the reading is that of the query
 pub reading-code : (s : List ℕ) → query-reading s .code ≡ query-code s
 unfolding read-after
 reading-code s = go (query-scan s) (eqb (query-code s) 0) refl
@@ -21,10 +22,12 @@ reading-code s = go (query-scan s) (eqb (query-code s) 0) refl
     go w false e = rw e refl
 
 module _ (s : List ℕ) (room : ℕ) where
+  -- a query that is refused
   pub reply-refused : (query-reading s .code ≡ 0 → ⊥) → fuse-reply s room ≡ refused (query-reading s .code)
   unfolding fuse-reply
   reply-refused n = rw (reading-code s, ne-eqb (query-code s) 0 (λ z. n (reading-code s ∙ z))) refl
 
+  -- one that is not
   pub reply-written : query-reading s .code ≡ 0 → fuse-reply s room ≡ write-reply (fused-form (query-reading s)) room
   unfolding fuse-reply
   reply-written z = rw (eq-eqb (query-code s) 0 (sym (reading-code s) ∙ z)) refl

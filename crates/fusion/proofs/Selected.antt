@@ -1,4 +1,4 @@
--- THE NODES OF ONE PART OF A WORKSHEET, as a list: those of the question that have a counterpart there, in written order. What the program puts is that list, while
+-- THE NODES OF ONE PART OF A PLAN, as a list: those of the query that have a counterpart there, in written order. What the program puts is that list, while
 -- there is room. Assumes nothing.
 use Prim.Native.Nat.{ℕ, suc, _+_, _-_, _≤_, _<_}
 use mathlib.Core.Path.{_≡_, refl, sym, ap, _∙_, subst}
@@ -20,6 +20,7 @@ use Rattle.fusion.specs.Fusion.{fused-term, put-part, put-term, reduces,
 abbrev pub one : Term → List Node
 one t = take (size t) (node t ∷ [])
 
+-- the nodes of a part, from nodes of the query before which k reductions were written
 unfoldable pub selected : ℕ → List ℕ → ℕ → List Node → List Node
 selected part table k [] = []
 selected part table k (n ∷ l) = one (fused-term part table k (n .term)) ++ selected part table (k + reduces (n .term)) l
@@ -29,11 +30,13 @@ unfoldable pub reduced : List Node → ℕ
 reduced [] = 0
 reduced (n ∷ l) = reduces (n .term) + reduced l
 
+-- those of two lists, added up
 pub reduced-append : (l m : List Node) → reduced (l ++ m) ≡ reduced l + reduced m
 unfolding reduced
 reduced-append [] m = omega arith
 reduced-append (n ∷ l) m = omega (arith, reduced-append l m)
 
+-- of two lists, one behind the other
 pub selected-append : (part : ℕ) (table : List ℕ) (k : ℕ) (l m : List Node)
     → selected part table k (l ++ m) ≡ selected part table k l ++ selected part table (k + reduced l) m
 unfolding selected reduced
@@ -50,6 +53,7 @@ pub record Holds (d : Written) (l : List Node) : Type 0 where
   pub list : d .list ≡ padded l
   pub len : d .len ≡ length l
 
+-- a term is empty, or takes one node
 size-cases : (t : Term) → ((t ≡ Empty) × (size t ≡ 0)) ⊎ (size t ≡ 1)
 unfolding size
 size-cases Empty = inl (refl, refl)
@@ -77,6 +81,7 @@ module _ (d : Written) (l : List Node) (h : Holds d l) where
       let e : 72 - length l ≡ suc (72 - (length l + 1)) = omega arith in
       rw (h .list, h .len, e) (set-at l (node Empty) (replicate (72 - (length l + 1)) (node Empty)) (node t) (length l) refl)
 
+  -- an empty term adds nothing
   holds-empty : (t : Term) → t ≡ Empty → size t ≡ 0 → length l ≤ 72 → Holds (put-term d t) (l ++ one t)
   unfolding put-term
   holds-empty t e z r =
@@ -93,6 +98,7 @@ module _ (d : Written) (l : List Node) (h : Holds d l) where
           })
       go (no k) = rw (le-leb 72 (d .len) (omega (arith, h .len))) h
 
+  -- any other is written behind them
   holds-one : (t : Term) → size t ≡ 1 → length l < 72 → Holds (put-term d t) (l ++ one t)
   unfolding put-term
   holds-one t z r =
@@ -103,6 +109,7 @@ module _ (d : Written) (l : List Node) (h : Holds d l) where
         len = omega (arith, h .len, n);
       })
 
+  -- either way
   holds-term : (t : Term) → length l + size t ≤ 72 → Holds (put-term d t) (l ++ one t)
   holds-term t r = go (size-cases t)
     where
@@ -110,7 +117,7 @@ module _ (d : Written) (l : List Node) (h : Holds d l) where
       go (inl e) = holds-empty t (e .0) (e .1) (omega arith)
       go (inr e) = holds-one t e (omega arith)
 
--- WHAT THE PROGRAM PUTS IS THE PART
+-- WHAT THE PROGRAM PUTS IS THE PART, behind the nodes written before
 pub holds-part : (part : ℕ) (table : List ℕ) (nodes : List Node) (k : ℕ) (d : Written) (l : List Node) → Holds d l → length l + length (selected part table k nodes) ≤ 72
     → Holds (put-part part table k d nodes) (l ++ selected part table k nodes)
 unfolding put-part selected

@@ -1,5 +1,5 @@
 -- FUSING IN CODE, BYTES TO BYTES (document 01: `fuse`). All but `fuse-reply` mirror the program and need not be believed: `fuse-encodes` (proofs/Exact) says that
--- a legal question's reply is the encoding of its fused tree.
+-- the reply to a legal query is the encoding of its fused tree.
 use Prim.Native.Nat.{ℕ, suc, _+_, min}
 use mathlib.Core.Bool.{cond}
 use mathlib.Core.List.{List, [], _∷_}
@@ -22,7 +22,7 @@ unfoldable pub index-of : ℕ → List ℕ → ℕ
 index-of w [] = 0
 index-of w (x ∷ l) = cond (eqb x w) 0 (suc (index-of w l))
 
--- what a node of a question is in the entries of its worksheet: "0x30 and a chain's index for a chain", "a reduction byte and an expression"; "operators and literals
+-- what a node of a query is in the entries of its plan: "0x30 and a chain's index for a chain", "a reduction byte and an expression"; "operators and literals
 -- keep their bytes"; a literal or operator of a result term is in none
 unfoldable pub entry-term : List ℕ → Term → Term
 entry-term table Empty = Empty
@@ -36,7 +36,7 @@ entry-term table (PathIndex i) = Empty
 entry-term table (EntryIndex i) = Empty
 entry-term table (Entry o) = Empty
 
--- what it is in the final expression, where k reductions were written before it: "0x31 and an entry's index for a reduction"; a node of a place term is nothing there
+-- what it is in the final expression, where k reductions were written before it: "0x31 and an entry's index for a reduction"; a node of a vertex term is nothing there
 unfoldable pub final-term : ℕ → Term → Term
 final-term k Empty = Empty
 final-term k (Path w) = Empty
@@ -53,7 +53,7 @@ final-term k (Entry o) = Empty
 unfoldable pub fused-term : ℕ → List ℕ → ℕ → Term → Term
 fused-term part table k t = cond (eqb part 0) (entry-term table t) (final-term k t)
 
--- how many nodes a term takes, and how many reductions it is
+-- how many nodes a term takes: an empty one none
 unfoldable pub size : Term → ℕ
 size Empty = 0
 size (Path w) = 1
@@ -66,6 +66,7 @@ size (PathIndex i) = 1
 size (EntryIndex i) = 1
 size (Entry o) = 1
 
+-- how many reductions it is
 unfoldable pub reduces : Term → ℕ
 reduces Empty = 0
 reduces (Path w) = 0
@@ -78,23 +79,24 @@ reduces (PathIndex i) = 0
 reduces (EntryIndex i) = 0
 reduces (Entry o) = 0
 
--- a term behind those written, while there is room; an empty one leaves its place to the next
+-- a term behind those written, while there is room; the next one overwrites an empty one
 unfoldable pub put-term : Written → Term → Written
 put-term d t = cond (leb 72 (d .len)) d (record { list = set (d .list) (d .len) (node t); len = d .len + size t })
 
--- one part of the worksheet, from nodes of the question before which k reductions were written
+-- one part of the plan, from nodes of the query before which k reductions were written
 unfoldable pub put-part : ℕ → List ℕ → ℕ → Written → List Node → Written
 put-part part table k d [] = d
 put-part part table k d (n ∷ l) = put-part part table (k + reduces (n .term)) (put-term d (fused-term part table k (n .term))) l
 
--- "Kind 0 has e = 1 and reduction byte 0"
+-- what stands before the entries: "Kind 0 has e = 1 and reduction byte 0"
 unfoldable pub started : ℕ → Written
 started kind = cond (eqb kind 0) (record { list = padded (node (Entry 0) ∷ []); len = 1 }) (record { list = padded []; len = 0 })
 
+-- "Kind 0 has e = 1"; for kind 1 "reductions in order of writing"
 unfoldable pub entries-of : ℕ → ℕ → ℕ
 entries-of kind reductions = cond (eqb kind 0) 1 (min reductions 8)
 
--- the typed form of the worksheet, from what was read of the question
+-- the typed form of the plan, from what was read of the query
 unfoldable pub fused-form : Reading → Form
 fused-form r =
     let l = take (r .form .count) (r .form .nodes) in
@@ -108,6 +110,6 @@ fused-form r =
       nodes = w .list;
     }
 
--- "Fusing judges the question, then 15": a refusal of the question by its number; else the bytes of the worksheet, where they fit
+-- "Fusing judges the question, then 15": a refusal of the query by its number; else the bytes of the plan, where they fit
 unfoldable pub fuse-reply : List ℕ → ℕ → Reply
 fuse-reply s room = unless (query-code s) (write-reply (fused-form (query-reading s)) room)

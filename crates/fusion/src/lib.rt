@@ -1,5 +1,5 @@
 // Fusing, bytes to bytes (document 01: "Fusing puts equal chains together, in order of first writing, and reductions in order of writing"; "Fusing judges the question,
-// then 15"). The nodes of the question are gone through twice, for the two parts of the worksheet, each in written order.
+// then 15"). The nodes of the query are gone through twice, for the two parts of the plan, each in written order.
 use nodes::Node;
 use nodes::Term;
 use plan_form::Form;
@@ -10,13 +10,13 @@ ghost use lib.ListN.{length, take};
 ghost use Rattle.wire.specs.Wire.{reply-number, reply-buffer};
 ghost use Rattle.fusion.specs.Fusion.{index-of, entry-term, final-term, fused-term, size, reduces, started, put-part, entries-of, fused-form, fuse-reply};
 
-// The nodes of a worksheet as far as they are written: the first `len`.
+// The nodes of a plan as far as they are written: the first `len`.
 pub struct Written {
     pub list: [Node; 72],
     pub len: usize,
 }
 
-// The two parts of a worksheet's nodes: its entries, and its final expression.
+// The two parts of a plan's nodes: its entries, and its final expression.
 const ENTRIES: u8 = 0;
 
 const FINAL: u8 = 1;
@@ -35,7 +35,7 @@ fn position_of(table: [u64; 8], w: u64) -> usize
     8
 }
 
-// What a node of a question is in the entries of its worksheet; empty for one of a result term, which is in none.
+// What a node of a query is in the entries of its plan; empty for one of a result term, which is in none.
 fn entry_term_of(t: Term, table: [u64; 8]) -> Term
     ensures { λ r. ⌜ r ≡ entry-term table t ⌝ }
 {
@@ -48,7 +48,7 @@ fn entry_term_of(t: Term, table: [u64; 8]) -> Term
     }
 }
 
-// What it is in the final expression, where k reductions were written before it; empty for one of a place term.
+// What it is in the final expression, where k reductions were written before it; empty for one of a vertex term.
 fn final_term_of(t: Term, k: u8) -> Term
     ensures { λ r. ⌜ r ≡ final-term k t ⌝ }
 {
@@ -90,7 +90,7 @@ fn reduces_of(t: Term) -> u8
     }
 }
 
-// The nodes of one part of the worksheet, made of the first `count` nodes of the question, behind those of `start`.
+// The nodes of one part of the plan, made of the first `count` nodes of the query, behind those of `start`.
 fn put_part(start: Written, part: u8, table: [u64; 8], nodes: [Node; 72], count: usize) -> Written
     ensures { λ r. ⌜ r ≡ put-part part table 0 start (take count nodes) ⌝ }
 {
@@ -129,7 +129,7 @@ fn start_of(kind: u8) -> Written
     Written { list, len: 1 }
 }
 
-// How many entries: one for kind 0, for kind 1 the reductions of the question.
+// How many entries: one for kind 0, for kind 1 the reductions of the query.
 fn entries_of_kind(kind: u8, reductions: usize) -> u8
     ensures { λ r. ⌜ r ≡ entries-of kind reductions ⌝ }
 {
@@ -139,7 +139,7 @@ fn entries_of_kind(kind: u8, reductions: usize) -> u8
     wire::lesser(reductions, 8) as u8
 }
 
-// The typed form of the worksheet, from what was read of the question.
+// The typed form of the plan, from what was read of the query.
 fn fused_form_of(r: Reading) -> Form
     ensures { λ w. ⌜ w ≡ fused-form r ⌝ }
 {
@@ -161,7 +161,7 @@ fn fused_form_of(r: Reading) -> Form
     }
 }
 
-// `fuse`: judges the question, then 15; writes the worksheet.
+// `fuse`: judges the query, then 15; writes the plan.
 pub fn fuse(query: &[u8], out: &mut [u8]) -> u32
     ensures { λ r. ⌜ (r ≡ reply-number (fuse-reply (now (query .entry)) (length (now (out .entry))))) × (now (out .exit) ≡ reply-buffer (fuse-reply (now (query .entry)) (length (now (out .entry)))) (now (out .entry))) ⌝ }
 {

@@ -1,4 +1,4 @@
--- What is known of accepted bytes. Assumes nothing.
+-- What is known of the bytes of a graph that are accepted. Assumes nothing.
 use Prim.Native.Nat.{ℕ, _+_, _*_, _≤_, _<_}
 use mathlib.Core.Path.{_≡_}
 use mathlib.Core.List.{List, _++_}
@@ -12,11 +12,13 @@ use Rattle.wire.proofs.Codes.{held, past, then-both}
 use Rattle.wire.proofs.Header.{header-found}
 use Rattle.graph.specs.Graph.{counts-code, edges-code, edges-in, graph-code, length-code}
 
+-- numbers of vertices and of edges that are not refused
 pub record Counts (n m : ℕ) : Type 0 where
   pub some-vertex : 0 < n
   pub few-vertices : n ≤ 256
   pub few-edges : m ≤ 1024
 
+-- what the judge of the two counts lets pass
 pub counts : (n m : ℕ) → counts-code n m ≡ 0 → Counts n m
 unfolding counts-code
 counts n m e =
@@ -26,12 +28,14 @@ counts n m e =
     let z : n ≡ 0 → ⊥ = eqb-false _ _ (a .0) in
     record { some-vertex = omega arith; few-vertices = ltb-false _ _ (b .0); few-edges = ltb-false _ _ (c .0) }
 
+-- bytes of a graph: its header, its counts, its length, and no edge refused
 pub record Accepted (s : List ℕ) : Type 0 where
-  pub start : s ≡ header-bytes 0x4d ++ drop 5 s
+  pub header : s ≡ header-bytes 0x4d ++ drop 5 s
   pub sizes : Counts (at16 s 5) (at16 s 7)
   pub exact : length s ≡ 9 + 8 * at16 s 7
   pub rows : edges-code (at16 s 5) (edges-in s) ≡ 0
 
+-- WHAT THE JUDGE LETS PASS
 pub accepted : (s : List ℕ) → graph-code s ≡ 0 → Accepted s
 unfolding graph-code
 accepted s e =
@@ -39,7 +43,7 @@ accepted s e =
     let b = then-both (counts-code (at16 s 5) (at16 s 7)) _ (a .1) in
     let c = then-both (length-code s) _ (b .1) in
     record {
-      start = header-found 0x4d 9 s (a .0);
+      header = header-found 0x4d 9 s (a .0);
       sizes = counts _ _ (b .0);
       exact = eqb-true _ _ (held (eqb (length s) (9 + 8 * at16 s 7)) 5 0 (c .0) .0);
       rows = c .1;

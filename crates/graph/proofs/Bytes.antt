@@ -1,4 +1,4 @@
--- The bytes of edges, and the edges of bytes. Assumes nothing.
+-- The bytes of edges, and the edges of bytes: each way undoes the other. Assumes nothing.
 use Prim.Native.Nat.{ℕ, zero, suc, _+_, _*_, _/_, _%_, _≤_, _<_, suc-le-suc}
 use mathlib.Core.Path.{_≡_, refl, sym, ap, _∙_}
 use mathlib.Core.List.{List, [], _∷_, _++_, map, append-assoc}
@@ -20,6 +20,7 @@ use Rattle.graph.proofs.Accepted.{Accepted}
 
 -- ---- 16 bits
 
+-- a 16-bit number from its two bytes
 pub word-back : (x : ℕ) → x < 65536 → x % 256 + 256 * (x / 256 % 256) ≡ x
 word-back x h = omega arith
 
@@ -36,12 +37,14 @@ pub record EdgeFits (e : Edge) : Type 0 where
   pub weight : e .weight < 65536
   pub capacity : e .capacity < 65536
 
+-- the same of all edges of a list
 abbrev pub EdgesFit : List Edge → Type 0
 EdgesFit es = (i : ℕ) → i < length es → EdgeFits (edge-at es i)
 
 at16-fits : (s : List ℕ) → Bytes s → (a : ℕ) → at16 s a < 65536
 at16-fits s b a = omega (arith, b a, b (a + 1))
 
+-- so is each field of an edge read from bytes
 pub edge-fits : (s : List ℕ) → Bytes s → (i : ℕ) → EdgeFits (edge-in s i)
 edge-fits s b i = record { from = at16-fits s b _; to = at16-fits s b _; weight = at16-fits s b _; capacity = at16-fits s b _ }
 
@@ -78,20 +81,22 @@ module _ (s : List ℕ) (b : Bytes s) where
       ∙ ap (λ (l : List ℕ). header-bytes 0x4d ++ l) (word-at 5 7 (omega arith) refl
       ∙ ap (λ (l : List ℕ). le16 (at16 s 5) ++ l) (word-at 7 9 (omega arith) refl))
 
-  -- accepted bytes are those of their fields and rows
+  -- ACCEPTED BYTES ARE THOSE OF THEIR COUNTS AND EDGES
   pub bytes-of : Accepted s → head-bytes (at16 s 5) (at16 s 7) ++ edges-bytes (edges-in s) ≡ s
   unfolding edges-in
   bytes-of h =
-      sym (head-bytes-at (omega (arith, h .exact)) (h .start)
+      sym (head-bytes-at (omega (arith, h .exact)) (h .header)
       ∙ ap (λ (l : List ℕ). head-bytes (at16 s 5) (at16 s 7) ++ l) (edges-bytes-at (at16 s 7) 0 (omega (arith, h .exact))))
 
 -- ---- the bytes of edges
 
+-- eight bytes each
 pub edges-length : (es : List Edge) → length (edges-bytes es) ≡ 8 * length es
 unfolding edges-bytes
 edges-length [] = refl
 edges-length (e ∷ es) = length-append (edge-bytes e) (edges-bytes es) ∙ omega (arith, edges-length es)
 
+-- the bytes of two lists are one behind the other
 edges-append : (es fs : List Edge) → edges-bytes (es ++ fs) ≡ edges-bytes es ++ edges-bytes fs
 unfolding edges-bytes
 edges-append [] fs = refl
@@ -130,7 +135,7 @@ edges-back (e ∷ es) q i h f =
     rw (edge-back q (edges-bytes es) e i h (f 0 (omega arith)))
     (ap (λ (l : List Edge). e ∷ l) (rw (append-assoc q (edge-bytes e) (edges-bytes es)) at rest))
 
--- behind a header that counts them
+-- EDGES READ FROM THEIR BYTES, behind a header that counts them
 pub edges-read : (n m : ℕ) (es : List Edge) → m < 65536 → m ≡ length es → EdgesFit es → edges-in (head-bytes n m ++ edges-bytes es) ≡ es
 unfolding edges-in
 edges-read n m es h e f = rw (word-back m h, e) (edges-back es (head-bytes n (length es)) 0 refl f)

@@ -1,11 +1,11 @@
 -- THE ACCEPTED BYTES ARE EXACTLY THE ENCODINGS OF LEGAL GRAPHS, and writing what was read yields the bytes read. Assumes nothing.
 use Prim.Native.Nat.{ℕ, zero, suc, _+_, _*_, _≤_, _<_, suc-le-suc}
-use mathlib.Core.Path.{_≡_, refl, sym, ap, _∙_}
-use mathlib.Core.Bool.{Bool, true, false, cond}
+use mathlib.Core.Path.{_≡_, refl, ap, _∙_}
+use mathlib.Core.Bool.{cond}
 use mathlib.Core.List.{List, [], _∷_, _++_}
 use native.Mathlib.Omega.{arith}
 use native.Mathlib.Nat.{le-of-suc-le-suc}
-use borrow.Author.Tests.{leb-false, eqb-true, eqb-false, le-ltb, lt-leb, eq-eqb, ne-eqb}
+use borrow.Author.Tests.{leb-false, eqb-false, le-ltb, lt-leb, eq-eqb, ne-eqb}
 use lib.Dec.{leb, eqb}
 use lib.ListN.{length, length-append}
 use Rattle.meaning.specs.Limits.{GraphLegal}
@@ -14,9 +14,8 @@ use Rattle.wire.specs.Header.{header-code, then}
 use Rattle.wire.specs.Wire.{Bytes, at16, done, le16}
 use Rattle.wire.proofs.Codes.{past, then-both, then-none, then-same}
 use Rattle.wire.proofs.Header.{header-accepted}
-use Rattle.graph.specs.declared.Reading.{Reading}
 use Rattle.graph.specs.Encode.{edges-bytes, encode, head-bytes, table-bytes, table-graph, write-reply}
-use Rattle.graph.specs.Graph.{blank-table, counts-code, edge-code, edges-code, edges-in, graph-code, graph-of, graph-reading, table-of}
+use Rattle.graph.specs.Graph.{counts-code, edge-code, edges-code, edges-in, graph-code, graph-of, graph-reading, table-of}
 use Rattle.graph.proofs.Accepted.{accepted, counts}
 use Rattle.graph.proofs.Bytes.{EdgeFits, EdgesFit, bytes-of, edge-fits, edges-length, edges-read, word-back}
 use Rattle.graph.proofs.Rows.{edge-there, edges-count}
@@ -24,12 +23,14 @@ use Rattle.graph.proofs.Table.{typed}
 
 -- ---- an edge, and the edges in turn
 
+-- an edge of a graph of n vertices, as `GraphLegal` has it
 record EdgeLegal (n : ℕ) (e : Edge) : Type 0 where
   from : e .from < n
   to : e .to < n
   least : 1 ≤ e .capacity
   most : e .capacity ≤ 65534
 
+-- one that is not refused is legal, and the other way round
 edge-legal : (n : ℕ) (e : Edge) → EdgeFits e → edge-code n e ≡ 0 → EdgeLegal n e
 unfolding edge-code
 edge-legal n e f z =
@@ -48,6 +49,7 @@ edge-accepted n e l =
     let fewer : e .capacity ≡ 65535 → ⊥ = λ z. omega (arith, l .most, z) in
     rw (lt-leb _ _ (l .from), lt-leb _ _ (l .to), ne-eqb _ _ some, ne-eqb _ _ fewer)
 
+-- no edge is refused where the edges in turn are not, and the other way round
 each-right : (n : ℕ) (es : List Edge) → edges-code n es ≡ 0 → (i : ℕ) → i < length es → edge-code n (edge-at es i) ≡ 0
 unfolding edges-code
 each-right n [] z i h = absurd (omega arith)
@@ -61,33 +63,28 @@ all-right n (e ∷ es) f = then-none (edge-code n e) (edges-code n es) (f 0 (ome
 
 -- ---- the typed form
 
--- the reader's number is the judge's
-pub reading-code : (s : List ℕ) → graph-reading s .code ≡ graph-code s
-unfolding graph-reading
-reading-code s = go (eqb (graph-code s) 0) refl
-  where
-    go : (b : Bool) → eqb (graph-code s) 0 ≡ b →
-        (cond {A = Reading} b (record { code = 0; graph = table-of (graph-of s) }) (record { code = graph-code s; graph = blank-table })) .code ≡ graph-code s
-    go true e = sym (eqb-true _ _ e)
-    go false e = refl
-
+-- of accepted bytes the reader gives the typed form of their graph
 pub graph-read : (s : List ℕ) → graph-code s ≡ 0 → graph-reading s .graph ≡ table-of (graph-of s)
 unfolding graph-reading
 graph-read s z = rw (eq-eqb _ _ z)
 
+-- which means that graph
 table-read : (s : List ℕ) → graph-code s ≡ 0 → table-graph (graph-reading s .graph) ≡ graph-of s
 table-read s z = ap table-graph (graph-read s z) ∙ typed (graph-of s)
 
+-- the bytes of the typed form of a graph are the graph's
 table-encoded : (g : Graph) → table-bytes (table-of g) ≡ encode g
 unfolding table-bytes table-of
 table-encoded g = ap (λ (h : Graph). head-bytes (g .vertices) (length (g .edges)) ++ edges-bytes (h .edges)) (typed g)
 
 -- ---- what is judged of counts and edges that were written
 
+-- counts within their bounds are not refused
 counts-right : (n m : ℕ) → 0 < n → n ≤ 256 → m ≤ 1024 → counts-code n m ≡ 0
 unfolding counts-code
 counts-right n m some few less = rw (ne-eqb n 0 (λ z. omega arith), le-ltb _ _ few, le-ltb _ _ less)
 
+-- WHAT IS JUDGED OF BYTES MADE OF COUNTS AND EDGES: the counts, then the edges in turn
 pub judged-bytes : (n m : ℕ) (es : List Edge) → n < 65536 → m < 65536 → (m ≤ 1024 → m ≡ length es) → EdgesFit es →
     graph-code (head-bytes n m ++ edges-bytes es) ≡ then (counts-code n m) (edges-code n es)
 unfolding graph-code
@@ -102,6 +99,7 @@ judged-bytes n m es hn hm same f =
 
 -- ---- legal graphs
 
+-- each field of a legal graph is 16 bits wide
 legal-fits : (g : Graph) → GraphLegal g → EdgesFit (g .edges)
 legal-fits g l i h =
     let ends = l .fits .ends-fit i h in

@@ -20,15 +20,18 @@ use Rattle.graph.proofs.Fits.{TableFits}
 use Rattle.graph.proofs.Table.{table-count, table-there}
 
 module _ (t : EdgeTable) (f : TableFits t) where
+  -- where the count is legal, there are as many edges
   edges-few : t .count ≤ 1024 → t .count ≡ length (table-graph t .edges)
   edges-few h = omega (arith, table-count (t .count) (t .rows), f .room)
 
+  -- WHAT IS JUDGED OF THE FIELDS IS WHAT IS JUDGED OF THE BYTES
   pub judged : graph-code (table-bytes t) ≡ table-code t
   unfolding table-bytes table-code
   judged =
       judged-bytes (t .vertices) (t .count) (table-graph t .edges) (f .vertices) (f .count) edges-few
       (λ i h. rw (table-there (t .count) (t .rows) i (omega (arith, table-count (t .count) (t .rows)))) (f .rows i (omega (arith, table-count (t .count) (t .rows)))))
 
+  -- a typed form that is not refused counts at most 1,024 edges
   pub table-few : table-code t ≡ 0 → t .count ≤ 1024
   unfolding table-code
   table-few z = counts (t .vertices) (t .count) (then-both (counts-code (t .vertices) (t .count)) _ z .0) .few-edges
@@ -39,20 +42,24 @@ module _ (t : EdgeTable) (f : TableFits t) where
   write-encodes z =
       ap (λ (m : ℕ). head-bytes (t .vertices) m ++ edges-bytes (table-graph t .edges)) (edges-few (table-few (sym judged ∙ z)))
 
+  -- the writer refuses what is judged wrong, by its number
   pub write-refused : (room k : ℕ) → k ≡ table-code t → (k ≡ 0 → ⊥) → write-reply t room ≡ refused k
   unfolding write-reply
   write-refused room k e h = rw (judged, ← e, ne-eqb k 0 h)
 
+  -- how many bytes there are
   pub table-size : t .count ≤ 1024 → length (table-bytes t) ≡ 9 + 8 * t .count
   unfolding table-bytes
   table-size h =
       length-append (head-bytes (t .vertices) (t .count)) (edges-bytes (table-graph t .edges))
       ∙ omega (arith, edges-length (table-graph t .edges), edges-few h)
 
+  -- 15 where they do not fit
   pub write-short : (room : ℕ) → table-code t ≡ 0 → room < 9 + 8 * t .count → write-reply t room ≡ refused 15
   unfolding write-reply
   write-short room z h = rw (judged, eq-eqb _ _ z, table-size (table-few z), lt-ltb _ _ h)
 
+  -- and writes them where they do
   pub write-done : (room : ℕ) → table-code t ≡ 0 → 9 + 8 * t .count ≤ room → write-reply t room ≡ done (table-bytes t)
   unfolding write-reply
   write-done room z h = rw (judged, eq-eqb _ _ z, table-size (table-few z), le-ltb _ _ h)

@@ -19,20 +19,21 @@ bytes-a =
 abbrev graph-a : Graph
 graph-a = record { vertices = 4; edges = edge 0 1 5 10 ∷ edge 0 2 2 4 ∷ edge 2 1 3 20 ∷ edge 1 3 0 7 ∷ [] }
 
+-- its bytes are accepted, mean it, and are its encoding
 pub graph-a-read : (graph-code bytes-a ≡ 0) × (graph-of bytes-a ≡ graph-a) × (encode graph-a ≡ bytes-a)
 unfolding graph-code header-code counts-code edges-in edges-code edge-code edges-bytes
 graph-a-read = (refl, refl, refl)
 
--- n places, m passages and the bytes behind them
+-- n vertices and m edges, of two bytes each, and the bytes behind them
 abbrev headed : ℕ → ℕ → ℕ → ℕ → List ℕ → List ℕ
 headed n n′ m m′ l = 0x4c ∷ 0x50 ∷ 0x4d ∷ 1 ∷ 0 ∷ n ∷ n′ ∷ m ∷ m′ ∷ l
 
--- one row between two places, with low bytes only, but for the size
+-- one row, with low bytes only but for the capacity
 abbrev row : ℕ → ℕ → ℕ → ℕ → List ℕ
-row from to size size′ = from ∷ 0 ∷ to ∷ 0 ∷ 0 ∷ 0 ∷ size ∷ size′ ∷ []
+row from to low high = from ∷ 0 ∷ to ∷ 0 ∷ 0 ∷ 0 ∷ low ∷ high ∷ []
 
--- 4: no place, 257 places, before 5; 5: 1,025 passages, before 6; 6: a byte too few, too many; 7: to is n; 8: sizes 0 and 65,535, not 65,534; 256 places; from before crate;
--- the first row first; 1: eight bytes; 2; 3
+-- 4: no vertex, 257 vertices, before 5; 5: 1,025 edges, before 6; 6: a byte too few, too many; 7: to is n; 8: capacities 0 and 65,535, not 65,534; 256 vertices; from
+-- before capacity; the first row first; 1: eight bytes; 2; 3
 pub graph-numbers : map graph-code
     (headed 0 0 255 255 [] ∷ headed 1 1 255 255 [] ∷ headed 1 0 1 4 [] ∷ headed 2 0 1 0 [] ∷ headed 2 0 0 0 (0 ∷ []) ∷ headed 2 0 1 0 (row 0 2 1 0)
     ∷ headed 2 0 1 0 (row 0 1 0 0) ∷ headed 2 0 1 0 (row 0 1 255 255) ∷ headed 2 0 1 0 (row 0 1 254 255) ∷ headed 0 1 1 0 (row 255 255 1 0)

@@ -1,4 +1,4 @@
--- Laws of the typed form. Assumes nothing.
+-- The edges that a typed form means. Assumes nothing.
 use Prim.Native.Nat.{ℕ, _<_, min}
 use mathlib.Core.Path.{_≡_, refl, ap, _∙_}
 use mathlib.Core.List.{List, [], _∷_, map}
@@ -9,9 +9,11 @@ use Rattle.graph.specs.declared.EdgeRow.{EdgeRow}
 use Rattle.graph.specs.Encode.{row-edge, table-graph}
 use Rattle.graph.specs.Graph.{blank-row, filled, row-of, table-of}
 
+-- how many: the count, or all rows where there are fewer
 pub table-count : (m : ℕ) (rows : List EdgeRow) → length (map row-edge (take m rows)) ≡ min m (length rows)
 table-count m rows = length-map (take m rows) row-edge ∙ length-take m rows
 
+-- edge i is row i
 pub table-there : (m : ℕ) (rows : List EdgeRow) (i : ℕ) → i < m → edge-at (map row-edge (take m rows)) i ≡ row-edge (getD rows i blank-row)
 table-there m rows i h = List·getD-map row-edge (take m rows) i blank-row ∙ ap row-edge (getD-take m rows i blank-row h)
 

@@ -13,6 +13,7 @@ use Rattle.graph.specs.Graph.{graph-code}
 abbrev pub edge-bytes : Edge → List ℕ
 edge-bytes e = le16 (e .from) ++ le16 (e .to) ++ le16 (e .weight) ++ le16 (e .capacity)
 
+-- "m rows" in turn
 unfoldable pub edges-bytes : List Edge → List ℕ
 edges-bytes [] = []
 edges-bytes (e ∷ es) = edge-bytes e ++ edges-bytes es
@@ -25,10 +26,11 @@ head-bytes n m = header-bytes 0x4d ++ le16 n ++ le16 m
 abbrev pub encode : Graph → List ℕ
 encode g = head-bytes (g .vertices) (length (g .edges)) ++ edges-bytes (g .edges)
 
--- the meaning of the typed form: its first `count` rows are the edges
+-- the meaning of the typed form: a row as an edge
 abbrev pub row-edge : EdgeRow → Edge
 row-edge r = edge (r .from) (r .to) (r .weight) (r .capacity)
 
+-- its first `count` rows are the edges
 abbrev pub table-graph : EdgeTable → Graph
 table-graph t = record { vertices = t .vertices; edges = map row-edge (take (t .count) (t .rows)) }
 

@@ -12,10 +12,11 @@ use Rattle.graph.specs.declared.EdgeRow.{EdgeRow}
 use Rattle.graph.specs.declared.EdgeTable.{EdgeTable}
 use Rattle.graph.specs.declared.Reading.{Reading}
 
--- "then m rows of four 16-bit numbers: from, to, seconds, crate size": row i, behind nine bytes; and the m rows, where m is the field at 7
+-- "then m rows of four 16-bit numbers: from, to, seconds, crate size": row i, behind nine bytes
 abbrev pub edge-in : List ℕ → ℕ → Edge
 edge-in s i = edge (at16 s (9 + 8 * i)) (at16 s (9 + 8 * i + 2)) (at16 s (9 + 8 * i + 4)) (at16 s (9 + 8 * i + 6))
 
+-- the m rows, where m is the field at 7
 unfoldable pub edges-in : List ℕ → List Edge
 edges-in s = tabulate (at16 s 7) zero (edge-in s)
 
@@ -46,19 +47,23 @@ edges-code n (e ∷ es) = then (edge-code n e) (edges-code n es)
 unfoldable pub graph-code : List ℕ → ℕ
 graph-code s = then (header-code 0x4d 9 s) (then (counts-code (at16 s 5) (at16 s 7)) (then (length-code s) (edges-code (at16 s 5) (edges-in s))))
 
--- the typed form: a row; the first of 1,024 rows, and nothing behind them; a graph
+-- the typed form of an edge
 abbrev pub row-of : Edge → EdgeRow
 row-of e = record { from = e .from; to = e .to; weight = e .weight; capacity = e .capacity }
 
+-- a row of nothing
 abbrev pub blank-row : EdgeRow
 blank-row = record { from = 0; to = 0; weight = 0; capacity = 0 }
 
+-- the first of 1,024 rows, and nothing behind them
 unfoldable pub filled : List Edge → List EdgeRow
 filled es = map row-of es ++ replicate (1024 - length es) blank-row
 
+-- the typed form of a graph
 unfoldable pub table-of : Graph → EdgeTable
 table-of g = record { vertices = g .vertices; count = length (g .edges); rows = filled (g .edges) }
 
+-- what is left of refused bytes
 abbrev pub blank-table : EdgeTable
 blank-table = record { vertices = 0; count = 0; rows = replicate 1024 blank-row }
 

@@ -10,7 +10,7 @@ ghost use Rattle.graph.specs.Graph.{edge-in, edges-in, edge-code, edges-
 ghost use Rattle.graph.specs.Encode.{row-edge, edge-bytes, edges-bytes, head-bytes, write-reply};
 ghost use Rattle.graph.specs.Steps.{table-code};
 
-// A passage: "from, to, seconds, crate size".
+// An edge: "from, to, seconds, crate size".
 pub struct EdgeRow {
     pub from: u16,
     pub to: u16,
@@ -18,19 +18,20 @@ pub struct EdgeRow {
     pub capacity: u16,
 }
 
-// The typed form of a map: its places, and its passages, of which the first `count` rows count.
+// The typed form of a graph: how many vertices it has, and its edges, the first `count` rows.
 pub struct EdgeTable {
     pub vertices: u16,
     pub count: u16,
     pub rows: [EdgeRow; 1024],
 }
 
-// What reading finds: 0 and the graph, or the number of the first refusal and a table of nothing.
+// What was read: 0 and the graph, or the number of the first refusal and a table of nothing.
 pub struct Reading {
     pub code: u8,
     pub graph: EdgeTable,
 }
 
+// A byte as a 16-bit number: the cast in an expression would ask for a proof each time.
 fn wide(b: u8) -> u16
     ensures { λ r. ⌜ (r ≡ b) × (r ≤ 255) ⌝ }
 {
@@ -110,7 +111,7 @@ fn bytes_code(s: &[u8], n: u16, m: usize) -> u8
     0
 }
 
-// The number of the first refusal of a map's bytes, or 0.
+// The number of the first refusal of a graph's bytes, or 0.
 pub fn judge(s: &[u8]) -> u8
     ensures { λ r. ⌜ r ≡ graph-code (now (s .entry)) ⌝ }
 {
@@ -156,6 +157,7 @@ fn load(s: &[u8]) -> EdgeTable
     }
 }
 
+// Nothing, after a refusal.
 fn blank() -> EdgeTable
     ensures { λ r. ⌜ r ≡ blank-table ⌝ }
 {
@@ -172,7 +174,7 @@ fn blank() -> EdgeTable
     }
 }
 
-// The reader of maps.
+// The reader of graphs: the typed form, or the refusal.
 pub fn read(s: &[u8]) -> Reading
     ensures { λ r. ⌜ r ≡ graph-reading (now (s .entry)) ⌝ }
 {
@@ -230,6 +232,7 @@ fn put16(out: &mut [u8], at: usize, x: u16)
     out[at + 1] = (x / 256 % 256) as u8;
 }
 
+// A row: four times 16 bits.
 fn put_edge(out: &mut [u8], at: usize, row: EdgeRow)
     requires { ⌜ at + 8 ≤ length (now out) ⌝ }
     ensures { λ _. ⌜ now (out .exit) ≡ sets (now (out .entry)) at (edge-bytes (row-edge row)) ⌝ }
@@ -252,6 +255,7 @@ fn put_header(out: &mut [u8])
     out[4] = 0;
 }
 
+// The nine bytes before the rows.
 fn put_head(out: &mut [u8], n: u16, m: u16)
     requires { ⌜ 9 ≤ length (now out) ⌝ }
     ensures { λ _. ⌜ now (out .exit) ≡ sets (now (out .entry)) 0 (head-bytes n m) ⌝ }
@@ -274,13 +278,14 @@ fn put_rows(out: &mut [u8], count: usize, rows: [EdgeRow; 1024])
     }
 }
 
+// A refusal as an answer to the caller: 65,536 and its number.
 fn refusal(k: u8) -> u32
     ensures { λ r. ⌜ r ≡ 65536 + k ⌝ }
 {
     65536 + k as u32
 }
 
-// The writer of maps: it judges what it is handed as the reader of its bytes would, then 15.
+// The writer of graphs: it judges what it is handed as the reader of its bytes would, then 15.
 pub fn write(graph: EdgeTable, out: &mut [u8]) -> u32
     ensures { λ r. ⌜ (r ≡ reply-number (write-reply graph (length (now (out .entry))))) × (now (out .exit) ≡ reply-buffer (write-reply graph (length (now (out .entry)))) (now (out .entry))) ⌝ }
 {

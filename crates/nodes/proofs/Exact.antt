@@ -1,5 +1,5 @@
--- The four kinds of terms: place terms, result terms, entries and final expressions of a plan. Their bytes are collected as their terms, and the text of these is
--- their bytes. Assumes nothing.
+-- The four kinds of terms: vertex terms, result terms, entries and final expressions of a plan. For each: its bytes are collected as its nodes, the text of these is its
+-- bytes, and there are as many as it has terms. Assumes nothing.
 use Prim.Native.Nat.{ℕ, suc, _+_, _<_}
 use mathlib.Core.Path.{_≡_, refl, ap, _∙_}
 use mathlib.Core.List.{List, [], _∷_, _++_, append-nil}
@@ -22,10 +22,12 @@ use Rattle.nodes.specs.Tree.{entry-nodes, final-nodes, result-nodes, ter
 use Rattle.nodes.proofs.Fields.{byte-there, collected-on, path-read, path-written}
 use Rattle.nodes.proofs.Shape.{Collects, collected-term, count-term, text-term}
 
--- place terms: the leaves are path reductions
+-- ---- vertex terms: the leaves are path reductions
+
 abbrev path-nodes : PathReduction → List Node
 path-nodes c = node (Path (path-number c)) ∷ []
 
+-- its bytes are collected as its nodes
 pub vertex-collected : (s : List ℕ) (t : VertexTerm) → Every (PathFits 256) t → Collects vertex-leaves path-nodes 0 s t
 vertex-collected s = collected-term vertex-leaves path-nodes 0 s one
   where
@@ -35,17 +37,21 @@ vertex-collected s = collected-term vertex-leaves path-nodes 0 s one
         ∙ path-read s i c rest f e k
         ∙ ap (λ (j : ℕ). node (Path (path-number c)) ∷ collected k s (i + j)) (let q : 4 + length (c .keys) ≡ length (0x10 ∷ path-bytes c) = omega (arith, length-append (c .keys) (le16 (c .source))) in q)
 
+-- the text of its nodes is its bytes
 pub vertex-text : (t : VertexTerm) → Every (PathFits 256) t → nodes-text (vertex-nodes t) ≡ vertex-bytes t
 unfolding texts term-text
 vertex-text = text-term vertex-leaves path-nodes 0 (λ c f. append-nil (0x10 ∷ path-text (path-number c)) ∙ ap (λ (l : List ℕ). 0x10 ∷ l) (path-written c f))
 
+-- a node for each of its terms
 pub vertex-size : (t : VertexTerm) → length (vertex-nodes t) ≡ terms unit t
 vertex-size = count-term vertex-leaves path-nodes 0 (λ c. refl)
 
--- result terms: the leaves are reductions of place terms
+-- ---- result terms: the leaves are reductions of vertex terms
+
 abbrev reduction-nodes : VertexReduction PathReduction → List Node
 reduction-nodes e = node (Reduce (e .reduction)) ∷ vertex-nodes (e .body)
 
+-- its bytes are collected as its nodes
 pub result-collected : (s : List ℕ) (t : ResultTerm) → Every (EveryBody (PathFits 256)) t → Collects result-leaves reduction-nodes 1 s t
 result-collected s = collected-term result-leaves reduction-nodes 1 s one
   where
@@ -60,14 +66,17 @@ result-collected s = collected-term result-leaves reduction-nodes 1 s one
         (vertex-collected s (e .body) (f .2) (i + 2) k rest next
         ∙ ap (λ (j : ℕ). vertex-nodes (e .body) ++ collected k s j) (let q : i + 2 + length body ≡ i + length (0x20 ∷ e .reduction ∷ body) = omega arith in q))
 
+-- the text of its nodes is its bytes
 pub result-text : (t : ResultTerm) → Every (EveryBody (PathFits 256)) t → nodes-text (result-nodes t) ≡ result-bytes t
 unfolding texts term-text
 result-text = text-term result-leaves reduction-nodes 1 (λ e f. ap (λ (l : List ℕ). 0x20 ∷ e .reduction ∷ l) (vertex-text (e .body) (f .2)))
 
+-- a node for each of its terms
 pub result-size : (t : ResultTerm) → length (result-nodes t) ≡ terms (λ e. suc (terms unit (e .body))) t
 result-size = count-term result-leaves reduction-nodes 1 (λ e. ap suc (vertex-size (e .body)))
 
--- expressions of a plan: the leaves are indices, of two bytes
+-- ---- expressions of a plan: the leaves are indices, of two bytes
+
 module _ (m count : ℕ) (made : ℕ → single.Term) (is : (s : List ℕ) (i : ℕ) → tagged (leaf-tag m) s i ≡ made (getD s (i + 1) 0)) (on : (s : List ℕ) (i : ℕ) → passed (leaf-tag m) s i ≡ i + 2)
     (text : (j : ℕ) → term-text (made j) ≡ leaf-tag m ∷ j ∷ []) where
   abbrev index-nodes : ℕ → List Node
@@ -85,26 +94,34 @@ module _ (m count : ℕ) (made : ℕ → single.Term) (is : (s : List ℕ) (i : 
   unfolding texts
   index-text = text-term (index-leaves m count) index-nodes m (λ j f. append-nil (term-text (made j)) ∙ text j)
 
--- entries, over the indices of path reductions
+-- ---- entries, over the indices of path reductions
+
+-- its bytes are collected as its nodes
 pub entry-collected : (count : ℕ) (s : List ℕ) (t : Term ℕ) → Every (λ j. j < count) t → Collects (index-leaves 2 count) (λ j. node (PathIndex j) ∷ []) 2 s t
 unfolding leaf-tag term-text
 entry-collected count = index-collected 2 count PathIndex (λ s i. refl) (λ s i. refl) (λ j. refl)
 
+-- the text of its nodes is its bytes
 pub entry-text : (count : ℕ) (t : Term ℕ) → Every (λ j. j < count) t → nodes-text (entry-nodes t) ≡ expression-bytes 2 t
 unfolding leaf-tag term-text
 entry-text count = index-text 2 count PathIndex (λ s i. refl) (λ s i. refl) (λ j. refl)
 
+-- a node for each of its terms
 pub entry-size : (t : Term ℕ) → length (entry-nodes t) ≡ terms unit t
 entry-size = count-term (index-leaves 2 0) (λ j. node (PathIndex j) ∷ []) 2 (λ j. refl)
 
--- final expressions, over the indices of entries
+-- ---- final expressions, over the indices of entries
+
+-- its bytes are collected as its nodes
 pub final-collected : (count : ℕ) (s : List ℕ) (t : Term ℕ) → Every (λ j. j < count) t → Collects (index-leaves 3 count) (λ j. node (EntryIndex j) ∷ []) 3 s t
 unfolding leaf-tag term-text
 final-collected count = index-collected 3 count EntryIndex (λ s i. refl) (λ s i. refl) (λ j. refl)
 
+-- the text of its nodes is its bytes
 pub final-text : (count : ℕ) (t : Term ℕ) → Every (λ j. j < count) t → nodes-text (final-nodes t) ≡ expression-bytes 3 t
 unfolding leaf-tag term-text
 final-text count = index-text 3 count EntryIndex (λ s i. refl) (λ s i. refl) (λ j. refl)
 
+-- a node for each of its terms
 pub final-size : (t : Term ℕ) → length (final-nodes t) ≡ terms unit t
 final-size = count-term (index-leaves 3 0) (λ j. node (EntryIndex j) ∷ []) 3 (λ j. refl)

@@ -31,18 +31,19 @@ literal-tags m = go (eqb m 0) (eqb m 2)
     go false true = inl refl
     go false false = inr refl
 
--- the text of a literal and of an operator
+-- the text of a literal
 pub literal-text : (tag k : ℕ) → (tag ≡ 0x11) ⊎ (tag ≡ 0x21) → term-text (literal-node tag k .term) ≡ tag ∷ le32 k
 unfolding term-text literal-node
 literal-text tag k (inl e) = rw e refl
 literal-text tag k (inr e) = rw e refl
 
+-- of an operator
 pub apply-text : (tag o : ℕ) → (tag ≡ 0x11) ⊎ (tag ≡ 0x21) → term-text (apply-node tag o .term) ≡ (tag + 1) ∷ o ∷ []
 unfolding term-text apply-node
 apply-text tag o (inl e) = rw e refl
 apply-text tag o (inr e) = rw e refl
 
--- the text of a path reduction
+-- a number by its bytes, the last one with all that is above
 split : (w : ℕ) → w % 256 + 256 * (w / 256 % 256) + 65536 * (w / 65536 % 256) + 16777216 * (w / 16777216 % 256) + 4294967296 * (w / 4294967296) ≡ w
 split w =
     let a : w / 65536 ≡ w / 256 / 256 = omega arith in
@@ -50,7 +51,7 @@ split w =
     let c : w / 4294967296 ≡ w / 16777216 / 256 = omega arith in
     omega arith
 
--- the digits of its number are its key count, its keys and its source
+-- the bytes of a path reduction's number are its key count, its keys and its source
 pub path-digits : (c : PathReduction) → PathFits 256 c
     → (path-number c % 256 ≡ length (c .keys)) × (path-number c / 256 % 256 ≡ getD (c .keys) 0 0) × (path-number c / 65536 % 256 ≡ getD (c .keys) 1 0) × (path-number c / 16777216 % 256 ≡ getD (c .keys) 2 0) × (path-number c / 4294967296 ≡ c .source)
 path-digits c f =
@@ -60,6 +61,7 @@ path-digits c f =
     five-digits (w % 256) (w / 256 % 256) (w / 65536 % 256) (w / 16777216 % 256) (w / 4294967296) (length (c .keys)) (getD (c .keys) 0 0) (getD (c .keys) 1 0) (getD (c .keys) 2 0) (c .source)
     (omega arith) (omega arith) (omega arith) (key-byte (c .keys) (p .2) 0) (omega arith) (key-byte (c .keys) (p .2) 1) (omega arith) (key-byte (c .keys) (p .2) 2) (split w)
 
+-- of a path reduction
 pub path-written : (c : PathReduction) → PathFits 256 c → path-text (path-number c) ≡ path-bytes c
 unfolding path-text
 path-written c f =
@@ -76,13 +78,13 @@ path-written c f =
     go (x ∷ (y ∷ (z ∷ []))) h k = refl
     go (x ∷ (y ∷ (z ∷ (t ∷ ks)))) h k = absurd (omega arith)
 
--- what stands at i is read by its tag
+-- the byte at i says which term it is, and where the next one starts
 module _ (s : List ℕ) (i x : ℕ) (l : List ℕ) (e : drop i s ≡ x ∷ l) where
-  pub term-is : term-at s i ≡ tagged x s i
+  term-is : term-at s i ≡ tagged x s i
   unfolding term-at
   term-is = rw (lt-leb (length s) i (there s i x l e), tag-there s i x l e) refl
 
-  pub next-is : next-at s i ≡ passed x s i
+  next-is : next-at s i ≡ passed x s i
   unfolding next-at
   next-is = rw (lt-leb (length s) i (there s i x l e), tag-there s i x l e) refl
 
@@ -91,20 +93,23 @@ module _ (s : List ℕ) (i x : ℕ) (l : List ℕ) (e : drop i s ≡ x ∷ l) wh
   unfolding collected
   collected-on k n j p q = rw (term-is, next-is, p, q) refl
 
+-- the byte behind the tag
 pub byte-there : (s : List ℕ) (i x y : ℕ) (l : List ℕ) → drop i s ≡ x ∷ y ∷ l → getD s (i + 1) 0 ≡ y
 byte-there s i x y l e = rw (nth s i 1 (i + 1) 0 refl, e) refl
 
+-- and the 32 bits behind it
 word-there : (s : List ℕ) (i x k : ℕ) (l : List ℕ) → k < 2 ^ 32 → drop i s ≡ x ∷ (le32 k ++ l) → at32 s (i + 1) ≡ k
 word-there s i x k l h e =
     rw (nth s i 1 (i + 1) 0 refl, nth s i 2 (i + 1 + 1) 0 (omega arith), nth s i 3 (i + 1 + 2) 0 (omega arith), nth s i 4 (i + 1 + 2 + 1) 0 (omega arith), e) (omega arith)
 
--- a literal and an operator
+-- a literal is collected
 pub literal-read : (s : List ℕ) (i tag k : ℕ) (l : List ℕ) → (tag ≡ 0x11) ⊎ (tag ≡ 0x21) → k < 2 ^ 32 → drop i s ≡ tag ∷ (le32 k ++ l)
     → (n : ℕ) → collected (suc n) s i ≡ literal-node tag k ∷ collected n s (i + 5)
 unfolding literal-node
 literal-read s i tag k l (inl p) h e n = collected-on s i tag (le32 k ++ l) e n (literal-node tag k) (i + 5) (rw (p, word-there s i tag k l h e) refl) (rw p refl)
 literal-read s i tag k l (inr p) h e n = collected-on s i tag (le32 k ++ l) e n (literal-node tag k) (i + 5) (rw (p, word-there s i tag k l h e) refl) (rw p refl)
 
+-- an operator
 pub apply-read : (s : List ℕ) (i tag o : ℕ) (l : List ℕ) → (tag ≡ 0x11) ⊎ (tag ≡ 0x21) → drop i s ≡ (tag + 1) ∷ o ∷ l
     → (n : ℕ) → collected (suc n) s i ≡ apply-node tag o ∷ collected n s (i + 2)
 unfolding apply-node

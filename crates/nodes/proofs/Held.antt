@@ -1,4 +1,4 @@
--- The terms that a loop over bytes has collected, and the text of those that a loop has put. Assumes nothing.
+-- The terms that a loop over bytes has collected. Assumes nothing.
 use Prim.Native.Nat.{ℕ, suc, _+_, _-_, _≤_, _<_, min}
 use mathlib.Core.Path.{_≡_, refl, sym, ap, _∙_}
 use mathlib.Core.List.{List, [], _∷_, _++_, append-nil}
@@ -18,9 +18,11 @@ module _ (s : List ℕ) (from n : ℕ) where
     pub holds : nodes ≡ front ++ replicate (72 - i) (node Empty)
     pub rest : front ++ collected (n - i) s at ≡ collected n s from
 
+  -- at first none is
   pub held-none : Held (replicate 72 (node Empty)) from 0
   held-none = record { front = []; size = refl; below = omega arith; holds = refl; rest = ap (λ (k : ℕ). collected k s from) (let e : n - 0 ≡ n = omega arith in e) }
 
+  -- one more
   pub held-more : n ≤ 72 → (nodes : List Node) (at i : ℕ) → i < n → Held nodes at i → Held (set nodes i (node (term-at s at))) (next-at s at) (i + 1)
   unfolding collected
   held-more few nodes at i h b =
@@ -40,6 +42,7 @@ module _ (s : List ℕ) (from n : ℕ) where
             ∙ ap (λ (k : ℕ). b .front ++ collected k s at) (sym p) ∙ b .rest;
       }
 
+  -- after n all are, and the rest is empty
   pub held-all : (nodes : List Node) (at i : ℕ) → n ≤ i → Held nodes at i → nodes ≡ padded (collected n s from)
   unfolding collected
   held-all nodes at i h b =
@@ -47,12 +50,13 @@ module _ (s : List ℕ) (from n : ℕ) where
       let e : b .front ≡ collected n s from = sym (append-nil (b .front)) ∙ ap (λ (k : ℕ). b .front ++ collected k s at) (sym p) ∙ b .rest in
       b .holds ∙ ap (λ (k : ℕ). b .front ++ replicate (72 - k) (node Empty)) (sym (b .size)) ∙ ap padded e
 
--- all terms of a text that has at most 72
+-- all n terms of a text are read, where there are at most 72
 pub read-whole : (s : List ℕ) (i j n : ℕ) (l : List Node) → n ≤ 72 → collected (n + 0) s i ≡ l ++ collected 0 s j → nodes-read n s i ≡ padded l
 unfolding nodes-read collected
 read-whole s i j n l h e =
     let p : min n 72 ≡ n + 0 = omega arith in
     ap padded (ap (λ (k : ℕ). collected k s i) p ∙ e ∙ append-nil l)
 
+-- the first n of the 72 are the nodes themselves
 pub first-nodes : (n : ℕ) (l : List Node) → length l ≡ n → take n (padded l) ≡ l
 first-nodes n l e = take-at l _ n e

@@ -32,6 +32,7 @@ module _ {A : Type 0} (K : Leaves A) (N : A → List Node) (m : ℕ) where
       (i k : ℕ) (rest : List ℕ) → drop i s ≡ term-bytes m (K .bytes) t ++ rest
       → collected (terms (K .size) t + k) s i ≡ term-nodes m N t ++ collected k s (i + length (term-bytes m (K .bytes) t))
 
+  -- SO IS EVERY TERM WHOSE LEAVES ARE
   pub collected-term : (s : List ℕ) → ((a : A) → K .fine a → Collects s (leaf a)) → (t : Term A) → Every (K .fine) t → Collects s t
   collected-term s f (leaf a) e i n rest d = f a e i n rest d
   collected-term s f (literal k) e i n rest d =

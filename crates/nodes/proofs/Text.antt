@@ -12,7 +12,7 @@ use Rattle.nodes.specs.declared.Term.{Term}
 use Rattle.nodes.specs.declared.Term.the-variants.{Apply, Empty, Entry, EntryIndex, Literal, Path, PathIndex, Reduce, ResultApply, ResultLiteral}
 use Rattle.nodes.specs.Text.{key-text, node-text, nodes-text, path-text, term-text}
 
--- a term takes at most seven bytes
+-- a key takes at most one byte, a path reduction six, a term seven
 key-short : (n j b : ℕ) → length (key-text n j b) ≤ 1
 key-short n j b = go (ltb j n)
   where
@@ -43,5 +43,6 @@ term-short (PathIndex i) = omega arith
 term-short (EntryIndex i) = omega arith
 term-short (Entry r) = omega arith
 
+-- 72 nodes take at most 504 bytes
 pub nodes-short : (count : ℕ) (l : List Node) → length l ≡ 72 → length (nodes-text (take count l)) ≤ 504
 nodes-short count l h = omega (arith, texts-short node-text 7 (λ n. term-short (n .term)) (take count l), length-take count l)

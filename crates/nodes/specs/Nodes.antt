@@ -14,7 +14,7 @@ use Rattle.nodes.specs.declared.Term.the-variants.{Empty, Path, Literal,
 abbrev pub node : Term → Node
 node t = record { term = t }
 
--- the term that starts at place i, by its tag: "0x10, key count 1 to 3, the keys, a 16-bit start .. ; 0x11 and a 32-bit literal; 0x12, operator, ..", "0x20, reduction,
+-- the term that starts at index i, by its tag: "0x10, key count 1 to 3, the keys, a 16-bit start .. ; 0x11 and a 32-bit literal; 0x12, operator, ..", "0x20, reduction,
 -- a place term; 0x21 and a 32-bit literal; 0x22, operator, ..", "0x30 and a chain's index for a chain, 0x31 and an entry's index for a reduction"; "e entries, each a
 -- reduction byte and an expression": no term starts with a byte below 0x10; empty for another byte
 abbrev pub tagged : ℕ → List ℕ → ℕ → Term
@@ -33,19 +33,20 @@ tagged tag s i =
 abbrev pub passed : ℕ → List ℕ → ℕ → ℕ
 passed tag s i = cond (eqb tag 0x10) (i + 4 + getD s (i + 1) 0) (cond (eqb tag 0x11) (i + 5) (cond (eqb tag 0x21) (i + 5) (cond (ltb tag 0x10) (i + 1) (i + 2))))
 
--- no term starts past the end
+-- the term at index i; none starts past the end
 unfoldable pub term-at : List ℕ → ℕ → Term
 term-at s i = cond (leb (length s) i) Empty (tagged (getD s i 0) s i)
 
+-- and where the next one starts
 unfoldable pub next-at : List ℕ → ℕ → ℕ
 next-at s i = cond (leb (length s) i) i (passed (getD s i 0) s i)
 
--- so many terms from place i on
+-- so many terms from index i on
 unfoldable pub collected : ℕ → List ℕ → ℕ → List Node
 collected zero s i = []
 collected (suc k) s i = node (term-at s i) ∷ collected k s (next-at s i)
 
--- the rest of 72 places is empty
+-- the rest of 72 nodes is empty
 abbrev pub padded : List Node → List Node
 padded l = l ++ replicate (72 - length l) (node Empty)
 

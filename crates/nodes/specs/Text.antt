@@ -13,7 +13,7 @@ use Rattle.nodes.specs.declared.Term.the-variants.{Empty, Path, Literal,
 abbrev pub key-text : ℕ → ℕ → ℕ → List ℕ
 key-text n j b = cond (ltb j n) (b ∷ []) []
 
--- "key count 1 to 3, the keys, a 16-bit start", from the six worksheet bytes as one number
+-- "key count 1 to 3, the keys, a 16-bit start", from the six bytes of a plan as one number
 unfoldable pub path-text : ℕ → List ℕ
 path-text w =
     w % 256

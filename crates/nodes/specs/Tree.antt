@@ -10,28 +10,32 @@ use Rattle.nodes.specs.declared.Node.{Node}
 use Rattle.nodes.specs.declared.Term.the-variants.{Path, Literal, Apply, Reduce, ResultLiteral, ResultApply, PathIndex, EntryIndex}
 use Rattle.nodes.specs.Nodes.{node}
 
--- a literal and an operator of place terms and entries (0x11, 0x12), or of result terms and final expressions (0x21, 0x22)
+-- a literal, of vertex terms and entries (0x11), or of result terms and final expressions (0x21)
 unfoldable pub literal-node : ℕ → ℕ → Node
 literal-node tag k = node (cond (eqb tag 0x11) (Literal k) (ResultLiteral k))
 
+-- an operator, by the tag of the literals beside it (0x11 for 0x12, 0x21 for 0x22)
 unfoldable pub apply-node : ℕ → ℕ → Node
 apply-node tag o = node (cond (eqb tag 0x11) (Apply o) (ResultApply o))
 
--- over the terms of its leaves; `mode` is the kind of term, as for `term-bytes`
+-- "operator first", over the nodes of the leaves; `mode` is the kind of term, as for `term-bytes`
 abbrev pub term-nodes : {A : Type 0} → ℕ → (A → List Node) → Term A → List Node
 term-nodes mode N (leaf a) = N a
 term-nodes mode N (literal k) = literal-node (literal-tag mode) k ∷ []
 term-nodes mode N (apply o s t) = apply-node (literal-tag mode) o ∷ (term-nodes mode N s ++ term-nodes mode N t)
 
+-- "Place terms": a leaf is one node
 abbrev pub vertex-nodes : VertexTerm → List Node
 vertex-nodes = term-nodes 0 (λ c. node (Path (path-number c)) ∷ [])
 
+-- "Result terms": a leaf is a reduction and its vertex term
 abbrev pub result-nodes : ResultTerm → List Node
 result-nodes = term-nodes 1 (λ e. node (Reduce (e .reduction)) ∷ vertex-nodes (e .body))
 
--- an entry of a worksheet, and its final expression
+-- "Worksheet expressions": an entry's, over the indices of path reductions
 abbrev pub entry-nodes : Term ℕ → List Node
 entry-nodes = term-nodes 2 (λ i. node (PathIndex i) ∷ [])
 
+-- and the final one, over the indices of entries
 abbrev pub final-nodes : Term ℕ → List Node
 final-nodes = term-nodes 3 (λ i. node (EntryIndex i) ∷ [])

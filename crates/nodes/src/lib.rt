@@ -9,7 +9,7 @@ ghost use Rattle.nodes.specs.Nodes.{term-at, next-at, nodes-read};
 ghost use Rattle.nodes.specs.Text.{key-text, path-text, term-text, nodes-text};
 ghost use Rattle.draft.specs.Draft.{put-list};
 
-// A term without those that it contains, or the reduction byte before an entry of a worksheet; a path reduction is its six bytes in a worksheet as one number.
+// A term without those that it contains, or the reduction byte before an entry of a plan; a path reduction is its six bytes in a plan as one number.
 pub enum Term {
     Empty,
     Path(u64),
@@ -114,7 +114,7 @@ fn put_key(d: Draft, n: u64, j: u64, b: u8) -> Draft
     if j < n { draft::put(d, b) } else { d }
 }
 
-// A path reduction as a question writes it: its key count, as many keys as that says, and its source.
+// A path reduction as a query has it: its key count, as many keys as that says, and its source.
 fn put_path(d: Draft, w: u64) -> Draft
     ensures { λ r. ⌜ r ≡ put-list d (path-text w) ⌝ }
 {

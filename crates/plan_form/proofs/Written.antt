@@ -1,4 +1,4 @@
--- What the writer's proofs cite: how long the text of path reductions is. Assumes nothing.
+-- How long the text of path reductions is. Assumes nothing.
 use Prim.Native.Nat.{ℕ, _≤_}
 use mathlib.Core.Path.{_≡_}
 use mathlib.Core.List.{List}
@@ -11,5 +11,6 @@ row-short : (w : ℕ) → length (row-text w) ≤ 6
 unfolding row-text
 row-short w = omega arith
 
+-- eight take at most 48 bytes
 pub rows-short : (count : ℕ) (l : List ℕ) → length l ≡ 8 → length (rows-text (take count l)) ≤ 48
 rows-short count l h = omega (arith, texts-short row-text 6 row-short (take count l), length-take count l)

@@ -23,11 +23,12 @@ use Rattle.wire.specs.Wire.{Reply, fitted, le16, unless}
 use Rattle.plan_form.specs.declared.Form.{Form}
 use Rattle.plan_form.specs.declared.Reading.{Reading}
 
--- the nodes of a plan: "e entries, each a reduction byte and an expression; for kind 1 a final expression"; "Kind 0 has e = 1 and reduction byte 0"
+-- the nodes of entries: "e entries, each a reduction byte and an expression"
 abbrev pub entries-nodes : List (VertexReduction ℕ) → List Node
 entries-nodes [] = []
 entries-nodes (e ∷ es) = node (Entry (e .reduction)) ∷ (entry-nodes (e .body) ++ entries-nodes es)
 
+-- and of a plan: "for kind 1 a final expression"; "Kind 0 has e = 1 and reduction byte 0"
 abbrev pub body-nodes : Body → List Node
 body-nodes (each-vertex t) = node (Entry 0) ∷ entry-nodes t
 body-nodes (one-result es t) = entries-nodes es ++ final-nodes t
@@ -42,13 +43,15 @@ pub record FormOf (p : Plan) (f : Form) : Type 0 where
   pub count : f .count ≡ plan-terms (p .body) + entry-count (p .body)
   pub nodes : f .nodes ≡ padded (body-nodes (p .body))
 
--- the bytes of a typed form, legal or not: "kind byte; chain count c (0 to 8) and c chains of 6 bytes ..; entry count e; e entries ..; .. a final expression"
+-- the six bytes of a path reduction, from their number
 unfoldable pub row-text : ℕ → List ℕ
 row-text w = le16 w ++ (le16 (w / 65536) ++ le16 (w / 4294967296))
 
+-- "c chains of 6 bytes"
 abbrev pub rows-text : List ℕ → List ℕ
 rows-text = texts row-text
 
+-- THE BYTES OF A TYPED FORM, legal or not: "kind byte; chain count c (0 to 8) and c chains of 6 bytes ..; entry count e; e entries ..; .. a final expression"
 unfoldable pub form-bytes : Form → List ℕ
 form-bytes f = header-bytes 0x57 ++ (f .kind ∷ f .paths ∷ (rows-text (take (f .paths) (f .table)) ++ (f .entries ∷ nodes-text (take (f .count) (f .nodes)))))
 
@@ -56,13 +59,15 @@ form-bytes f = header-bytes 0x57 ++ (f .kind ∷ f .paths ∷ (rows-text (take (
 unfoldable pub write-reply : Form → ℕ → Reply
 write-reply f room = unless (plan-code (form-bytes f)) (fitted (form-bytes f) room)
 
--- the reading of bytes. These mirror the program and need not be believed: `read-form` says that the reading of a legal plan's bytes is its typed form
+-- THE READING OF BYTES. This and what follows mirrors the program and need not be believed: `read-form` says that the reading of a legal plan's bytes is its typed form.
+-- After a refusal: its number, and nothing else
 abbrev pub blank-reading : ℕ → Reading
 blank-reading code = record {
   code = code;
   form = record { kind = 0; paths = 0; table = replicate 8 0; entries = 0; count = 0; nodes = replicate 72 (node Empty) };
 }
 
+-- from what the reader's walk over the bytes has found
 unfoldable pub read-after : List ℕ → Walk → Reading
 read-after s w =
     let count = min (w .terms) 64 + min (w .reductions) 8 in
@@ -80,5 +85,6 @@ read-after s w =
     })
     (blank-reading (w .code))
 
+-- of any bytes
 abbrev pub plan-reading : List ℕ → Reading
 plan-reading s = read-after s (plan-scan s)

@@ -9,7 +9,7 @@ ghost use Rattle.draft.specs.Draft.{put-list};
 ghost use Rattle.wire.specs.Wire.{reply-number, reply-buffer};
 ghost use Rattle.plan_form.specs.Form.{row-text, rows-text, form-bytes, write-reply, blank-reading, plan-reading};
 
-// A worksheet: its kind; the first `paths` of its path reductions, each as its six bytes in one number; how many entries it has; and the first `count` of its nodes:
+// A plan: its kind; the first `paths` of its path reductions, each as its six bytes in one number; how many entries it has; and the first `count` of its nodes:
 // for each entry its reduction byte and the terms of its expression, then the terms of the final expression.
 pub struct Form {
     pub kind: u8,
@@ -20,7 +20,7 @@ pub struct Form {
     pub nodes: [Node; 72],
 }
 
-// What was read: 0 and the worksheet; or the refusal and nothing.
+// What was read: 0 and the plan; or the refusal and nothing.
 pub struct Reading {
     pub code: u8,
     pub form: Form,
@@ -46,7 +46,7 @@ fn blank(code: u8) -> Reading
     }
 }
 
-// The reader of worksheets: the typed form, or the refusal.
+// The reader of plans: the typed form, or the refusal.
 pub fn read(s: &[u8]) -> Reading
     ensures { λ r. ⌜ r ≡ plan-reading (now (s .entry)) ⌝ }
 {
@@ -107,7 +107,7 @@ fn draft_of(form: Form) -> Draft
     nodes::put_nodes(draft::put(rows, form.entries), list, form.count)
 }
 
-// The writer of worksheets: what it is handed is judged by the reader of its bytes, then 15.
+// The writer of plans: what it is handed is judged by the reader of its bytes, then 15.
 pub fn write(form: Form, out: &mut [u8]) -> u32
     ensures { λ r. ⌜ (r ≡ reply-number (write-reply form (length (now (out .entry))))) × (now (out .exit) ≡ reply-buffer (write-reply form (length (now (out .entry)))) (now (out .entry))) ⌝ }
 {

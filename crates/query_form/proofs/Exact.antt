@@ -33,6 +33,7 @@ nodes-are (single t) l =
     read-whole (encode (single t)) 6 (6 + length (result-bytes t)) (query-terms (single t)) (result-nodes t) (omega (arith, l .few-terms))
     (result-collected (encode (single t)) t (l .legal) 6 0 [] (sym (append-nil (result-bytes t))))
 
+-- the form made of the kind byte and of these is the query's
 form-made : (q : Query) → QueryLegal 256 q → _≡_ {A = Form} (record { kind = getD (encode q) 5 0; count = query-terms q; nodes = nodes-read (query-terms q) (encode q) 6 }) (form-of q)
 unfolding form-of
 form-made (each t) l = ap (λ (n : List Node). record { kind = 0; count = query-terms (each t); nodes = n }) (nodes-are (each t) l)

@@ -30,7 +30,8 @@ form-bytes f = header-bytes 0x51 ++ (f .kind ∷ nodes-text (take (f .count) (f 
 unfoldable pub write-reply : Form → ℕ → Reply
 write-reply f room = unless (query-code (form-bytes f)) (fitted (form-bytes f) room)
 
--- the reading of bytes. These mirror the program and need not be believed: `read-form` says that the reading of a legal query's bytes is its typed form
+-- THE READING OF BYTES. This and what follows mirrors the program and need not be believed: `read-form` says that the reading of a legal query's bytes is its typed form.
+-- After a refusal: its number, and nothing else
 abbrev pub blank-reading : ℕ → Reading
 blank-reading code = record {
   code = code;
@@ -40,6 +41,7 @@ blank-reading code = record {
   reductions = 0;
 }
 
+-- from what the reader's walk over the bytes has found
 unfoldable pub read-after : List ℕ → Walk → Reading
 read-after s w =
     cond (eqb (w .code) 0)
@@ -52,5 +54,6 @@ read-after s w =
     })
     (blank-reading (w .code))
 
+-- of any bytes
 abbrev pub query-reading : List ℕ → Reading
 query-reading s = read-after s (query-scan s)

@@ -7,14 +7,14 @@ ghost use lib.ListN.{length, take};
 ghost use Rattle.wire.specs.Wire.{reply-number, reply-buffer};
 ghost use Rattle.query_form.specs.Form.{form-bytes, write-reply, blank-reading, query-reading};
 
-// A question: its kind and the first `count` of its terms in written order.
+// A query: its kind and the first `count` of its terms in written order.
 pub struct Form {
     pub kind: u8,
     pub count: usize,
     pub nodes: [Node; 72],
 }
 
-// What was read: 0 and the question, the table of its different path reductions and how many reductions it has; or the refusal and nothing.
+// What was read: 0 and the query, the table of its different path reductions and how many reductions it has; or the refusal and nothing.
 pub struct Reading {
     pub code: u8,
     pub form: Form,
@@ -43,7 +43,7 @@ fn blank(code: u8) -> Reading
     }
 }
 
-// The reader of questions: the typed form, or the refusal.
+// The reader of queries: the typed form, or the refusal.
 pub fn read(s: &[u8]) -> Reading
     ensures { λ r. ⌜ r ≡ query-reading (now (s .entry)) ⌝ }
 {
@@ -78,7 +78,7 @@ fn draft_of(form: Form) -> Draft
     nodes::put_nodes(start, list, form.count)
 }
 
-// The writer of questions: what it is handed is judged by the reader of its bytes, then 15.
+// The writer of queries: what it is handed is judged by the reader of its bytes, then 15.
 pub fn write(form: Form, out: &mut [u8]) -> u32
     ensures { λ r. ⌜ (r ≡ reply-number (write-reply form (length (now (out .entry))))) × (now (out .exit) ≡ reply-buffer (write-reply form (length (now (out .entry)))) (now (out .entry))) ⌝ }
 {

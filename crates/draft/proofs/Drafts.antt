@@ -10,15 +10,13 @@ use lib.Seq.{append-snoc, take-suc-set}
 use Rattle.draft.specs.declared.Draft.{Draft}
 use Rattle.draft.specs.Draft.{empty-draft, put-byte, put-list}
 
--- two pieces are put one after the other; so are three, and four
+-- two pieces are put one after the other
 pub put-append : (a b : List ℕ) (d : Draft) → put-list d (a ++ b) ≡ put-list (put-list d a) b
 unfolding put-list
 put-append [] b d = refl
 put-append (x ∷ a) b d = put-append a b (put-byte d x)
 
-pub put-three : (a b c : List ℕ) (d : Draft) → put-list d (a ++ (b ++ c)) ≡ put-list (put-list (put-list d a) b) c
-put-three a b c d = put-append a (b ++ c) d ∙ put-append b c (put-list d a)
-
+-- so are four
 pub put-four : (a b c e : List ℕ) (d : Draft) → put-list d (a ++ (b ++ (c ++ e))) ≡ put-list (put-list (put-list (put-list d a) b) c) e
 put-four a b c e d = put-append a (b ++ (c ++ e)) d ∙ put-append b (c ++ e) (put-list d a) ∙ put-append c e (put-list (put-list d a) b)
 

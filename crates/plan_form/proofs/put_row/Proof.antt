@@ -1,9 +1,7 @@
 -- `plan_form::put_row` meets its contract. Assumes nothing.
-use Prim.Native.Nat.{_/_}
-use mathlib.Core.Path.{sym}
+use mathlib.Core.Path.{refl, _∙_}
 use borrow.Author.Needs.{needs}
-use Rattle.wire.specs.Wire.{le16}
-use Rattle.draft.proofs.Drafts.{put-three}
+use Rattle.draft.specs.Draft.{put-list}
 use Rattle.plan_form.specs.Form.{row-text}
 use Rattle.plan_form.proofs.put_row.Statement.{statement}
 use Rattle.plan_form.proofs.put_row.Tie as tie
@@ -18,10 +16,8 @@ put16-requires-3 : tie.Need-put16-requires-3
 put16-requires-3 c κs = search needs
 
 returns : tie.Need-returns
-unfolding row-text
-returns c =
-    let a = c .before .before .before .args in
-    rw (c .put163 .ensures, c .before .put162 .ensures, c .before .before .put16 .ensures) (sym (put-three (le16 (a .w)) (le16 (a .w / 65536)) (le16 (a .w / 4294967296)) (a .d)))
+unfolding put-list row-text
+returns c = c .put163 .ensures ∙ rw (c .before .put162 .ensures, c .before .before .put16 .ensures) refl
 
 pub put-row-spec : {M : Type 1} → statement M
 put-row-spec = tie.close (tie.spec put16-requires put16-requires-2 put16-requires-3 returns)

@@ -16,11 +16,13 @@ use Rattle.meaning.specs.Query.{PathReduction, Term, VertexReduction, ap
 use Rattle.meaning.specs.Run.{at-vertices, body-rows, evaluate, pull, reduced, stopped, tabulate, value-of, values-at}
 use Rattle.meaning.proofs.Rounds.{network-fits, path-in-order}
 
+-- a term whose leaves have machine numbers has one
 term-held : {A : Type 0} (f : A → Value) (t : Term A) → Every (λ a. Held (f a)) t → Held (value-of f t)
 term-held f (leaf a) h = h
 term-held f (literal k) h = let l : k < 2 ^ 32 = h in omega arith
 term-held f (apply o s t) h = operate-held o (value-of f s) (value-of f t) (term-held f s (h .2)) (term-held f t (h .3))
 
+-- so it is over a list of values, at the vertices, in the entries, in the rows
 held-at : (vs : List Value) → AllHeld vs → (i : ℕ) → Held (getD vs i Absent)
 held-at [] h i = tt
 held-at (v ∷ vs) h zero = h .0
@@ -49,7 +51,7 @@ module _ (F : ℕ → List Value) (held : (v : ℕ) → AllHeld (F v)) (c : ℕ)
   body-held (one-result es t) n l = (evaluate-held (map (reduced F n) es) (entries-held n es (l .1)) (length es) t (l .2 .0), tt)
 
 module _ (g : Graph) (legal : GraphLegal g) where
-  pub path-held : (c : PathReduction) → PathFits (g .vertices) c → (r v : ℕ) → r < 65536 → Held (value (pull g c r v))
+  path-held : (c : PathReduction) → PathFits (g .vertices) c → (r v : ℕ) → r < 65536 → Held (value (pull g c r v))
   path-held c p r v h =
       value-held (network-of g c) (network-fits g (legal .fits) c p) (omega (arith, legal .few-vertices)) (legal .weights) (c .keys) (path-in-order (g .vertices) c p) r v h
 
@@ -57,6 +59,7 @@ module _ (g : Graph) (legal : GraphLegal g) where
   values-held [] f r h v = tt
   values-held (c ∷ cs) f r h v = (path-held c (f .0) r v h, values-held cs (f .1) r h v)
 
+  -- EVERY ROW OF A STOPPED RUN FITS 64 BITS
   pub rows-held : (p : Plan) → PlanLegal (g .vertices) p → (r : ℕ) → r < 65536 → AllHeld (stopped (pull g) (g .vertices) p r .rows)
   unfolding stopped
   rows-held p l r h = body-held (values-at (pull g) (p .paths) r) (values-held (p .paths) (l .paths-legal) r h) (length (p .paths)) (p .body) (g .vertices) (l .body-legal)

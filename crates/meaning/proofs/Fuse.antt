@@ -32,6 +32,7 @@ module _ {A : Type 0} where
     refl,
   )
 
+  -- leaves of equal values
   value-same : (f g : A → Value) (t : Term A) → All (λ a. f a ≡ g a) (leaves t) → value-of f t ≡ value-of g t
   value-same f g (leaf a) h = h .0
   value-same f g (literal k) h = refl
@@ -64,12 +65,14 @@ module _ {A : Type 0} where
   enumerated : (G : A → Value) (t : Term A) → evaluate (map G (leaves t)) (enumerate zero t) ≡ value-of G t
   enumerated G t = numbered G (map G (leaves t)) zero t (λ j h. ap (λ (x : ℕ). getD (map G (leaves t)) x Absent) (zero-add j))
 
+-- a term with other leaves has the value of the term over what they stand for
 value-rename : {A B : Type 0} (h : A → B) (f : B → Value) (t : Term A) → value-of f (rename h t) ≡ value-of (λ a. f (h a)) t
 value-rename h f (leaf a) = refl
 value-rename h f (literal k) = refl
 value-rename h f (apply o s t) = ap₂ (operate o) (value-rename h f s) (value-rename h f t)
 
 module _ (L : PathReduction → ℕ → Value → Type 0) (F : PathReduction → ℕ → Value) (n : ℕ) where
+  -- the value of c at each vertex is one that L allows
   abbrev Right : PathReduction → Type 0
   Right c = (v : ℕ) → v < n → L c v (F c v)
 
@@ -85,6 +88,7 @@ module _ (L : PathReduction → ℕ → Value → Type 0) (F : PathReduction →
       ∙ value-same (λ c. getD (at cs v) (position c cs) Absent) (λ c. F c v) t (all-weaken (leaves t) (λ c h. position-at (λ c. F c v) Absent c cs h) has)
       )
 
+  -- so the rows of a term over indices mean the term, and those of entries the reductions
   vertices-mean : (cs : List PathReduction) (t : VertexTerm) → All (λ c. T (among c cs)) (leaves t) → All Right (leaves t)
       → AtVertices L n t (at-vertices (at cs) n (rename (λ c. position c cs) t))
   vertices-mean cs t has right = (tabulate-length n zero _, mean)

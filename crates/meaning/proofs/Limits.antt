@@ -12,6 +12,7 @@ use Rattle.meaning.specs.Query.{PathReduction, Query, Term, VertexReduct
 use Rattle.meaning.proofs.Lists.{all-append, all-left, all-right, all-weaken, map-append}
 use Rattle.meaning.proofs.Paths.{position-below, put-all-has, put-all-holds}
 
+-- other leaves: as many terms, as deep, legal where the new leaves are
 module _ {A B : Type 0} where
   rename-terms : (f : A → B) (t : Term A) → terms unit (rename f t) ≡ terms unit t
   rename-terms f (leaf a) = refl
@@ -29,6 +30,7 @@ module _ {A B : Type 0} where
   rename-every P R f (apply o s t) h k =
       (h .0, h .1, rename-every P R f s (h .2) (all-left _ (leaves s) (leaves t) k), rename-every P R f t (h .3) (all-right _ (leaves s) (leaves t) k))
 
+-- numbered leaves: as many terms, no deeper, below their count
 module _ {A : Type 0} where
   number-terms : (k : ℕ) (t : Term A) → terms unit (enumerate k t) ≡ terms unit t
   number-terms k (leaf a) = refl
@@ -51,11 +53,12 @@ module _ {A : Type 0} where
   )
 
   -- what holds of each leaf
-  pub every-leaf : (P : A → Type 0) (t : Term A) → Every P t → All P (leaves t)
+  every-leaf : (P : A → Type 0) (t : Term A) → Every P t → All P (leaves t)
   every-leaf P (leaf a) h = (h, tt)
   every-leaf P (literal k) h = tt
   every-leaf P (apply o s t) h = all-append P (leaves s) (leaves t) (every-leaf P s (h .2)) (every-leaf P t (h .3))
 
+  -- a leaf is no deeper than the term
   leaf-depth : (w : A → ℕ) (t : Term A) → All (λ a. w a ≤ depth w t) (leaves t)
   leaf-depth w t = go t (depth w t) (omega arith)
     where
@@ -69,7 +72,8 @@ module _ (P : PathReduction → Type 0) where
   every-body [] h = tt
   every-body (e ∷ es) h = all-append P (leaves (e .body)) (bodies es) (every-leaf P (e .body) (h .0 .2)) (every-body es (h .1))
 
-  pub every-path : (q : Query) → EveryPath P q → All P (written-paths q)
+  -- what holds of each path reduction of the terms holds of those written
+  every-path : (q : Query) → EveryPath P q → All P (written-paths q)
   every-path (each t) h = every-leaf P t h
   every-path (single t) h = every-body (leaves t) (every-leaf (EveryBody P) t h)
 
@@ -103,6 +107,7 @@ module _ (cs : List PathReduction) where
     entries-legal P es (h .1) (d .1) (all-right _ (leaves (e .body)) (bodies es) k),
   )
 
+-- as many terms
 pub fuse-terms : (q : Query) → plan-terms (fuse q .body) ≡ query-terms q
 fuse-terms (each t) = rename-terms (λ c. position c (put-all [] (leaves t))) t
 fuse-terms (single t) =

@@ -1,4 +1,4 @@
--- To fuse in one pass is to fuse. Assumes nothing.
+-- To fuse in one pass, as the program does, is to fuse. Assumes nothing.
 use Prim.Native.Nat.{ℕ, _+_}
 use mathlib.Core.Path.{_≡_, refl, sym, ap, ap₂, _∙_}
 use mathlib.Core.List.{List, [], _∷_, _++_, map, append-assoc, append-nil}
@@ -8,7 +8,7 @@ use Rattle.walks.specs.Lists.{All}
 use Rattle.meaning.specs.Once.{Fusing, fuse-once, once, once-result}
 use Rattle.meaning.specs.Plan.{Plan, among, each-vertex, entry, enumerate, fuse, one-result, position, put-all, rename}
 use Rattle.meaning.specs.Query.{PathReduction, Query, ResultTerm, Term, VertexReduction, VertexTerm, apply, bodies, each, leaf, leaves, literal, single}
-use Rattle.meaning.proofs.Lists.{all-left, all-right, map-append}
+use Rattle.meaning.proofs.Lists.{all-left, all-right, bodies-append, map-append}
 use Rattle.meaning.proofs.Paths.{position-stays, put-all-append, put-all-has}
 
 -- the indices of a term stay when path reductions are put after
@@ -21,6 +21,7 @@ index-stays cs ds (literal k) h = refl
 index-stays cs ds (apply o s t) h =
     ap₂ (apply o) (index-stays cs ds s (all-left _ (leaves s) (leaves t) h)) (index-stays cs ds t (all-right _ (leaves s) (leaves t) h))
 
+-- one pass over the term does what fusing does
 abbrev Once : List PathReduction → VertexTerm → Type 0
 Once cs t = (once cs t .known ≡ put-all cs (leaves t)) × (once cs t .term ≡ index (put-all cs (leaves t)) t)
 
@@ -34,19 +35,17 @@ once-both cs o s t a b = (
     whole : put-all cs (leaves s ++ leaves t) ≡ put-all (put-all cs (leaves s)) (leaves t)
     whole = put-all-append cs (leaves s) (leaves t)
 
-pub once-same : (cs : List PathReduction) (t : VertexTerm) → Once cs t
+-- a vertex term: the path reductions and the indices are those of fusing
+once-same : (cs : List PathReduction) (t : VertexTerm) → Once cs t
 once-same cs (leaf c) = (refl, refl)
 once-same cs (literal k) = (refl, refl)
 once-same cs (apply o s t) = once-both cs o s t (once-same cs s) (once-same (put-all cs (leaves s)) t)
 
--- result terms
+-- result terms; their records by their parts
 abbrev record-of : ℕ → Term ℕ → VertexReduction ℕ
 record-of r b = record { reduction = r; body = b }
 
-bodies-append : (es ds : List (VertexReduction PathReduction)) → bodies (es ++ ds) ≡ bodies es ++ bodies ds
-bodies-append [] ds = refl
-bodies-append (e ∷ es) ds = ap (λ (l : List PathReduction). leaves (e .body) ++ l) (bodies-append es ds) ∙ sym (append-assoc (leaves (e .body)) (bodies es) (bodies ds))
-
+-- entries stay when path reductions are put after
 entries-stay : (cs ds : List PathReduction) (es : List (VertexReduction PathReduction)) → All (λ c. T (among c cs)) (bodies es)
     → map (entry (put-all cs ds)) es ≡ map (entry cs) es
 entries-stay cs ds [] h = refl
@@ -60,6 +59,7 @@ record-after o s b = record { known = b .known; made = b .made; final = apply o 
 abbrev plan-of : Fusing → Plan
 plan-of a = record { paths = a .known; body = one-result (a .made) (a .final) }
 
+-- what one pass makes of a result term, after the path reductions cs and the entries es
 abbrev whole : List PathReduction → List (VertexReduction ℕ) → ResultTerm → Fusing
 whole cs es t =
     let cs′ = put-all cs (bodies (leaves t)) in
@@ -74,15 +74,13 @@ result-leaf cs es e = λ i. record { known = k i; made = es ++ (record-of (e .re
     b : once cs (e .body) .term ≡ index (put-all cs (leaves (e .body) ++ [])) (e .body)
     b = once-same cs (e .body) .1 ∙ ap (λ (l : List PathReduction). index (put-all cs l) (e .body)) (sym (append-nil (leaves (e .body))))
 
+-- the second term after the first
 abbrev after : ℕ → Fusing → (List PathReduction → List (VertexReduction ℕ) → Fusing) → Fusing
 after o a f = let b = f (a .known) (a .made) in record { known = b .known; made = b .made; final = apply o (a .final) (b .final) }
 
 result-both : (cs : List PathReduction) (es : List (VertexReduction ℕ)) (o : ℕ) (s t : ResultTerm) → after o (whole cs es s) (λ x y. whole x y t) ≡ whole cs es (apply o s t)
 result-both cs es o s t = λ i. record { known = k i; made = m i; final = apply o (enumerate (length es) s) (enumerate (n i) t) }
   where
-    cs1 : List PathReduction
-    cs1 = put-all cs (bodies (leaves s))
-
     k : put-all (put-all cs (bodies (leaves s))) (bodies (leaves t)) ≡ put-all cs (bodies (leaves s ++ leaves t))
     k = sym (ap (put-all cs) (bodies-append (leaves s) (leaves t)) ∙ put-all-append cs (bodies (leaves s)) (bodies (leaves t)))
 
@@ -102,7 +100,7 @@ result-both cs es o s t = λ i. record { known = k i; made = m i; final = apply 
         length-append es (map (entry (put-all cs (bodies (leaves s)))) (leaves s))
         ∙ ap (λ (x : ℕ). length es + x) (length-map (leaves s) (entry (put-all cs (bodies (leaves s)))))
 
-pub result-same : (cs : List PathReduction) (es : List (VertexReduction ℕ)) (t : ResultTerm) → once-result cs es t ≡ whole cs es t
+result-same : (cs : List PathReduction) (es : List (VertexReduction ℕ)) (t : ResultTerm) → once-result cs es t ≡ whole cs es t
 result-same cs es (leaf e) = result-leaf cs es e
 result-same cs es (literal k) = λ i. record { known = cs; made = sym (append-nil es) i; final = literal k }
 result-same cs es (apply o s t) =

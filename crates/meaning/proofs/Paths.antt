@@ -11,11 +11,12 @@ use Rattle.walks.specs.Lists.{All}
 use Rattle.walks.specs.Rounds.{same-list}
 use Rattle.walks.proofs.Pigeons.{Distinct, In}
 use Rattle.walks.proofs.Same.{same-list-eq, same-list-refl}
-use Rattle.walks.proofs.Tests.{T-of, and-both, and-left, and-right}
+use Rattle.walks.proofs.Tests.{T-of, and-both, and-left, and-right, or-left, or-right}
 use Rattle.meaning.specs.Plan.{among, position, put, put-all, same-path}
 use Rattle.meaning.specs.Query.{PathReduction}
 use Rattle.meaning.proofs.Lists.{all-append}
 
+-- the test of equal path reductions
 pub path-same : (c d : PathReduction) → T (same-path c d) → c ≡ d
 path-same c d t = λ i. record { keys = p i; source = q i }
   where
@@ -28,7 +29,7 @@ path-same c d t = λ i. record { keys = p i; source = q i }
 pub path-refl : (c : PathReduction) → T (same-path c c)
 path-refl c = and-both (same-list (c .keys) (c .keys)) (eqb (c .source) (c .source)) (same-list-refl (c .keys)) (eqb-refl (c .source))
 
--- a path reduction among others stands at its position: f there is f of it
+-- a path reduction among others has a position, and f there is f of it
 pub position-below : (c : PathReduction) (cs : List PathReduction) → T (among c cs) → position c cs < length cs
 position-below c [] t = absurd t
 position-below c (d ∷ ds) t = go (same-path c d) (position-below c ds) t
@@ -56,14 +57,7 @@ all-among P c (d ∷ ds) h t = go (same-path c d) refl (all-among P c ds (h .1))
     go true e f = subst P (sym (path-same c d (T-of e))) (h .0)
     go false e f = f (subst (λ (x : Bool). T (x || among c ds)) e t)
 
-or-left : (a b : Bool) → T a → T (a || b)
-or-left true b t = tt
-or-left false b t = absurd t
-
-or-right : (a b : Bool) → T b → T (a || b)
-or-right true b t = tt
-or-right false b t = t
-
+-- what stands in a list stands in a longer one, and what is put stands last or stood there
 among-left : (c : PathReduction) (cs ds : List PathReduction) → T (among c cs) → T (among c (cs ++ ds))
 among-left c [] ds t = absurd t
 among-left c (d ∷ cs) ds t = go (same-path c d) (among-left c cs ds) t
@@ -94,10 +88,12 @@ put-all-keeps : (cs ds : List PathReduction) (c : PathReduction) → T (among c 
 put-all-keeps cs [] c t = t
 put-all-keeps cs (d ∷ ds) c t = put-all-keeps (put cs d) ds c (put-keeps cs d c t)
 
+-- each path reduction that is written is there
 pub put-all-has : (cs ds : List PathReduction) → All (λ c. T (among c (put-all cs ds))) ds
 put-all-has cs [] = tt
 put-all-has cs (d ∷ ds) = (put-all-keeps (put cs d) ds d (put-has cs d), put-all-has (put cs d) ds)
 
+-- what holds of those there and of those put holds of all
 put-holds : (P : PathReduction → Type 0) (cs : List PathReduction) (c : PathReduction) → All P cs → P c → All P (put cs c)
 put-holds P cs c h p = go (among c cs)
   where
@@ -109,11 +105,12 @@ pub put-all-holds : (P : PathReduction → Type 0) (cs ds : List PathReduction) 
 put-all-holds P cs [] h k = h
 put-all-holds P cs (d ∷ ds) h k = put-all-holds P (put cs d) ds (put-holds P cs d h (k .0)) (k .1)
 
--- one text after another; and a position stays when path reductions are put after
+-- the path reductions of one text after those of another
 pub put-all-append : (cs ds es : List PathReduction) → put-all cs (ds ++ es) ≡ put-all (put-all cs ds) es
 put-all-append cs [] es = refl
 put-all-append cs (d ∷ ds) es = put-all-append (put cs d) ds es
 
+-- a position stays when path reductions are put after
 position-left : (c : PathReduction) (cs ds : List PathReduction) → T (among c cs) → position c (cs ++ ds) ≡ position c cs
 position-left c [] ds t = absurd t
 position-left c (d ∷ cs) ds t = go (same-path c d) (position-left c cs ds) t
@@ -134,7 +131,7 @@ pub position-stays : (c : PathReduction) (cs ds : List PathReduction) → T (amo
 position-stays c cs [] t = refl
 position-stays c cs (d ∷ ds) t = position-stays c (put cs d) ds (put-keeps cs d c t) ∙ position-put c cs d t
 
--- no path reduction stands twice
+-- NO PATH REDUCTION STANDS TWICE
 among-of : (c : PathReduction) (cs : List PathReduction) → In c cs → T (among c cs)
 among-of c [] h = h
 among-of c (d ∷ cs) (inl e) = or-left (same-path c d) (among c cs) (subst (λ (x : PathReduction). T (same-path c x)) e (path-refl c))

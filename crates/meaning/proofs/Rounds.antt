@@ -28,9 +28,11 @@ use Rattle.meaning.specs.Query.{PathReduction, anywhere, network-of, sta
 use Rattle.meaning.specs.Run.{Way, body-rows, pull, push, run, run-rounds, stopped}
 use Rattle.meaning.proofs.Lists.{all-both, all-mapped, all-unmapped, all-weaken, map-same}
 
+-- legal keys are in order
 pub path-in-order : (n : ℕ) (c : PathReduction) → PathFits n c → T (in-order (c .keys))
 path-in-order n c p = and-right (leb 1 (length (c .keys)) && leb (length (c .keys)) 3 && all-known (c .keys)) (in-order (c .keys)) (p .0)
 
+-- a walk starts at a vertex
 source-fits : (n s : ℕ) → SourceFits n s → (v : ℕ) → T (starts n s v) → v < n
 source-fits n s h v t = go (eqb s anywhere) refl t h
   where
@@ -40,6 +42,7 @@ source-fits n s h v t = go (eqb s anywhere) refl t h
     go false e t (inr h) = absurd (eqb-false s anywhere e h)
 
 module _ (g : Graph) (fits : GraphFits g) where
+  -- what the theory asks of a network holds of a legal path reduction's
   pub network-fits : (c : PathReduction) → PathFits (g .vertices) c → Fits (network-of g c)
   network-fits c p = record {
     some-vertex = fits .some-vertex;
@@ -48,6 +51,7 @@ module _ (g : Graph) (fits : GraphFits g) where
     source-fits = source-fits (g .vertices) (c .source) (p .1);
   }
 
+  -- the rounds of legal path reductions settle
   settle : (cs : List PathReduction) → All (PathFits (g .vertices)) cs → All (Settles (g .vertices)) (map (pull g) cs)
   settle cs h =
       all-mapped (Settles (g .vertices)) (pull g) cs
@@ -67,6 +71,7 @@ module _ (g : Graph) (fits : GraphFits g) where
     of-same s = unchanged-of (pull g c) r (g .vertices) (λ v h. s v h (pull g c (suc r) v) (pull g c r v) (over (suc r) v) (over r v))
 
   module _ (cs : List PathReduction) (h : All (PathFits (g .vertices)) cs) where
+    -- the rounds of the path reductions together
     abbrev R : ℕ
     R = rounds (g .vertices) (map (pull g) cs)
 
@@ -79,6 +84,7 @@ module _ (g : Graph) (fits : GraphFits g) where
     all-quiet : (r : ℕ) → All (λ c. T (unchanged (pull g c) r (g .vertices))) cs → T (quiet (g .vertices) (map (pull g) cs) r)
     all-quiet r u = quiet-of (g .vertices) (map (pull g) cs) r (all-mapped (λ S. T (unchanged S r (g .vertices))) (pull g) cs u)
 
+    -- THE SMALLEST COUNT WHOSE LAST ROUND CHANGES NO FIGURE, AT MOST 2n
     pub rounds-smallest : Smallest g cs R
     rounds-smallest = record {
       before = first-quiet .at;

@@ -11,7 +11,7 @@ use Rattle.walks.specs.Walks.{Graph, edge-at}
 use Rattle.meaning.specs.Plan.{Body, Plan, each-vertex, one-result, put-all}
 use Rattle.meaning.specs.Query.{PathReduction, Query, Term, VertexReduction, anywhere, apply, each, leaf, leaves, literal, single, written-paths}
 
--- a map's rows are between its places, and there is a place
+-- the edges are between vertices, and there is a vertex
 pub record GraphFits (g : Graph) : Type 0 where
   pub some-vertex : 0 < g .vertices
   pub ends-fit : (i : ℕ) → i < length (g .edges) → (edge-at (g .edges) i .from < g .vertices) × (edge-at (g .edges) i .to < g .vertices)
@@ -24,14 +24,14 @@ pub record GraphLegal (g : Graph) : Type 0 where
   pub weights : (i : ℕ) → i < length (g .edges) → edge-at (g .edges) i .weight ≤ 65535
   pub capacities : (i : ℕ) → i < length (g .edges) → (1 ≤ edge-at (g .edges) i .capacity) × (edge-at (g .edges) i .capacity ≤ 65534)
 
--- a chain on n places: legal keys, and its start is a place or anywhere
+-- a path reduction on n vertices: legal keys, and its source is a vertex or anywhere
 abbrev pub SourceFits : ℕ → ℕ → Type 0
 SourceFits n source = (source < n) ⊎ (source ≡ anywhere)
 
 abbrev pub PathFits : ℕ → PathReduction → Type 0
 PathFits n c = T (legal-keys (c .keys)) × SourceFits n (c .source)
 
--- every chain of the question is legal on the graph's places
+-- every path reduction of the query is legal on the graph's vertices
 abbrev pub QueryFits : Graph → Query → Type 0
 QueryFits g q = All (PathFits (g .vertices)) (written-paths q)
 
@@ -46,6 +46,7 @@ depth w (leaf a) = w a
 depth w (literal k) = 1
 depth w (apply o s t) = suc (max (depth w s) (depth w t))
 
+-- the size and the depth of a leaf that is one term
 abbrev pub unit : {A : Type 0} → A → ℕ
 unit a = 1
 
@@ -59,11 +60,12 @@ Every P (apply o s t) = (1 ≤ o) × (o ≤ 11) × Every P s × Every P t
 abbrev pub EveryBody : {A : Type 0} → (A → Type 0) → VertexReduction A → Type 0
 EveryBody P e = (1 ≤ e .reduction) × (e .reduction ≤ 5) × Every P (e .body)
 
+-- each path reduction of a query is as said, and all its numbers are legal
 abbrev pub EveryPath : (PathReduction → Type 0) → Query → Type 0
 EveryPath P (each t) = Every P t
 EveryPath P (single t) = Every (EveryBody P) t
 
--- a reduction is a term, and the place term under it stands one deeper
+-- a reduction is a term, and the term under it stands one deeper
 abbrev pub query-terms : Query → ℕ
 query-terms (each t) = terms unit t
 query-terms (single t) = terms (λ e. suc (terms unit (e .body))) t
@@ -72,11 +74,12 @@ abbrev pub query-depth : Query → ℕ
 query-depth (each t) = depth unit t
 query-depth (single t) = depth (λ e. suc (depth unit (e .body))) t
 
+-- "reductions as written"
 abbrev pub query-reductions : Query → ℕ
 query-reductions (each t) = zero
 query-reductions (single t) = length (leaves t)
 
--- "A question has at most 64 terms, 8 different chains and 8 reductions as written", "to a depth of 16"; n is 256, or the graph's places
+-- "A question has at most 64 terms, 8 different chains and 8 reductions as written", "to a depth of 16"; n is 256, or the graph's vertices
 pub record QueryLegal (n : ℕ) (q : Query) : Type 0 where
   pub legal : EveryPath (PathFits n) q
   pub few-terms : query-terms q ≤ 64
@@ -88,6 +91,7 @@ pub record QueryLegal (n : ℕ) (q : Query) : Type 0 where
 abbrev pub Expression : ℕ → Term ℕ → Type 0
 Expression c t = Every (λ i. i < c) t × (depth unit t ≤ 16)
 
+-- the terms of the entries; of all expressions
 abbrev pub entry-terms : List (VertexReduction ℕ) → ℕ
 entry-terms [] = zero
 entry-terms (e ∷ es) = terms unit (e .body) + entry-terms es
@@ -104,6 +108,7 @@ abbrev pub BodyLegal : ℕ → Body → Type 0
 BodyLegal c (each-vertex t) = Expression c t
 BodyLegal c (one-result es t) = (length es ≤ 8) × All (EntryLegal c) es × Expression (length es) t
 
+-- "chain count c (0 to 8)"; the path reductions, the entries and the final expression are legal
 pub record PlanLegal (n : ℕ) (p : Plan) : Type 0 where
   pub few-paths : length (p .paths) ≤ 8
   pub paths-legal : All (PathFits n) (p .paths)

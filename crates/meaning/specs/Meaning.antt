@@ -30,7 +30,7 @@ Means L (leaf a) x = L a x
 Means L (literal k) x = x ≡ Number k
 Means L (apply o s t) x = (a : Value) × (b : Value) × Means L s a × Means L t b × (x ≡ operate o a b)
 
--- the values of a place term at the n places in order; L says what a chain is worth at a place
+-- the values of a term at the n vertices in order; L says what a path reduction is worth at a vertex
 abbrev pub AtVertices : (PathReduction → ℕ → Value → Type 0) → ℕ → VertexTerm → List Value → Type 0
 AtVertices L n t xs = (length xs ≡ n) × ((v : ℕ) → v < n → Means (λ c. L c v) t (getD xs v Absent))
 
@@ -61,7 +61,7 @@ Same g r c =
     (v : ℕ) → v < g .vertices → (a b : Option (List ℕ)) → Figures (network-of g c) (c .keys) (Within (network-of g c) (suc r) v) a
     → Figures (network-of g c) (c .keys) (Within (network-of g c) r v) b → a ≡ b
 
--- "the rounds reported .. are the smallest r, one or more, for which" this holds of each chain
+-- "the rounds reported .. are the smallest r, one or more, for which" this holds of each path reduction
 pub record Smallest (g : Graph) (cs : List PathReduction) (r : ℕ) : Type 0 where
   pub before : ℕ
   pub one-more : r ≡ suc before

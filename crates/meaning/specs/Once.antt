@@ -6,6 +6,7 @@ use lib.ListN.{length}
 use Rattle.meaning.specs.Plan.{Plan, each-vertex, one-result, position, put}
 use Rattle.meaning.specs.Query.{PathReduction, Query, ResultTerm, Term, VertexReduction, VertexTerm, apply, each, leaf, literal, single}
 
+-- the path reductions met so far, and a term over their indices
 pub record Indexed : Type 0 where
   pub known : List PathReduction
   pub term : Term ℕ
@@ -18,6 +19,7 @@ once cs (apply o s t) =
     let b = once (a .known) t in
     record { known = b .known; term = apply o (a .term) (b .term) }
 
+-- the same of a result term, with the entries made so far
 pub record Fusing : Type 0 where
   pub known : List PathReduction
   pub made : List (VertexReduction ℕ)

@@ -5,7 +5,7 @@ use mathlib.Core.List.{List, [], _∷_, _++_}
 use lib.Dec.{ltb, eqb}
 use Rattle.walks.specs.Walks.{Graph, Network, network}
 
--- a chain: its keys, and "a 16-bit start (0 to 255, or 65,535 for anywhere)"
+-- a path reduction (document 01: chain): its keys, and "a 16-bit start (0 to 255, or 65,535 for anywhere)"
 pub record PathReduction : Type 0 where
   pub keys : List ℕ
   pub source : ℕ
@@ -13,11 +13,11 @@ pub record PathReduction : Type 0 where
 abbrev pub anywhere : ℕ
 anywhere = 65535
 
--- does a walk of the chain start at v, on n places?
+-- may a walk from the source start at v, on n vertices?
 abbrev pub starts : ℕ → ℕ → ℕ → Bool
 starts n source v = cond (eqb source anywhere) (ltb v n) (eqb source v)
 
--- the graph as the walks of the chain see it: every edge may be taken
+-- the graph as the walks of a path reduction see it: every edge may be taken
 abbrev pub every-edge : ℕ → Bool
 every-edge i = true
 
@@ -30,12 +30,12 @@ pub data Term (A : Type 0) : Type 0 where
   literal : ℕ → Term A
   apply : ℕ → Term A → Term A → Term A
 
--- a reduction over all places of a term that has a value at each
+-- a reduction over all vertices of a term that has a value at each
 pub record VertexReduction (A : Type 0) : Type 0 where
   pub reduction : ℕ
   pub body : Term A
 
--- place terms have chains for leaves, result terms reductions of place terms
+-- vertex terms (document 01: place terms) have path reductions for leaves, result terms reductions of vertex terms
 abbrev pub VertexTerm : Type 0
 VertexTerm = Term PathReduction
 
@@ -53,7 +53,7 @@ leaves (leaf a) = a ∷ []
 leaves (literal k) = []
 leaves (apply o s t) = leaves s ++ leaves t
 
--- the chains of reductions, and of a query, as written
+-- the path reductions of reductions, and of a query, as written
 abbrev pub bodies : List (VertexReduction PathReduction) → List PathReduction
 bodies [] = []
 bodies (e ∷ es) = leaves (e .body) ++ bodies es

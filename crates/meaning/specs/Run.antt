@@ -26,7 +26,7 @@ abbrev pub tabulate : {A : Type 0} → ℕ → ℕ → (ℕ → A) → List A
 tabulate zero i f = []
 tabulate (suc n) i f = f i ∷ tabulate n (suc i) f
 
--- the rows of a plan's body on n places, where the chains have the values F v at the place v
+-- the rows of a plan's body on n vertices, where the path reductions have the values F v at the vertex v
 abbrev pub at-vertices : (ℕ → List Value) → ℕ → Term ℕ → List Value
 at-vertices F n t = tabulate n zero (λ v. evaluate (F v) t)
 
@@ -37,7 +37,7 @@ abbrev pub body-rows : Body → (ℕ → List Value) → ℕ → List Value
 body-rows (each-vertex t) F n = at-vertices F n t
 body-rows (one-result es t) F n = evaluate (map (reduced F n) es) t ∷ []
 
--- a way to run: the figures of each chain after each round at each place. By pull, and by push:
+-- a way to run: the figures of each path reduction after each round at each vertex. By pull, and by push:
 abbrev pub Way : Type 0
 Way = PathReduction → ℕ → State
 
@@ -51,7 +51,7 @@ push g c = pushed (network-of g c) (c .keys)
 abbrev pub run-rounds : Way → ℕ → Plan → ℕ
 run-rounds W n p = rounds n (map W (p .paths))
 
--- the values of the chains after r rounds at the place v
+-- the values of the path reductions after r rounds at the vertex v
 abbrev pub values-at : Way → List PathReduction → ℕ → ℕ → List Value
 values-at W cs r v = map (λ c. value (W c r v)) cs
 

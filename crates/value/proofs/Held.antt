@@ -1,4 +1,4 @@
--- Every value that an operator or a reduction gives of machine numbers is one. Assumes nothing.
+-- Every value that an operator or a reduction gives of machine numbers is one, so that rows of 64 bits hold it. Assumes nothing.
 use Prim.Native.Nat.{ℕ, _+_, _-_, _*_, _/_, _^_, _<_, min, max}
 use mathlib.Core.Path.{_≡_, refl}
 use mathlib.Core.Bool.{Bool, true, false, cond, _&&_, _||_}
@@ -20,6 +20,7 @@ abbrev pub AllHeld : List Value → Type 0
 AllHeld [] = Unit {0}
 AllHeld (v ∷ vs) = Held v × AllHeld vs
 
+-- the same of the numbers that a reduction goes over
 abbrev Small : List ℕ → Type 0
 Small [] = Unit {0}
 Small (x ∷ xs) = (x < 2 ^ 64) × Small xs
@@ -54,6 +55,7 @@ compute-held o x y h k =
     (one-of (eqb o 9) _ _ (truth-held (ltb y x))
     (one-of (eqb o 10) _ _ (truth-held (holds x && holds y)) (one-of (eqb o 11) _ _ (truth-held (holds x || holds y)) tt))))))))))
 
+-- AN OPERATOR GIVES A MACHINE NUMBER OR NONE
 pub operate-held : (o : ℕ) (a b : Value) → Held a → Held b → Held (operate o a b)
 operate-held o Absent b h k = tt
 operate-held o (Number x) Absent h k = tt
@@ -82,5 +84,6 @@ combine-held r (x ∷ xs) h =
     (one-of (eqb r 4) _ _ (truth-held (foldr (λ y b. holds y && b) (holds x) xs))
     (one-of (eqb r 5) _ _ (truth-held (foldr (λ y b. holds y || b) (holds x) xs)) tt))))
 
+-- AND SO DOES A REDUCTION
 pub reduce-held : (r : ℕ) (vs : List Value) → AllHeld vs → Held (reduce r vs)
 reduce-held r vs h = combine-held r (present vs) (present-small vs h)

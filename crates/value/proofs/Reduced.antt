@@ -36,7 +36,7 @@ module _ {B : Type 0} where
   folded operator g f e b [] = refl
   folded operator g f e b (y ∷ ys) = ap (λ (t : Value). foldl (λ t y. operate operator t (Number y)) t ys) (e b y) ∙ folded operator g f e (f y b) ys
 
--- what one operator does to what its values stand for
+-- one step by an operator: of a sum, of an and, of an or
 sum-step : (a y : ℕ) → operate 3 (number a) (Number y) ≡ number (y + a)
 unfolding compute
 sum-step a y = go (ltb a (2 ^ 64)) refl
@@ -83,6 +83,7 @@ or-swap true false c = refl
 or-swap false true c = refl
 or-swap false false c = refl
 
+-- a truth value joined to itself
 same : (f : Bool → Bool → Bool) → f true true ≡ true → f false false ≡ false → (b : Bool) → f b b ≡ b
 same f p q true = p
 same f p q false = q
@@ -91,10 +92,12 @@ same f p q false = q
 abbrev total : ℕ → ℕ → List ℕ → Value
 total r x xs = foldl (λ t y. operate (joining r) t (Number y)) (operate (joining r) (Number (start r x)) (Number x)) xs
 
+-- its first step
 begun : (r x : ℕ) (xs : List ℕ) (t : Value) → operate (joining r) (Number (start r x)) (Number x) ≡ t
     → total r x xs ≡ foldl (λ t y. operate (joining r) t (Number y)) t xs
 begun r x xs t e = ap (λ (t : Value). foldl (λ t y. operate (joining r) t (Number y)) t xs) e
 
+-- joined one by one, the numbers are combined, whatever the reduction
 joined : (r x : ℕ) (xs : List ℕ) → total r x xs ≡ combine r (x ∷ xs)
 unfolding compute combine
 joined zero x xs = folded 0 (λ (u : Unit {0}). Absent) (λ y u. u) (λ u y. refl) tt xs
@@ -120,18 +123,20 @@ joined (suc (suc (suc (suc (suc (suc r)))))) x xs =
     folded 0 (λ (u : Unit {0}). Absent) (λ y u. u) (λ u y. refl) tt xs
     ∙ rw (ne-eqb k 1 (λ e. omega arith), ne-eqb k 2 (λ e. omega arith), ne-eqb k 3 (λ e. omega arith), ne-eqb k 4 (λ e. omega arith), ne-eqb k 5 (λ e. omega arith)) refl
 
+-- values from a total on: absent ones are skipped
 reached : (r : ℕ) (t : Value) (vs : List Value) → foldl (step r) (Reached t) vs ≡ Reached (foldl (λ t y. operate (joining r) t (Number y)) t (present vs))
 reached r t [] = refl
 reached r t (Absent ∷ vs) = reached r t vs
 reached r t (Number x ∷ vs) = reached r (operate (joining r) t (Number x)) vs
 
+-- A REDUCTION VALUE BY VALUE IS THE REDUCTION
 pub reduced : (r : ℕ) (vs : List Value) → finish (foldl (step r) Empty vs) ≡ reduce r vs
 unfolding combine
 reduced r [] = refl
 reduced r (Absent ∷ vs) = reduced r vs
 reduced r (Number x ∷ vs) = ap finish (reached r (operate (joining r) (Number (start r x)) (Number x)) vs) ∙ joined r x (present vs)
 
--- what the loop holds after the first i rows; one row more
+-- what the loop of `reduce_rows` holds after the first i rows
 unfoldable pub after : ℕ → List Row → ℕ → Partial
 after r rows i = foldl (step r) Empty (values (take i rows))
 
@@ -139,6 +144,7 @@ snoc : (r : ℕ) (p : Partial) (rows : List Row) (row : Row) → foldl (step r) 
 snoc r p [] row = refl
 snoc r p (x ∷ rows) row = snoc r (step r p (x .value)) rows row
 
+-- one row more
 pub after-next : (r : ℕ) (rows : List Row) (i : ℕ) (d : Row) → i < length rows → step r (after r rows i) (getD rows i d .value) ≡ after r rows (i + 1)
 unfolding after
 after-next r rows i d h = sym (rw (add-one, take-suc rows i d) (snoc r Empty (take i rows) (getD rows i d)))
@@ -150,6 +156,7 @@ take-min n m rows e = go (decLe n m)
     go (yes h) = ap (λ (k : ℕ). take k rows) (let k : min n m ≡ n = omega arith in k)
     go (no h) = take-all (min n m) rows (omega arith) ∙ sym (take-all n rows (omega arith))
 
+-- all rows
 pub after-all : (r : ℕ) (rows : List Row) (n : ℕ) → length rows ≡ 256 → finish (after r rows (min n 256)) ≡ reduce r (values (take n rows))
 unfolding after
 after-all r rows n e = reduced r (values (take (min n 256) rows)) ∙ ap (λ (l : List Row). reduce r (values l)) (take-min n 256 rows e)

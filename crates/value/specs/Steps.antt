@@ -18,11 +18,13 @@ joining reduction = getD (0 ∷ 1 ∷ 2 ∷ 3 ∷ 10 ∷ 11 ∷ []) reduction 0
 abbrev pub start : ℕ → ℕ → ℕ
 start reduction x = cond (eqb reduction 3) 0 x
 
+-- one value more; "skips absent values"
 abbrev pub step : ℕ → Partial → Value → Partial
 step reduction partial Absent = partial
 step reduction Empty (Number x) = Reached (operate (joining reduction) (Number (start reduction x)) (Number x))
 step reduction (Reached t) (Number x) = Reached (operate (joining reduction) t (Number x))
 
+-- "with none left it is absent"
 abbrev pub finish : Partial → Value
 finish Empty = Absent
 finish (Reached t) = t

@@ -19,6 +19,7 @@ truth b = Number (cond b 1 0)
 abbrev pub holds : ℕ → Bool
 holds x = not (eqb x 0)
 
+-- and, or: true where both numbers are; where one is
 abbrev pub both : ℕ → ℕ → Value
 both x y = truth (holds x && holds y)
 
@@ -26,7 +27,7 @@ abbrev pub either : ℕ → ℕ → Value
 either x y = truth (holds x || holds y)
 
 -- "Operators: 1 min, 2 max, 3 plus, 4 minus, 5 times, 6 divide, 7 equal, 8 less, 9 greater, 10 and, 11 or", on two numbers. Absent for "a minus below zero,
--- a division by zero, or a result too large"; "Division drops the remainder". (Absent for any other number, which no legal question has.)
+-- a division by zero, or a result too large"; "Division drops the remainder". (Absent for any other number, which no legal query has.)
 unfoldable pub compute : ℕ → ℕ → ℕ → Value
 compute operator x y =
     cond (eqb operator 1) (Number (min x y))
@@ -54,7 +55,7 @@ present (Absent ∷ vs) = present vs
 present (Number x ∷ vs) = x ∷ present vs
 
 -- "Reductions: 1 min, 2 max, 3 sum, 4 and, 5 or": "with none left it is absent, and so is a sum too large"; and, or give 1 or 0 "also as reductions".
--- (Absent for any other number, which no legal question has.)
+-- (Absent for any other number, which no legal query has.)
 unfoldable pub combine : ℕ → List ℕ → Value
 combine reduction [] = Absent
 combine reduction (x ∷ xs) =
@@ -64,6 +65,7 @@ combine reduction (x ∷ xs) =
     (cond (eqb reduction 4) (truth (foldr (λ y b. holds y && b) (holds x) xs))
     (cond (eqb reduction 5) (truth (foldr (λ y b. holds y || b) (holds x) xs)) Absent))))
 
+-- a reduction: over the values that are numbers
 abbrev pub reduce : ℕ → List Value → Value
 reduce reduction vs = combine reduction (present vs)
 

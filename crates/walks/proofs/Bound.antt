@@ -15,7 +15,8 @@ use Rattle.walks.proofs.Rounds.{state-optimal}
 use Rattle.walks.proofs.Short.{short}
 
 module _ (N : Network) (ks : List ℕ) (ok : T (in-order ks)) (fits : Fits N) where
-  pub settled-optimal : (r : ℕ) → 2 * N .vertices ≤ suc r → (v : ℕ) → Optimal N ks (AllTo N v) (state N ks r v)
+  -- so many rounds leave the best of all walks, the figures of the meaning, and change nothing after
+  settled-optimal : (r : ℕ) → 2 * N .vertices ≤ suc r → (v : ℕ) → Optimal N ks (AllTo N v) (state N ks r v)
   settled-optimal r h v =
       optimal-larger N ks (Within N r v) (AllTo N v) (state N ks r v) (state-optimal N ks ok r v) (λ s w p. (p .0, p .1)) matched
     where
@@ -27,7 +28,7 @@ module _ (N : Network) (ks : List ℕ) (ok : T (in-order ks)) (fits : Fits N) wh
   pub settled-figures : (r : ℕ) → 2 * N .vertices ≤ suc r → (v : ℕ) → Figures N ks (AllTo N v) (state N ks r v)
   settled-figures r h v = optimal-figures N ks (AllTo N v) (state N ks r v) (settled-optimal r h v)
 
-  pub settled-same : (r r′ : ℕ) → 2 * N .vertices ≤ suc r → 2 * N .vertices ≤ suc r′ → (v : ℕ) → state N ks r v ≡ state N ks r′ v
+  settled-same : (r r′ : ℕ) → 2 * N .vertices ≤ suc r → 2 * N .vertices ≤ suc r′ → (v : ℕ) → state N ks r v ≡ state N ks r′ v
   settled-same r r′ h h′ v = optimal-unique N ks (AllTo N v) (state N ks r v) (state N ks r′ v) (settled-optimal r h v) (settled-optimal r′ h′ v)
 
   pub settled-quiet : (r : ℕ) → 2 * N .vertices ≤ suc r → Quiet N ks r

@@ -18,6 +18,7 @@ use Rattle.walks.proofs.Optimal.{Optimal}
 use Rattle.walks.proofs.Rounds.{state-optimal}
 
 module _ (N : Network) where
+  -- the value of a walk by each measure, from x on
   edges-is : (x : ℕ) (w : List ℕ) → along N Edges x w ≡ x + length w
   edges-is x [] = omega arith
   edges-is x (i ∷ w) = omega (arith, edges-is x w)
@@ -35,16 +36,17 @@ module _ (N : Network) where
   weight-le c f (i ∷ w) x s v h = omega (arith, weight-le c f w x s (N .edge i .from) (h .3), f i (h .0))
 
   -- the figures of a state are those of a walk
-  pub state-walk : (ks : List ℕ) → T (in-order ks) → (r v : ℕ) (xs : List ℕ) → state N ks r v ≡ some xs
+  state-walk : (ks : List ℕ) → T (in-order ks) → (r v : ℕ) (xs : List ℕ) → state N ks r v ≡ some xs
       → (s : ℕ) × (w : List ℕ) × Within N r v s w × (figures N ks s w ≡ xs)
   state-walk ks ok r v xs e =
       let o = subst (Optimal N ks (Within N r v)) e (state-optimal N ks ok r v) in
       (o .0, o .1, o .2, o .3)
 
-  pub figures-length : (ks : List ℕ) (s : ℕ) (w : List ℕ) → length (figures N ks s w) ≡ length ks
+  figures-length : (ks : List ℕ) (s : ℕ) (w : List ℕ) → length (figures N ks s w) ≡ length ks
   figures-length [] s w = refl
   figures-length (k ∷ ks) s w = ap suc (figures-length ks s w)
 
+  -- a figure for each key
   pub state-length : (ks : List ℕ) → T (in-order ks) → (r v : ℕ) (xs : List ℕ) → state N ks r v ≡ some xs → length xs ≡ length ks
   state-length ks ok r v xs e = let x = state-walk ks ok r v xs e in rw (← (x .3)) (figures-length ks (x .0) (x .1))
 

@@ -8,10 +8,12 @@ use Rattle.value.specs.declared.Value.the-variants.{Absent, Number}
 use Rattle.walks.specs.Meaning.{Figures, Keep, Kept, Listed, last, value}
 use Rattle.walks.specs.Walks.{Network, WalkSet, figure}
 
+-- the last of the keys k, ks
 abbrev last-key : ℕ → List ℕ → ℕ
 last-key k [] = k
 last-key k (j ∷ ks) = last-key j ks
 
+-- what the value over the walks P must be
 abbrev pub Directly : Network → ℕ → List ℕ → WalkSet → Value → Type 0
 Directly N k ks P Absent = (s : ℕ) (w : List ℕ) → P s w → ⊥
 Directly N k ks P (Number x) =
@@ -32,6 +34,7 @@ module _ (N : Network) where
   listed-last k (j ∷ ks) P (x ∷ []) l s w h = absurd (l .1)
   listed-last k (j ∷ ks) P (x ∷ (y ∷ xs)) l s w h = listed-last j ks (Keep N k P) (y ∷ xs) (l .1) s w h
 
+  -- THE VALUE OF A PATH REDUCTION, WITHOUT ITS EARLIER FIGURES
   pub value-directly : (k : ℕ) (ks : List ℕ) (P : WalkSet) (o : Option (List ℕ)) → Figures N (k ∷ ks) P o → Directly N k ks P (value o)
   value-directly k ks P none f = f
   value-directly k ks P (some xs) f = (listed-kept (k ∷ ks) P xs f, listed-last k ks P xs f)

@@ -22,6 +22,7 @@ abbrev pub Stays : (ℕ → Bool) → Type 0
 Stays q = (r : ℕ) → T (q r) → T (q (suc r))
 
 module _ (q : ℕ → Bool) where
+  -- the next round, where it passes
   pub at-once : (r : ℕ) → T (q r) → First q r (suc r)
   at-once r t = record { at = r; number = refl; after = omega arith; passes = t; none-before = λ j h g u. omega arith }
 
@@ -44,11 +45,13 @@ module _ (q : ℕ → Bool) where
       later (yes p) = absurd (subst T e (subst (λ (x : ℕ). T (q x)) p t))
       later (no p) = omega arith
 
+  -- the search finds it, where a round within its reach passes
   pub first-finds : (d r j : ℕ) → r ≤ j → j ≤ r + d → T (q j) → First q r (first q d r)
   unfolding first
   first-finds zero r j h g t = at-once r (subst (λ (x : ℕ). T (q x)) (let e : j ≡ r = omega arith in e) t)
   first-finds (suc d) r j h g t = step d r j h t (λ l. first-finds d (suc r) j l (omega arith) t) (q r) refl
 
+  -- no passing round comes before it; so there is one
   pub first-le : (r a j : ℕ) → First q r a → r ≤ j → T (q j) → a ≤ suc j
   first-le r a j f h t =
       let n : ¬ (j < f .at) = λ l. f .none-before j h l t in
@@ -60,17 +63,18 @@ module _ (q : ℕ → Bool) where
       let y : b ≤ suc (f .at) = first-le r b (f .at) g (f .after) (f .passes) in
       omega (arith, f .number, g .number)
 
-  pub stays-add : Stays q → (r j : ℕ) → T (q r) → T (q (r + j))
+  stays-add : Stays q → (r j : ℕ) → T (q r) → T (q (r + j))
   stays-add s r zero t = rw add-zero t
   stays-add s r (suc j) t = rw add-suc (s (r + j) (stays-add s r j t))
 
-  pub stays-later : Stays q → (r r′ : ℕ) → r ≤ r′ → T (q r) → T (q r′)
+  -- passed once, passed in every later round
+  stays-later : Stays q → (r r′ : ℕ) → r ≤ r′ → T (q r) → T (q r′)
   stays-later s r r′ h t = go (r′ - r) (omega arith)
     where
       go : (j : ℕ) → r + j ≡ r′ → T (q r′)
       go j e = subst (λ (x : ℕ). T (q x)) e (stays-add s r j t)
 
--- two tests
+-- the first round that passes two tests is the later of their own
 module _ (q p : ℕ → Bool) (sq : Stays q) (sp : Stays p) where
   pub first-both : (a b : ℕ) → First q zero a → First p zero b → First (λ r. q r && p r) zero (max a b)
   first-both a b f g = record {

@@ -21,6 +21,7 @@ use Rattle.walks.proofs.Tests.{and-both, and-left, and-right}
 abbrev pub Settles : ℕ → (ℕ → State) → Type 0
 Settles n S = Stays (λ r. unchanged S r n) × T (unchanged S (2 * n - 1) n)
 
+-- the rounds of a network settle
 pub state-settles : (N : Network) (ks : List ℕ) → T (in-order ks) → Fits N → Settles (N .vertices) (state N ks)
 state-settles N ks ok fits = (
   λ r t. unchanged-of (state N ks) (suc r) (N .vertices) (quiet-next N ks fits r (unchanged-yes (state N ks) r (N .vertices) t)),
@@ -28,6 +29,7 @@ state-settles N ks ok fits = (
 )
 
 module _ (n : ℕ) where
+  -- and so they do together
   all-settle : (Ss : List (ℕ → State)) → All (Settles n) Ss → Stays (quiet n Ss) × T (quiet n Ss (2 * n - 1))
   all-settle [] s = (λ r t. tt, tt)
   all-settle (S ∷ Ss) s = go (all-settle Ss (s .1))
@@ -50,6 +52,7 @@ module _ (n : ℕ) where
       let b = first-le (quiet n Ss) zero (rounds n Ss) (2 * n - 1) (rounds-first Ss s) (omega arith) (all-settle Ss s .1) in
       omega arith
 
+  -- "With no chain that is round 1."
   pub rounds-none : rounds n [] ≡ 1
   rounds-none = first-unique (quiet n []) zero (rounds n []) 1 (rounds-first [] tt) (at-once (quiet n []) zero tt)
 

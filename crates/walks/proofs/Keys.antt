@@ -51,11 +51,12 @@ unfolding row
 each-row f d t zero = d
 each-row f d t (suc k) = every-at f table d t k
 
--- the order of values: x is better than y
+-- x is better than y
 abbrev pub Better : Extreme → ℕ → ℕ → Type 0
 Better Least x y = x < y
 Better Greatest x y = y < x
 
+-- `Good` is an order, and `Better` its strict part
 pub good-refl : (d : Extreme) (x : ℕ) → Good d x x
 good-refl Least x = omega arith
 good-refl Greatest x = omega arith
@@ -92,6 +93,7 @@ by-equal Greatest x y p (no e) = inl (omega arith)
 pub better-or-equal : (d : Extreme) (x y : ℕ) → Good d x y → Better d x y ⊎ (x ≡ y)
 better-or-equal d x y p = by-equal d x y p (ℕ-discrete x y)
 
+-- the test `good?` decides it
 pub good?-true : (d : Extreme) (x y : ℕ) → good? d x y ≡ true → Good d x y
 good?-true Least x y e = leb-true x y e
 good?-true Greatest x y e = leb-true y x e
@@ -136,17 +138,18 @@ pub extend-better : (k : ℕ) (e : Edge) → T (early k) → (x y : ℕ) → Bet
 extend-better k e t =
     strict-better (kept k) (measure k) (implies (early k) (strict (measure k)) (each-row (λ r. not (r .early) || strict (r .measure)) tt tt k) t) e
 
--- the measures, with what is kept, that no extension betters; every key has one of these or the least bottleneck
-abbrev pub settled : Measure → Extreme → Bool
-settled Edges Least = true
-settled Edges Greatest = false
-settled Weight Least = true
-settled Weight Greatest = false
-settled Source d = true
-settled Bottleneck Least = false
-settled Bottleneck Greatest = true
+-- the measures, with what is kept, that no extension betters
+abbrev pub worsening : Measure → Extreme → Bool
+worsening Edges Least = true
+worsening Edges Greatest = false
+worsening Weight Least = true
+worsening Weight Greatest = false
+worsening Source d = true
+worsening Bottleneck Least = false
+worsening Bottleneck Greatest = true
 
-pub extend-worse : (m : Measure) (d : Extreme) → T (settled m d) → (e : Edge) (x : ℕ) → Good d x (extend m e x)
+-- an extension makes such a value no better
+pub extend-worse : (m : Measure) (d : Extreme) → T (worsening m d) → (e : Edge) (x : ℕ) → Good d x (extend m e x)
 extend-worse Edges Least t e x = omega arith
 extend-worse Edges Greatest t e x = absurd t
 extend-worse Weight Least t e x = omega arith
@@ -155,6 +158,7 @@ extend-worse Source d t e x = good-refl d x
 extend-worse Bottleneck Least t e x = absurd t
 extend-worse Bottleneck Greatest t e x = omega arith
 
+-- the least bottleneck, which an extension may better
 abbrev narrowest : Measure → Extreme → Bool
 narrowest Edges d = false
 narrowest Weight d = false
@@ -162,8 +166,8 @@ narrowest Source d = false
 narrowest Bottleneck Least = true
 narrowest Bottleneck Greatest = false
 
-by-kind : (F : Measure → Extreme → Type 0) → ((m : Measure) (d : Extreme) → T (settled m d) → F m d) → F Bottleneck Least
-    → (m : Measure) (d : Extreme) → T (settled m d || narrowest m d) → F m d
+by-kind : (F : Measure → Extreme → Type 0) → ((m : Measure) (d : Extreme) → T (worsening m d) → F m d) → F Bottleneck Least
+    → (m : Measure) (d : Extreme) → T (worsening m d || narrowest m d) → F m d
 by-kind F f n Edges Least t = f Edges Least tt
 by-kind F f n Edges Greatest t = absurd t
 by-kind F f n Weight Least t = f Weight Least tt
@@ -172,5 +176,6 @@ by-kind F f n Source d t = f Source d tt
 by-kind F f n Bottleneck Least t = n
 by-kind F f n Bottleneck Greatest t = f Bottleneck Greatest tt
 
-pub each-key : (F : Measure → Extreme → Type 0) → ((m : Measure) (d : Extreme) → T (settled m d) → F m d) → F Bottleneck Least → (k : ℕ) → F (measure k) (kept k)
-each-key F f n k = by-kind F f n (measure k) (kept k) (each-row (λ r. settled (r .measure) (r .kept) || narrowest (r .measure) (r .kept)) tt tt k)
+-- what holds of every measure that no extension betters, and of the least bottleneck, holds of every key
+pub each-key : (F : Measure → Extreme → Type 0) → ((m : Measure) (d : Extreme) → T (worsening m d) → F m d) → F Bottleneck Least → (k : ℕ) → F (measure k) (kept k)
+each-key F f n k = by-kind F f n (measure k) (kept k) (each-row (λ r. worsening (r .measure) (r .kept) || narrowest (r .measure) (r .kept)) tt tt k)

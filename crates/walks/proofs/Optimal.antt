@@ -10,15 +10,17 @@ use lib.Dec.{T}
 use Rattle.walks.specs.Keys.{Good, in-order, kept}
 use Rattle.walks.specs.Meaning.{Figures, Keep, Kept, Listed}
 use Rattle.walks.specs.Rounds.{best, extend-all, precedes, through}
-use Rattle.walks.specs.Walks.{Network, WalkSet, edge, figure, figures}
+use Rattle.walks.specs.Walks.{Network, WalkSet, figure, figures}
 use Rattle.walks.proofs.Keys.{Better, better-not-good, better-or-equal, good-anti, good-of-better, good-of-eq}
 use Rattle.walks.proofs.Order.{Lex, extend-figures, lex-anti, lex-ext, lex-refl, lex-test, lex-trans}
 
+-- no walk in the set; or the figures xs of a walk of the set that is at least as good as each
 abbrev pub Optimal : Network → List ℕ → WalkSet → Option (List ℕ) → Type 0
 Optimal N ks P none = (s : ℕ) (w : List ℕ) → P s w → ⊥
 Optimal N ks P (some xs) =
     (s : ℕ) × (w : List ℕ) × P s w × (figures N ks s w ≡ xs) × ((s′ : ℕ) (w′ : List ℕ) → P s′ w′ → Lex ks xs (figures N ks s′ w′))
 
+-- the walks of either set
 abbrev pub Either : WalkSet → WalkSet → WalkSet
 Either P Q s w = P s w ⊎ Q s w
 
@@ -30,6 +32,7 @@ module _ (N : Network) where
   some-unique : (ks : List ℕ) (P : WalkSet) (xs ys : List ℕ) → Optimal N ks P (some xs) → Optimal N ks P (some ys) → xs ≡ ys
   some-unique ks P xs ys o p = lex-anti ks xs ys (rw (p .3) at (o .4 _ _ (p .2))) (rw (o .3) at (p .4 _ _ (o .2)))
 
+  -- a set has one answer
   pub optimal-unique : (ks : List ℕ) (P : WalkSet) (a b : Option (List ℕ)) → Optimal N ks P a → Optimal N ks P b → a ≡ b
   optimal-unique ks P none none o p = refl
   optimal-unique ks P none (some ys) o p = absurd (o (p .0) (p .1) (p .2))
@@ -61,6 +64,7 @@ module _ (N : Network) where
   optimal-shared ks P Q none o p s w h = absurd (p s w h)
   optimal-shared ks P Q (some xs) o p s w h = (o .0, o .1, o .2, rw (o .3) (p .4 s w h))
 
+  -- the test says which of two answers is the answer of both sets together
   optimal-both : (ks : List ℕ) (P Q : WalkSet) (xs ys : List ℕ) (b : Bool) → precedes ks xs ys ≡ b → Optimal N ks P (some xs) → Optimal N ks Q (some ys)
       → cond b (Lex ks xs ys) (Lex ks ys xs) → Optimal N ks (Either P Q) (cond b (some xs) (some ys))
   optimal-both ks P Q xs ys true e o p l = (o .0, o .1, inl (o .2), o .3, go)
@@ -81,6 +85,7 @@ module _ (N : Network) where
       (subst (λ (zs : List ℕ). cond b (Lex ks (figures N ks (o .0) (o .1)) zs) (Lex ks zs (figures N ks (o .0) (o .1)))) (p .3)
       (lex-test N ks (o .0) (o .1) (p .0) (p .1) b (rw (o .3, p .3) e)))
 
+  -- the better of two answers is the answer of both sets together
   pub optimal-best : (ks : List ℕ) (P Q : WalkSet) (a b : Option (List ℕ)) → Optimal N ks P a → Optimal N ks Q b → Optimal N ks (Either P Q) (best ks a b)
   unfolding best
   optimal-best ks P Q none none o p = neither
@@ -100,6 +105,7 @@ module _ (N : Network) where
       go s′ w′ (inr h) = absurd (p s′ w′ h)
   optimal-best ks P Q (some xs) (some ys) o p = optimal-both ks P Q xs ys (precedes ks xs ys) refl o p (figures-test ks P Q xs ys o p (precedes ks xs ys) refl)
 
+  -- an answer extended by an edge is the answer of the extended walks
   pub optimal-through : (ks : List ℕ) → T (in-order ks) → (i : ℕ) (Q : WalkSet) (a : Option (List ℕ)) → Optimal N ks Q a
       → Optimal N ks (Then i Q) (through ks (N .edge i) a)
   optimal-through ks t i Q none o = λ s w h. o s (h .0) (h .2)
@@ -111,7 +117,7 @@ module _ (N : Network) where
     λ s w h. rw (h .1) (rw (← (extend-figures N ks i s (h .0))) (lex-ext ks t (N .edge i) xs _ (o .4 s (h .0) (h .2)))),
   )
 
-  -- the meaning is `Optimal`
+  -- From the meaning to `Optimal`: there is a walk that all keys keep, its figures are those listed, and none of the set is better.
   listed-kept : (ks : List ℕ) (P : WalkSet) (xs : List ℕ) → Listed N ks P xs → (s : ℕ) × (w : List ℕ) × P s w × (figures N ks s w ≡ xs) × Kept N ks P s w
   listed-kept [] P [] l = (l .0, l .1, l .2, refl, l .2)
   listed-kept [] P (x ∷ xs) l = absurd l
@@ -120,7 +126,7 @@ module _ (N : Network) where
       let r = listed-kept ks (Keep N k P) xs (l .1) in
       (r .0, r .1, r .2 .0, cc (l .0 (r .0) (r .1) (r .2), r .3), r .4)
 
-  pub kept-from : (ks : List ℕ) (P : WalkSet) (s : ℕ) (w : List ℕ) → Kept N ks P s w → P s w
+  kept-from : (ks : List ℕ) (P : WalkSet) (s : ℕ) (w : List ℕ) → Kept N ks P s w → P s w
   kept-from [] P s w h = h
   kept-from (k ∷ ks) P s w h = kept-from ks (Keep N k P) s w h .0
 
@@ -138,12 +144,14 @@ module _ (N : Network) where
           at (inl b) = inl b
           at (inr e) = inr (e, f (p, λ s″ w″ q. subst (λ (x : ℕ). Good (kept k) x (figure N k s″ w″)) e (g .1 s″ w″ q)))
 
+  -- the figures that the meaning lists are the best
   pub figures-optimal : (ks : List ℕ) (P : WalkSet) (a : Option (List ℕ)) → Figures N ks P a → Optimal N ks P a
   figures-optimal ks P none f = f
   figures-optimal ks P (some xs) f =
       let r = listed-kept ks P xs f in
       (r .0, r .1, r .2, r .3, λ s w p. rw (← (r .3)) (kept-best ks P (r .0) (r .1) (r .4) s w p))
 
+  -- what an order of lists says of their first figures, and of the rest where the first are equally good
   head-good : (k : ℕ) (ks : List ℕ) (x y : ℕ) (xs ys : List ℕ) → Better (kept k) x y ⊎ ((x ≡ y) × Lex ks xs ys) → Good (kept k) x y
   head-good k ks x y xs ys (inl b) = good-of-better (kept k) x y b
   head-good k ks x y xs ys (inr e) = good-of-eq (kept k) x y (e .0)
@@ -152,6 +160,7 @@ module _ (N : Network) where
   tail-lex k ks x y xs ys g (inl b) = absurd (better-not-good (kept k) x y b g)
   tail-lex k ks x y xs ys g (inr e) = e .1
 
+  -- back: a walk that is at least as good as each has the figures that the meaning lists
   listed-of : (ks : List ℕ) (P : WalkSet) (s : ℕ) (w : List ℕ) → P s w → ((s′ : ℕ) (w′ : List ℕ) → P s′ w′ → Lex ks (figures N ks s w) (figures N ks s′ w′))
       → Listed N ks P (figures N ks s w)
   listed-of [] P s w p f = (s, w, p)
@@ -166,10 +175,11 @@ module _ (N : Network) where
       tail : (s′ : ℕ) (w′ : List ℕ) → Keep N k P s′ w′ → Lex ks (figures N ks s w) (figures N ks s′ w′)
       tail s′ w′ q = tail-lex k ks (figure N k s w) (figure N k s′ w′) (figures N ks s w) (figures N ks s′ w′) (q .1 s w p) (f s′ w′ (q .0))
 
+  -- and the best are those that the meaning lists
   pub optimal-figures : (ks : List ℕ) (P : WalkSet) (a : Option (List ℕ)) → Optimal N ks P a → Figures N ks P a
   optimal-figures ks P none o = o
   optimal-figures ks P (some xs) o = subst (λ (zs : List ℕ). Listed N ks P zs) (o .3) (listed-of ks P (o .0) (o .1) (o .2) (λ s′ w′ p. rw (o .3) (o .4 s′ w′ p)))
 
-  -- (D) the meaning determines the figures
+  -- THE MEANING DETERMINES THE FIGURES
   pub figures-unique : (ks : List ℕ) (P : WalkSet) (a b : Option (List ℕ)) → Figures N ks P a → Figures N ks P b → a ≡ b
   figures-unique ks P a b f g = optimal-unique ks P a b (figures-optimal ks P a f) (figures-optimal ks P b g)

@@ -1,4 +1,4 @@
--- The order of lists of figures by a path reduction of keys: transitive, antisymmetric, total on the figures of walks, kept by an extension. Assumes nothing.
+-- The order of lists of figures by a list of keys, the first key first: transitive, antisymmetric, total on the figures of walks, kept by an extension. Assumes nothing.
 use Prim.Native.Nat.{ℕ}
 use mathlib.Core.Path.{_≡_, refl, sym, ap, _∙_}
 use mathlib.Core.Logic.{_⊎_, inl, inr}
@@ -8,11 +8,11 @@ use borrow.Author.Tests.{eqb-true, eqb-false}
 use lib.Dec.{T, eqb}
 use Rattle.walks.specs.Keys.{Good, early, good?, in-order, kept, measure}
 use Rattle.walks.specs.Rounds.{bases, extend-all, precedes}
-use Rattle.walks.specs.Walks.{Edge, Network, base, edge, extend, figure, figures}
+use Rattle.walks.specs.Walks.{Edge, Network, base, extend, figure, figures}
 use Rattle.walks.proofs.Keys.{Better, better-not-good, better-or-equal, better-trans, extend-better, extend-good, good-of-better, good-of-eq, good?-false, good?-true}
 use Rattle.walks.proofs.Tests.{and-left, and-right}
 
--- xs is at least as good as ys
+-- xs is at least as good as ys: better in the first key in which they differ, or equal
 abbrev pub Lex : List ℕ → List ℕ → List ℕ → Type 0
 Lex [] [] [] = Unit {0}
 Lex [] [] (y ∷ ys) = ⊥
@@ -30,6 +30,7 @@ cons-trans k ks x y z xs ys zs f (inl p) (inr q) = inl (rw (← (q .0)) p)
 cons-trans k ks x y z xs ys zs f (inr p) (inl q) = inl (rw (p .0) q)
 cons-trans k ks x y z xs ys zs f (inr p) (inr q) = inr (p .0 ∙ q .0, f (p .1) (q .1))
 
+-- at least as good, from one to the next
 pub lex-trans : (ks : List ℕ) (xs ys zs : List ℕ) → Lex ks xs ys → Lex ks ys zs → Lex ks xs zs
 lex-trans [] [] [] zs p q = q
 lex-trans [] [] (y ∷ ys) zs p q = absurd p
@@ -48,6 +49,7 @@ cons-anti k ks x y xs ys f (inl p) (inr q) = absurd (better-not-good (kept k) x 
 cons-anti k ks x y xs ys f (inr p) (inl q) = absurd (better-not-good (kept k) y x q (good-of-eq (kept k) x y (p .0)))
 cons-anti k ks x y xs ys f (inr p) (inr q) = cc (p .0, f (p .1) (q .1))
 
+-- each at least as good as the other: equal
 pub lex-anti : (ks : List ℕ) (xs ys : List ℕ) → Lex ks xs ys → Lex ks ys xs → xs ≡ ys
 lex-anti [] [] [] p q = refl
 lex-anti [] [] (y ∷ ys) p q = absurd p
@@ -56,7 +58,7 @@ lex-anti (k ∷ ks) [] ys p q = absurd p
 lex-anti (k ∷ ks) (x ∷ xs) [] p q = absurd p
 lex-anti (k ∷ ks) (x ∷ xs) (y ∷ ys) p q = cons-anti k ks x y xs ys (lex-anti ks xs ys) p q
 
--- an extension keeps the order
+-- an extension keeps the order: of the last key, of a key before it, and of a list of keys in order
 cons-ext-last : (k : ℕ) (r : Edge) (x y : ℕ) (xs ys : List ℕ)
     → Better (kept k) x y ⊎ ((x ≡ y) × Lex [] xs ys)
     → Better (kept k) (extend (measure k) r x) (extend (measure k) r y) ⊎ ((extend (measure k) r x ≡ extend (measure k) r y) × Unit {0})
@@ -84,6 +86,7 @@ lex-ext (k ∷ (j ∷ ks)) t r (x ∷ xs) (y ∷ ys) p =
     cons-ext k (j ∷ ks) r x y xs ys (and-left (early k) (in-order (j ∷ ks)) t) (lex-ext (j ∷ ks) (and-right (early k) (in-order (j ∷ ks)) t) r xs ys) p
 
 module _ (N : Network) where
+  -- the figures of a walk with one more edge, and of the empty walk, are what `extend-all` and `bases` say
   pub extend-figures : (ks : List ℕ) (i s : ℕ) (w : List ℕ) → extend-all ks (N .edge i) (figures N ks s w) ≡ figures N ks s (i ∷ w)
   extend-figures [] i s w = refl
   extend-figures (k ∷ ks) i s w = ap {B = List ℕ} (λ l. figure N k s (i ∷ w) ∷ l) (extend-figures ks i s w)
@@ -92,6 +95,7 @@ module _ (N : Network) where
   bases-figures [] s = refl
   bases-figures (k ∷ ks) s = ap {B = List ℕ} (λ l. base (measure k) s ∷ l) (bases-figures ks s)
 
+  -- a walk is as good as itself
   pub lex-refl : (ks : List ℕ) (s : ℕ) (w : List ℕ) → Lex ks (figures N ks s w) (figures N ks s w)
   lex-refl [] s w = tt
   lex-refl (k ∷ ks) s w = inr (refl, lex-refl ks s w)

@@ -8,6 +8,7 @@ use native.Mathlib.Nat.{not-suc-le-zero}
 use native.Mathlib.Decide.{ℕ-discrete}
 use lib.ListN.{length}
 
+-- v stands in the list; no element stands twice
 module _ {A : Type 0} where
   abbrev pub In : A → List A → Type 0
   In v [] = ⊥
@@ -26,6 +27,7 @@ in-cons v x l (no n) (no m) = no neither
     neither (inl e) = n e
     neither (inr h) = m h
 
+-- whether a number stands in a list is decided
 pub in-dec : (v : ℕ) (l : List ℕ) → Dec (In v l)
 in-dec v [] = no (λ h. h)
 in-dec v (x ∷ l) = in-cons v x l (ℕ-discrete v x) (in-dec v l)
@@ -46,6 +48,7 @@ without y [] d h = absurd h
 without y (x ∷ l) d (inl e) = (l, refl, d .1, λ z i. (inr i, λ f. d .0 (subst (λ (t : ℕ). In t l) (f ∙ e) i)))
 without y (x ∷ l) d (inr h) = without-cons y x l d h (without y l (d .1) h)
 
+-- A LIST OF DIFFERENT NUMBERS BELOW n IS NO LONGER THAN n
 pub pigeons : (n : ℕ) (l : List ℕ) → Distinct l → ((x : ℕ) → In x l → x < n) → length l ≤ n
 pigeons zero [] d f = omega arith
 pigeons zero (x ∷ l) d f = absurd (not-suc-le-zero (f x (inl refl)))

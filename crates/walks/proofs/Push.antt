@@ -17,6 +17,7 @@ use Rattle.walks.proofs.Rounds.{One, gather-optimal, state-optimal, wit
 use Rattle.walks.proofs.Same.{same-eq}
 use Rattle.walks.proofs.Tests.{T-of, and-both, and-left}
 
+-- nothing reached: no figures
 none-of : (a : Option (List ℕ)) → reached a ≡ false → a ≡ none
 none-of none e = refl
 none-of (some xs) e = absurd (subst T e tt)
@@ -26,6 +27,7 @@ unfoldable pub fresh : Network → List ℕ → ℕ → ℕ → Bool
 fresh N ks zero u = reached (state N ks zero u)
 fresh N ks (suc r) u = not (same (state N ks (suc r) u) (state N ks r u))
 
+-- the state by pull, with the vertices that changed
 abbrev pub marked-state : Network → List ℕ → ℕ → Marked
 marked-state N ks r = record { holds = state N ks r; changed = fresh N ks r }
 
@@ -42,10 +44,11 @@ module _ (N : Network) (ks : List ℕ) (ok : T (in-order ks)) where
       s w h in
       (x .0, x .1, (x .2 .0, x .2 .1, suc-le-suc (x .2 .2)), x .3)
 
+  -- the edges that a round by push goes over
   abbrev live : ℕ → ℕ → Bool
   live r i = N .usable i && fresh N ks r (N .edge i .from)
 
-  -- a walk over a edge that is left out is matched by a walk that was there before
+  -- a walk over an edge that is left out is matched by a walk that was there before
   module _ (r v s : ℕ) (w : List ℕ) where
     abbrev Matched : Type 0
     Matched = (s′ : ℕ) × (w′ : List ℕ) × One N ks ok (live r) (Within N r) v (N .edges) s′ w′ × Lex ks (figures N ks s′ w′) (figures N ks s w)
@@ -81,6 +84,7 @@ module _ (N : Network) (ks : List ℕ) (ok : T (in-order ks)) where
   push-pull r v =
       optimal-unique N ks (Within N (suc r) v) (push-round N ks (marked-state N ks r) v) (state N ks (suc r) v) (step-optimal r v) (state-optimal N ks ok (suc r) v)
 
+  -- round by round, state and marks
   pub marked-is : (r : ℕ) → marked N ks r ≡ marked-state N ks r
   unfolding marked state fresh
   marked-is zero = refl

@@ -1,4 +1,4 @@
--- (B) after a quiet round every state is the same, and is the figures over all walks. Assumes nothing.
+-- After a quiet round every state is the same, and is the figures over all walks. Assumes nothing.
 use Prim.Native.Nat.{ℕ, zero, suc, _+_, _<_}
 use mathlib.Core.Path.{_≡_, refl, ap, ap₂, _∙_, subst}
 use mathlib.Core.Bool.{Bool, true, false, _&&_}
@@ -11,7 +11,7 @@ use lib.ListN.{length}
 use Rattle.walks.specs.Keys.{in-order}
 use Rattle.walks.specs.Meaning.{Figures}
 use Rattle.walks.specs.Rounds.{best, brings, gather, state, through}
-use Rattle.walks.specs.Walks.{AllTo, Edge, Fits, Network, Within, edge}
+use Rattle.walks.specs.Walks.{AllTo, Edge, Fits, Network, Within}
 use Rattle.walks.proofs.Optimal.{Optimal, optimal-figures, optimal-larger, optimal-shared}
 use Rattle.walks.proofs.Rounds.{state-optimal}
 use Rattle.walks.proofs.Tests.{and-left, le-step}
@@ -34,21 +34,22 @@ gather-same N ks live S S′ f v h (suc i) g =
     (brings-same ks (live i && eqb (N .edge i .to) v) (N .edge i) S S′ (λ t. f (N .edge i .from) (g i (omega arith) (and-left (live i) (eqb (N .edge i .to) v) t))))
 
 module _ (N : Network) (ks : List ℕ) (fits : Fits N) where
+  -- the round after a quiet one is quiet, and so are all after it
   pub quiet-next : (r : ℕ) → Quiet N ks r → Quiet N ks (suc r)
   unfolding state
   quiet-next r q v h = gather-same N ks (N .usable) (state N ks (suc r)) (state N ks r) q v h (N .edges) (fits .from-fits)
 
-  pub quiet-later : (r : ℕ) → Quiet N ks r → (j : ℕ) → Quiet N ks (r + j)
+  quiet-later : (r : ℕ) → Quiet N ks r → (j : ℕ) → Quiet N ks (r + j)
   quiet-later r q zero = rw add-zero q
   quiet-later r q (suc j) = rw add-suc (quiet-next (r + j) (quiet-later r q j))
 
-  -- (B), the first half
+  -- every later state is the same
   pub quiet-same : (r : ℕ) → Quiet N ks r → (j v : ℕ) → v < N .vertices → state N ks (r + j) v ≡ state N ks r v
   quiet-same r q zero v h = ap (λ (t : ℕ). state N ks t v) (add-zero r)
   quiet-same r q (suc j) v h = ap (λ (t : ℕ). state N ks t v) (add-suc r j) ∙ quiet-later r q j v h ∙ quiet-same r q j v h
 
-  -- (B), the second half
-  pub quiet-optimal : T (in-order ks) → (r : ℕ) → Quiet N ks r → (v : ℕ) → v < N .vertices → Optimal N ks (AllTo N v) (state N ks r v)
+  -- and is the best over all walks: each walk is within some number of rounds
+  quiet-optimal : T (in-order ks) → (r : ℕ) → Quiet N ks r → (v : ℕ) → v < N .vertices → Optimal N ks (AllTo N v) (state N ks r v)
   quiet-optimal ok r q v h =
       optimal-larger N ks (Within N r v) (AllTo N v) (state N ks r v) (state-optimal N ks ok r v) (λ s w p. (p .0, p .1))
       (λ s w p.
@@ -56,5 +57,6 @@ module _ (N : Network) (ks : List ℕ) (fits : Fits N) where
       (subst (Optimal N ks (Within N (r + length w) v)) (quiet-same r q (length w) v h) (state-optimal N ks ok (r + length w) v))
       s w (p .0, p .1, omega arith))
 
+  -- the same in the words of the meaning
   pub quiet-figures : T (in-order ks) → (r : ℕ) → Quiet N ks r → (v : ℕ) → v < N .vertices → Figures N ks (AllTo N v) (state N ks r v)
   quiet-figures ok r q v h = optimal-figures N ks (AllTo N v) (state N ks r v) (quiet-optimal ok r q v h)

@@ -11,6 +11,7 @@ use Rattle.walks.specs.Lists.{All}
 use Rattle.walks.specs.Rounds.{State, quiet, same, same-list, unchanged}
 use Rattle.walks.proofs.Tests.{and-both, and-left, and-right, le-step}
 
+-- figures that pass the test are equal; equal ones pass it
 pub same-list-eq : (xs ys : List ℕ) → T (same-list xs ys) → xs ≡ ys
 same-list-eq [] [] t = refl
 same-list-eq [] (y ∷ ys) t = absurd t
@@ -37,6 +38,7 @@ same-of a b e = subst (λ (c : Option (List ℕ)). T (same a c)) e (same-refl a)
 
 -- one path reduction: the round after r changes no vertex below n
 module _ (S : ℕ → State) (r : ℕ) where
+  -- each vertex keeps its figures; and where each does, the test passes
   pub unchanged-yes : (n : ℕ) → T (unchanged S r n) → (v : ℕ) → v < n → S (suc r) v ≡ S r v
   unchanged-yes zero t v h = absurd (not-suc-le-zero h)
   unchanged-yes (suc n) t v h = go (ℕ-discrete v n) (unchanged-yes n (and-right (same (S (suc r) n) (S r n)) (unchanged S r n) t) v)
@@ -51,7 +53,7 @@ module _ (S : ℕ → State) (r : ℕ) where
   unchanged-of (suc n) f =
       and-both (same (S (suc r) n) (S r n)) (unchanged S r n) (same-of (S (suc r) n) (S r n) (f n (omega arith))) (unchanged-of n (λ v h. f v (le-step h)))
 
--- several
+-- several path reductions: the round is quiet where it changes nothing for each
 module _ (n : ℕ) where
   pub quiet-yes : (Ss : List (ℕ → State)) (r : ℕ) → T (quiet n Ss r) → All (λ S. T (unchanged S r n)) Ss
   quiet-yes [] r t = tt

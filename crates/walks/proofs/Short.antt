@@ -13,25 +13,26 @@ use Rattle.walks.specs.declared.Extreme.the-variants.{Greatest}
 use Rattle.walks.specs.declared.Measure.{Measure}
 use Rattle.walks.specs.declared.Measure.the-variants.{Bottleneck}
 use Rattle.walks.specs.Keys.{Good, kept}
-use Rattle.walks.specs.Walks.{Fits, Leads, Network, along, base, edge, extend, figure}
-use Rattle.walks.proofs.Keys.{each-key, extend-good, extend-worse, good-refl, good-trans, settled}
+use Rattle.walks.specs.Walks.{Fits, Leads, Network, along, base, extend, figure}
+use Rattle.walks.proofs.Keys.{each-key, extend-good, extend-worse, good-refl, good-trans, worsening}
 use Rattle.walks.proofs.Pigeons.{Distinct, In, in-dec, pigeons}
 
 module _ (N : Network) where
   -- the vertices of a walk, the last first
-  abbrev pub visits : ℕ → List ℕ → List ℕ
+  abbrev visits : ℕ → List ℕ → List ℕ
   visits s [] = s ∷ []
   visits s (i ∷ w) = N .edge i .to ∷ visits s w
 
   -- w is at least as good as w′, from any figure on, by every key but the least bottleneck
-  abbrev pub Matches : List ℕ → List ℕ → Type 0
-  Matches w w′ = (m : Measure) (d : Extreme) → T (settled m d) → (x : ℕ) → Good d (along N m x w) (along N m x w′)
+  abbrev Matches : List ℕ → List ℕ → Type 0
+  Matches w w′ = (m : Measure) (d : Extreme) → T (worsening m d) → (x : ℕ) → Good d (along N m x w) (along N m x w′)
 
+  -- a longer walk keeps the order of values; it betters none but the least bottleneck; and goes part by part
   along-good : (d : Extreme) (k : Measure) (w : List ℕ) (x y : ℕ) → Good d x y → Good d (along N k x w) (along N k y w)
   along-good d k [] x y p = p
   along-good d k (i ∷ w) x y p = extend-good d k (N .edge i) (along N k x w) (along N k y w) (along-good d k w x y p)
 
-  along-worse : (m : Measure) (d : Extreme) → T (settled m d) → (w : List ℕ) (x : ℕ) → Good d x (along N m x w)
+  along-worse : (m : Measure) (d : Extreme) → T (worsening m d) → (w : List ℕ) (x : ℕ) → Good d x (along N m x w)
   along-worse m d t [] x = good-refl d x
   along-worse m d t (i ∷ w) x =
       good-trans d x (along N m x w) (along N m x (i ∷ w)) (along-worse m d t w x) (extend-worse m d t (N .edge i) (along N m x w))
@@ -40,7 +41,8 @@ module _ (N : Network) where
   along-append k [] p x = refl
   along-append k (i ∷ q) p x = ap (extend k (N .edge i)) (along-append k q p x)
 
-  pub join : (q p : List ℕ) (s u v : ℕ) → Leads N s p u → Leads N u q v → Leads N s (q ++ p) v
+  -- two walks, one after the other
+  join : (q p : List ℕ) (s u v : ℕ) → Leads N s p u → Leads N u q v → Leads N s (q ++ p) v
   join [] p s u v h e = subst (Leads N s p) e h
   join (i ∷ q) p s u v h g = (g .0, g .1, g .2, join q p s u (N .edge i .from) h (g .3))
 
@@ -60,6 +62,7 @@ module _ (N : Network) where
   matches-ext : (i : ℕ) (w′ w : List ℕ) → Matches w′ w → Matches (i ∷ w′) (i ∷ w)
   matches-ext i w′ w f m d t x = extend-good d m (N .edge i) (along N m x w′) (along N m x w) (f m d t x)
 
+  -- one more edge: to a new vertex, or back to one that was visited
   erase-step : (i : ℕ) (w : List ℕ) (s v : ℕ) → Leads N s (i ∷ w) v → Back s (N .edge i .from) w → Back s v (i ∷ w)
   unfolding Back
   erase-step i w s v h b = go (in-dec (N .edge i .to) (visits s (b .0)))
@@ -83,7 +86,7 @@ module _ (N : Network) where
   erase [] s v h = ([], h, distinct-one s, λ m d t x. good-refl d x)
   erase (i ∷ w) s v h = erase-step i w s v h (erase w s (N .edge i .from) (h .3))
 
-  pub length-visits : (s : ℕ) (w : List ℕ) → length (visits s w) ≡ suc (length w)
+  length-visits : (s : ℕ) (w : List ℕ) → length (visits s w) ≡ suc (length w)
   length-visits s [] = refl
   length-visits s (i ∷ w) = ap suc (length-visits s w)
 
@@ -120,14 +123,14 @@ module _ (N : Network) where
   narrowest (j ∷ w) i s v h = narrower i (j ∷ w) s v h (narrowest w j s (N .edge i .from) (h .3))
 
   module _ (fits : Fits N) where
-    pub visits-fit : (w : List ℕ) (s v : ℕ) → s < N .vertices → Leads N s w v → (x : ℕ) → In x (visits s w) → x < N .vertices
+    visits-fit : (w : List ℕ) (s v : ℕ) → s < N .vertices → Leads N s w v → (x : ℕ) → In x (visits s w) → x < N .vertices
     visits-fit [] s v l h x (inl e) = omega arith
     visits-fit [] s v l h x (inr i) = absurd i
     visits-fit (i ∷ w) s v l h x (inl e) = omega (arith, fits .to-fits i (h .0) (h .1))
     visits-fit (i ∷ w) s v l h x (inr m) = visits-fit w s (N .edge i .from) l (h .3) x m
 
     -- by every key but the least bottleneck, fewer than n edges do
-    pub simple : (w : List ℕ) (s v : ℕ) → s < N .vertices → Leads N s w v → (p : List ℕ) × Leads N s p v × (length p < N .vertices) × Matches p w
+    simple : (w : List ℕ) (s v : ℕ) → s < N .vertices → Leads N s w v → (p : List ℕ) × Leads N s p v × (length p < N .vertices) × Matches p w
     unfolding Back
     simple w s v l h =
         let b = erase w s v h in
@@ -162,6 +165,7 @@ module _ (N : Network) where
               (omega (arith, over (b .0) (a .0) (n .1) 65535, n .6 65535)),
         )
 
+    -- A WALK OF FEWER THAN 2n EDGES THAT IS AT LEAST AS GOOD BY EVERY KEY
     pub short : (w : List ℕ) (s v : ℕ) → s < N .vertices → Leads N s w v → Short s v w
     short [] s v l h = ([], h, omega arith, λ k. good-refl (kept k) _)
     short (i ∷ w) s v l h = short-parts (i ∷ w) s v l (narrowest w i s v h)

@@ -22,11 +22,13 @@ gather-live N ks live live′ S v (suc i) f =
     ap₂ (best ks) (gather-live N ks live live′ S v i (λ j h. f j (le-step h)))
     (ap (λ (b : Bool). brings (b && eqb (N .edge i .to) v) ks (N .edge i) S) (f i (omega arith)))
 
+-- two tests that agree where a first one holds
 by-test : (a b c : Bool) → (T a → b ≡ c) → a && b ≡ a && c
 by-test true b c e = e tt
 by-test false b c e = refl
 
 module _ (N : Network) (ks : List ℕ) (fits : Fits N) (r : ℕ) (S : State) (agrees : (u : ℕ) → u < N .vertices → S u ≡ state N ks r u) where
+  -- over all usable edges
   pub pull-steps : (v : ℕ) → v < N .vertices → gather N ks (N .usable) S v (N .edges) ≡ state N ks (suc r) v
   unfolding state
   pull-steps v h = gather-same N ks (N .usable) S (state N ks r) agrees v h (N .edges) (fits .from-fits)

@@ -23,7 +23,7 @@ table =
     ∷ record { measure = Bottleneck; kept = Least; early = false }
     ∷ []
 
--- the row of a number that is no key's: it stands in no legal question
+-- the row of a number that is no key's: it stands in no legal query
 abbrev pub no-key : KeyRow
 no-key = record { measure = Edges; kept = Least; early = false }
 

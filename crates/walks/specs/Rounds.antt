@@ -34,6 +34,7 @@ extend-all [] e xs = []
 extend-all (k ∷ ks) e [] = []
 extend-all (k ∷ ks) e (x ∷ xs) = extend (measure k) e x ∷ extend-all ks e xs
 
+-- and where there is no such walk
 abbrev pub through : List ℕ → Edge → Option (List ℕ) → Option (List ℕ)
 through ks e none = none
 through ks e (some xs) = some (extend-all ks e xs)
@@ -65,13 +66,14 @@ same-list [] (y ∷ ys) = false
 same-list (x ∷ xs) [] = false
 same-list (x ∷ xs) (y ∷ ys) = eqb x y && same-list xs ys
 
+-- the same of a vertex, which may hold none
 abbrev pub same : Option (List ℕ) → Option (List ℕ) → Bool
 same none none = true
 same none (some ys) = false
 same (some xs) none = false
 same (some xs) (some ys) = same-list xs ys
 
--- whether a place has a walk
+-- whether there are figures: a walk leads here
 abbrev pub reached : Option (List ℕ) → Bool
 reached none = false
 reached (some xs) = true
@@ -81,14 +83,17 @@ pub record Marked : Type 0 where
   pub holds : State
   pub changed : ℕ → Bool
 
+-- one round
 abbrev pub push-round : Network → List ℕ → Marked → State
 push-round N ks p v = gather N ks (λ i. N .usable i && p .changed (N .edge i .from)) (p .holds) v (N .edges)
 
+-- each round from the one before, with the vertices that it changed
 unfoldable pub marked : Network → List ℕ → ℕ → Marked
 marked N ks zero = record { holds = λ v. initial (N .source v) ks v; changed = λ v. reached (initial (N .source v) ks v) }
 marked N ks (suc r) =
     let p = marked N ks r in record { holds = push-round N ks p; changed = λ v. not (same (push-round N ks p v) (p .holds v)) }
 
+-- the state alone
 abbrev pub pushed : Network → List ℕ → ℕ → State
 pushed N ks r = marked N ks r .holds
 

@@ -21,13 +21,14 @@ pub record Graph : Type 0 where
   pub vertices : ℕ
   pub edges : List Edge
 
+-- an edge of its four numbers; the edge of row i
 abbrev pub edge : ℕ → ℕ → ℕ → ℕ → Edge
 edge a b w c = record { from = a; to = b; weight = w; capacity = c }
 
 abbrev pub edge-at : List Edge → ℕ → Edge
 edge-at es i = getD es i (edge 0 0 0 0)
 
--- a graph as the walks of a chain see it: how many vertices and edges, each edge by its row number, the edges that a walk may take, the vertices that it may
+-- a graph as the walks of a path reduction see it: how many vertices and edges, each edge by its row number, the edges that a walk may take, the vertices that it may
 -- start at
 pub record Network : Type 0 where
   pub vertices : ℕ

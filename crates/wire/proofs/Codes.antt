@@ -1,4 +1,4 @@
--- Refusals in turn. Assumes nothing.
+-- Refusals in turn (`then`): which number comes first, and when there is none. Assumes nothing.
 use Prim.Native.Nat.{ℕ, suc}
 use mathlib.Core.Path.{_≡_, refl}
 use mathlib.Core.Bool.{Bool, true, false, cond}
@@ -7,13 +7,14 @@ use borrow.Author.Tests.{eqb-true, eqb-false, eq-eqb, ne-eqb}
 use lib.Dec.{eqb}
 use Rattle.wire.specs.Header.{then}
 
--- the first of two refusals
+-- where the first judgement refuses nothing the second counts; else the first
 pub then-none : (a b : ℕ) → a ≡ 0 → then a b ≡ b
 then-none a b e = rw (eq-eqb a 0 e)
 
 pub then-some : (a b : ℕ) → (a ≡ 0 → ⊥) → then a b ≡ a
 then-some a b n = rw (ne-eqb a 0 n)
 
+-- nothing is refused exactly where neither refuses
 pub then-zero : (a b : ℕ) → a ≡ 0 → b ≡ 0 → then a b ≡ 0
 then-zero a b p q = rw (eq-eqb a 0 p) q
 
@@ -24,6 +25,7 @@ then-both a b e = go (eqb a 0) refl e
     go true p z = (eqb-true a 0 p, z)
     go false p z = absurd (eqb-false a 0 p z)
 
+-- the second matters only where the first refuses nothing
 pub then-same : (a b c : ℕ) → (a ≡ 0 → b ≡ c) → then a b ≡ then a c
 then-same a b c h = go (eqb a 0) refl
   where

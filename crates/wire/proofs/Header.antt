@@ -10,6 +10,7 @@ use lib.Seq.{drop-cons}
 use Rattle.wire.specs.Header.{header-bytes, header-code}
 use Rattle.wire.proofs.Codes.{held, past}
 
+-- a header is accepted, where the text is long enough
 pub header-accepted : (letter least : ℕ) (l : List ℕ) → least ≤ 5 + length l → header-code letter least (header-bytes letter ++ l) ≡ 0
 unfolding header-code
 header-accepted letter least l h =
@@ -17,6 +18,7 @@ header-accepted letter least l h =
     rw (le-ltb n 5 (omega arith), le-ltb n least (omega arith), eq-eqb letter letter refl) refl
 
 module _ (letter least : ℕ) (s : List ℕ) (e : header-code letter least s ≡ 0) where
+  -- what is accepted is long enough, and begins with a header
   pub header-long : least ≤ length s
   unfolding header-code
   header-long = ltb-false _ _ (past (ltb (length s) least) 0 _ (past (ltb (length s) 5) 0 _ e .1) .0)

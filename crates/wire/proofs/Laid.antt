@@ -1,5 +1,5 @@
--- Bytes laid at the front of a buffer. Assumes nothing.
-use Prim.Native.Nat.{ℕ, _+_, _≤_, _<_, min}
+-- Bytes laid at the front of a buffer: k is how many of the first n there are. What the proof of `lay` cites. Assumes nothing.
+use Prim.Native.Nat.{ℕ, _≤_, _<_, min}
 use mathlib.Core.Path.{_≡_, refl, sym, ap, _∙_}
 use mathlib.Core.List.{List, _++_}
 use native.Mathlib.Decide.{decLe}
@@ -10,6 +10,7 @@ use lib.Seq.{take-all, take-length}
 use Rattle.wire.specs.Wire.{done, refused, reply-number, reply-buffer, fitted}
 
 module _ (s : List ℕ) (n k : ℕ) (e : k ≡ min n (length s)) where
+  -- the first k bytes are k, and are the first n
   pub front-length : length (take k s) ≡ k
   front-length = omega (arith, length-take k s)
 
@@ -23,6 +24,7 @@ module _ (s : List ℕ) (n k : ℕ) (e : k ≡ min n (length s)) where
       go (yes h) = ap (λ (j : ℕ). take j s) (let p : k ≡ n = omega arith in p)
       go (no h) = take-all k s (omega arith) ∙ sym (take-all n s (omega arith))
 
+  -- 15 where they exceed the buffer; else the number is k, and the buffer begins with them
   pub laid-short : (out : List ℕ) → length out < k → fitted (take n s) (length out) ≡ refused 15
   laid-short out h = rw (whole-length, lt-ltb (length out) k h) refl
 

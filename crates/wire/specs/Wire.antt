@@ -9,7 +9,7 @@ use lib.ListN.{length, getD, drop}
 abbrev pub Bytes : List ℕ → Type 0
 Bytes s = (i : ℕ) → getD s i 0 < 256
 
--- "All integers in the layouts are unsigned, low byte first": 16 and 32 bits at a place of a list
+-- "All integers in the layouts are unsigned, low byte first": 16 and 32 bits at index i of a list
 abbrev pub at16 : List ℕ → ℕ → ℕ
 at16 s i = getD s i 0 + 256 * getD s (i + 1) 0
 

@@ -1,4 +1,4 @@
--- What the code's proofs cite. Assumes nothing.
+-- What the loop of `keys_code` cites. Assumes nothing.
 use Prim.Native.Nat.{ℕ, zero, suc, _+_, _-_, _<_}
 use mathlib.Core.Path.{_≡_, sym, ap₂}
 use mathlib.Core.Bool.{Bool}
@@ -10,7 +10,7 @@ use lib.ListN.{getD}
 use Rattle.wire.specs.Header.{then}
 use Rattle.fields.specs.Fields.{key-code, keys-code}
 
--- one key more
+-- one key, and those after it
 pub keys-next : (n : ℕ) (s : List ℕ) (i : ℕ) → 0 < n → keys-code n s i ≡ then (key-code (getD s i 256) (eqb n 1)) (keys-code (n - 1) s (i + 1))
 unfolding keys-code
 keys-next zero s i h = absurd (not-suc-le-zero h)

@@ -9,6 +9,7 @@ use Rattle.wire.specs.Header.{header-code}
 use Rattle.wire.proofs.Codes.{past, then-both}
 use Rattle.fields.specs.Fields.{kind-code, opening-code}
 
+-- an accepted opening has an accepted header and the kind 0 or 1
 pub opening-found : (letter : ℕ) (s : List ℕ) → opening-code letter s ≡ 0 → (header-code letter 5 s ≡ 0) × (getD s 5 256 ≤ 1)
 opening-found letter s e =
     let p = then-both (header-code letter 5 s) (kind-code (getD s 5 256)) e in

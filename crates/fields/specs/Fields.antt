@@ -23,7 +23,7 @@ code-of b most = cond (ltb 255 b) 1 (cond (eqb b 0) 9 (cond (ltb most b) 9 0))
 abbrev pub key-code : ℕ → Bool → ℕ
 key-code b last = cond (ltb 255 b) 1 (cond (known b) (cond last 0 (cond (early b) 0 10)) 9)
 
--- n keys from place i on
+-- n keys from byte i on
 unfoldable pub keys-code : ℕ → List ℕ → ℕ → ℕ
 keys-code zero s i = 0
 keys-code (suc n) s i = then (key-code (getD s i 256) (eqb n 0)) (keys-code n s (i + 1))
@@ -32,7 +32,7 @@ keys-code (suc n) s i = then (key-code (getD s i 256) (eqb n 0)) (keys-code n s 
 abbrev pub source-code : ℕ → ℕ → ℕ
 source-code low high = cond (ltb 255 high) 1 (cond (ltb (low + 256 * high) 256) 0 (cond (eqb (low + 256 * high) 65535) 0 13))
 
--- "key count 1 to 3, the keys, a 16-bit start", the key count at place i
+-- "key count 1 to 3, the keys, a 16-bit start", the key count at byte i
 unfoldable pub path-code : List ℕ → ℕ → ℕ
 path-code s i =
     let n = getD s i 256 in
@@ -42,11 +42,15 @@ path-code s i =
 abbrev pub used : ℕ → ℕ → ℕ → ℕ
 used n j b = cond (ltb j n) b 0
 
--- six bytes as one number: "key count, three key bytes with unused ones 0, 16-bit start"
-abbrev pub packed : ℕ → ℕ → ℕ → ℕ → ℕ → ℕ → ℕ
-packed n a b c low high = n + 256 * a + 65536 * b + 16777216 * c + 4294967296 * (low + 256 * high)
+-- a path reduction as one number, the six bytes that it has in a worksheet: "key count, three key bytes with unused ones 0, 16-bit start"
+abbrev pub as-word : ℕ → ℕ → ℕ → ℕ → ℕ → ℕ
+as-word n a b c source = n + 256 * a + 65536 * b + 16777216 * c + 4294967296 * source
 
--- the path reduction at place i, packed as in a worksheet
+-- the same of the bytes
+abbrev pub packed : ℕ → ℕ → ℕ → ℕ → ℕ → ℕ → ℕ
+packed n a b c low high = as-word n a b c (low + 256 * high)
+
+-- the path reduction at byte i, packed as in a worksheet
 unfoldable pub path-word : List ℕ → ℕ → ℕ
 path-word s i =
     let n = getD s i 256 in

@@ -3,7 +3,6 @@ use Prim.Native.Nat.{ℕ, zero, suc, _+_, _≤_, _<_}
 use mathlib.Core.Path.{_≡_, refl, sym, ap, ap₂, _∙_, subst}
 use mathlib.Core.Bool.{Bool, true, false, cond}
 use mathlib.Core.List.{List, [], _∷_, _++_, append-assoc, append-nil}
-use mathlib.Core.Option.{none}
 use native.Mathlib.Omega.{arith}
 use borrow.Author.Tests.{ltb-false, leb-false, eqb-true, eqb-false, le-ltb, lt-leb, eq-eqb, ne-eqb}
 use lib.Dec.{leb, ltb, eqb}
@@ -17,7 +16,7 @@ use Rattle.terms.specs.declared.Walk.{Walk}
 use Rattle.terms.specs.Terms.{blank, ended, leaf-step, leaf-tag, literal-tag, read, started}
 use Rattle.term_text.specs.Text.{expression-bytes}
 use Rattle.term_text.proofs.Ends.{ended-code, ended-whole, no-rest, started-table}
-use Rattle.terms.proofs.Laws.{handed-on}
+use Rattle.terms.proofs.Laws.{read-accepted}
 use Rattle.term_text.proofs.Paths.{drop-at, nth, present}
 use Rattle.term_text.proofs.Steps.{drop-on, there}
 use Rattle.term_text.proofs.Table.{Table}
@@ -48,6 +47,7 @@ abbrev reductions-of : Walk → ℕ
 reductions-of w = w .reductions
 
 module _ (s : List ℕ) where
+  -- a body whose entry count is right: its entries, and the final expression
   body-walk : (kind e : ℕ) (w : Walk) → w .code ≡ 0 → w .at < length s → getD s (w .at) 256 ≡ e → count-code kind e ≡ 0
       → body-scan kind s w ≡ final-scan kind s (entries-scan e kind s (moved w (w .at + 1) e))
   unfolding body-scan
@@ -163,6 +163,7 @@ module _ (s : List ℕ) (bytes : Bytes s) where
       go true true p q x = absurd (omega arith)
       go true false p q x = (leb-false (length s) (w .at) q, eqb-true (count-code kind (getD s (w .at) 256)) 0 p, x)
 
+  -- the entry count of kind 0 is 1, of kind 1 at most 8
   count-zero : (b : ℕ) → count-code 0 b ≡ 0 → b ≡ 1
   count-zero b e = go (ltb 255 b) (eqb b 1) refl e
     where
@@ -200,7 +201,7 @@ module _ (s : List ℕ) (bytes : Bytes s) where
       let few = count-few c (p .1) in
       let w1 : Walk = moved w (w .at + 1) c in
       let w2 : Walk = entries-scan c 1 s w1 in
-      let two = first-read w2 (p .2) in
+      let two = read-accepted 3 16 s w2 (p .2) in
       let t1 = moved-table w cs (w .at + 1) c tb few in
       let f = entries-sound s bytes c w1 cs z t1 (omega arith) two in
       let es = f .0 in
@@ -217,13 +218,6 @@ module _ (s : List ℕ) (bytes : Bytes s) where
         (omega (arith, f .2), f .3, subst (λ (m : ℕ). Expression m (g .0)) (a .reductions ∙ sym (f .2)) (g .3)),
         omega (arith, g .4, a .terms),
       )
-    where
-      first-read : (v : Walk) → read 3 16 s v .code ≡ 0 → v .code ≡ 0
-      first-read v q = pick (eqb (v .code) 0) refl
-        where
-          pick : (b : Bool) → eqb (v .code) 0 ≡ b → v .code ≡ 0
-          pick true x = eqb-true (v .code) 0 x
-          pick false x = sym (ap (λ (u : Walk). u .code) (handed-on 3 16 s v (eqb-false (v .code) 0 x))) ∙ q
   body-sound (suc (suc kind)) w cs k z tb n e = absurd (omega arith)
 
 -- ACCEPTED BYTES ARE THE ENCODING OF A LEGAL PLAN

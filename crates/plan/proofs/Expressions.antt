@@ -1,9 +1,8 @@
--- Expressions and entries of a plan are read exactly. Assumes nothing.
+-- Expressions and entries of a plan are read exactly: their bytes are read as they, and what is read are their bytes. Assumes nothing.
 use Prim.Native.Nat.{ℕ, zero, suc, _+_, _≤_, _<_}
 use mathlib.Core.Path.{_≡_, refl, sym, ap, _∙_, subst}
 use mathlib.Core.Bool.{Bool, true, false}
 use mathlib.Core.List.{List, [], _∷_, _++_, append-assoc}
-use mathlib.Core.Option.{none}
 use native.Mathlib.Omega.{arith}
 use borrow.Author.Tests.{leb-false, eqb-true, eqb-false, lt-leb, eq-eqb, ne-eqb}
 use lib.Dec.{leb, eqb}
@@ -32,13 +31,14 @@ pub record Passed (w w′ : Walk) (cs : List PathReduction) (n z : ℕ) : Type 0
   pub reductions : w′ .reductions ≡ w .reductions
   pub table : Table w′ cs
 
--- an expression in either place: `held` is the count that its indices stay below
+-- an expression of an entry, or a final one: `held` is the count that its indices stay below
 module _ (s : List ℕ) (m : ℕ) (held : Walk → ℕ) (kept : (w w′ : Walk) → w′ .paths ≡ w .paths → w′ .reductions ≡ w .reductions → held w′ ≡ held w)
     (is-index : (w : Walk) → leaf-step m s w ≡ index-step s w (held w)) (literal-not-leaf : eqb (literal-tag m) (leaf-tag m) ≡ false)
     (apply-not-leaf : eqb (literal-tag m + 1) (leaf-tag m) ≡ false) where
   none-put : (count : ℕ) (cs : List PathReduction) (t : Term ℕ) → put-all cs (term-paths (index-leaves m count) t) ≡ cs
   none-put count cs t = ap (put-all cs) (index-paths m count t)
 
+  -- its bytes are read as it; and what is read are its bytes
   pub expr-complete : (t : Term ℕ) (w : Walk) (cs : List PathReduction) (rest : List ℕ) → w .code ≡ 0 → Table w cs → held w ≤ 256
       → drop (w .at) s ≡ expression-bytes m t ++ rest → Expression (held w) t → w .terms + terms unit t ≤ 64
       → Passed w (read m 16 s w) cs (length (expression-bytes m t)) (terms unit t)
@@ -83,6 +83,7 @@ module _ (s : List ℕ) where
   unfolding entry-scan
   entry-walk kind w h c = rw (lt-leb (length s) (w .at) h, c) refl
 
+  -- an entry: the same
   pub entry-complete : (kind r : ℕ) (t : Term ℕ) (w : Walk) (cs : List PathReduction) (rest : List ℕ) → w .code ≡ 0 → Table w cs → reduction-code kind r ≡ 0
       → drop (w .at) s ≡ r ∷ (expression-bytes 2 t ++ rest) → Expression (length cs) t → w .terms + terms unit t ≤ 64
       → Passed w (entry-scan kind s w) cs (suc (length (expression-bytes 2 t))) (terms unit t)
@@ -121,7 +122,7 @@ module _ (s : List ℕ) where
             f .4,
           )
 
-  -- ENTRIES OF KIND 1
+  -- ENTRIES OF KIND 1 ARE READ EXACTLY
   pub entries-complete : (es : List (VertexReduction ℕ)) (w : Walk) (cs : List PathReduction) (rest : List ℕ) → w .code ≡ 0 → Table w cs → All (EntryLegal (length cs)) es
       → drop (w .at) s ≡ entries-bytes es ++ rest → w .terms + entry-terms es ≤ 64
       → Passed w (entries-scan (length es) 1 s w) cs (length (entries-bytes es)) (entry-terms es)
@@ -150,6 +151,7 @@ module _ (s : List ℕ) where
   entries-refused zero kind w n = refl
   entries-refused (suc k) kind w n = rw (ne-eqb (w .code) 0 n) refl
 
+  -- k legal entries whose bytes stand next
   abbrev Entries : ℕ → Walk → List PathReduction → Type 0
   Entries k w cs =
       (es : List (VertexReduction ℕ)) × (rest : List ℕ) × (length es ≡ k) × All (EntryLegal (length cs)) es × (drop (w .at) s ≡ entries-bytes es ++ rest) × (w .terms + entry-terms es ≤ 64)

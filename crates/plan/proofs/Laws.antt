@@ -1,4 +1,4 @@
--- What the loops cite: one more path reduction, one more entry. Assumes nothing.
+-- What the loops of `rows` and `entries` cite: one path reduction or entry and those after it, and none left. Assumes nothing.
 use Prim.Native.Nat.{ℕ, zero, suc, _-_, _<_}
 use mathlib.Core.Path.{_≡_, refl, ap}
 use mathlib.Core.Bool.{cond}

@@ -34,6 +34,7 @@ pub rows-size : (cs : List PathReduction) → length (rows-bytes cs) ≡ 6 * len
 rows-size [] = refl
 rows-size (c ∷ cs) = omega (arith, rows-size cs)
 
+-- a filler byte is 0
 pub filler-zero : (b : ℕ) → filler-code b ≡ 0 → b ≡ 0
 filler-zero b e = go (ltb 255 b) (eqb b 0) refl e
   where
@@ -42,7 +43,7 @@ filler-zero b e = go (ltb 255 b) (eqb b 0) refl e
     go false true p z = eqb-true b 0 p
     go false false p z = absurd (omega arith)
 
--- one, two or three keys
+-- the three key bytes of one, two or three keys
 abbrev Three : List ℕ → ℕ → ℕ → ℕ → Type 0
 Three ks a b c = (getD ks 0 0 ≡ a) × (getD ks 1 0 ≡ b) × (getD ks 2 0 ≡ c)
 
@@ -102,7 +103,8 @@ module _ (s : List ℕ) where
     at : (j k x : ℕ) → k ≡ i + j → getD (row-bytes c ++ rest) j 256 ≡ x → getD s k 256 ≡ x
     at j k x p q = rw (nth s i j k 256 p, e) q
 
-    pub row-accepted : row-code s i ≡ 0
+    -- the bytes of a legal one are accepted, and give its number
+    row-accepted : row-code s i ≡ 0
     unfolding row-code
     row-accepted =
         let k = keys-fine (c .keys) (fits .0) in
@@ -112,7 +114,7 @@ module _ (s : List ℕ) where
         (then-zero _ _ (code-zero n 3 (leb→le 1 n (p .0)) (leb→le n 3 (p .1)) (omega arith))
         (then-zero _ _ (k .0) (then-zero _ _ (k .1) (then-zero _ _ (k .2) (source-zero (c .source) (fits .1))))))
 
-    pub row-numbered : row-word s i ≡ path-number c
+    row-numbered : row-word s i ≡ path-number c
     unfolding row-word
     row-numbered =
         rw (at 0 i (length (c .keys)) (omega arith) refl, at 1 (i + 1) (getD (c .keys) 0 0) refl refl, at 2 (i + 2) (getD (c .keys) 1 0) refl refl, at 3 (i + 3) (getD (c .keys) 2 0) refl refl, at 4 (i + 4) (c .source % 256) refl refl, at 5 (i + 5) (c .source / 256 % 256) refl refl)
@@ -121,6 +123,7 @@ module _ (s : List ℕ) where
   next-byte : (i j : ℕ) → i < length s → i + 1 ≡ j → drop i s ≡ getD s i 256 ∷ drop j s
   next-byte i j l e = drop-at s i l ∙ ap (λ (m : ℕ). getD s i 256 ∷ drop m s) e
 
+  -- six bytes that are there
   six : (i : ℕ) → i + 5 < length s
       → drop i s ≡ getD s i 256 ∷ getD s (i + 1) 256 ∷ getD s (i + 2) 256 ∷ getD s (i + 3) 256 ∷ getD s (i + 4) 256 ∷ getD s (i + 5) 256 ∷ drop (i + 6) s
   six i h =
@@ -131,7 +134,8 @@ module _ (s : List ℕ) where
       ∙ ap (λ (l : List ℕ). getD s (i + 3) 256 ∷ l) (next-byte (i + 4) (i + 5) (omega arith) (omega arith)
       ∙ ap (λ (l : List ℕ). getD s (i + 4) 256 ∷ l) (next-byte (i + 5) (i + 6) h (omega arith))))))
 
-  pub row-found : Bytes s → (i : ℕ) → row-code s i ≡ 0 → (c : PathReduction) × PathFits 256 c × (drop i s ≡ row-bytes c ++ drop (i + 6) s)
+  -- accepted bytes are those of a legal one
+  row-found : Bytes s → (i : ℕ) → row-code s i ≡ 0 → (c : PathReduction) × PathFits 256 c × (drop i s ≡ row-bytes c ++ drop (i + 6) s)
   unfolding row-code
   row-found bytes i e =
       let n = getD s i 256 in
@@ -193,6 +197,7 @@ module _ (s : List ℕ) where
         few-reductions = t .few-reductions;
       }
 
+  -- the bytes of legal path reductions are read as they
   pub rows-complete : (ds : List PathReduction) (w : Walk) (cs : List PathReduction) (rest : List ℕ) → w .code ≡ 0 → Table w cs → All (PathFits 256) ds
       → drop (w .at) s ≡ rows-bytes ds ++ rest → length cs + length ds ≤ 8 → RowsHeld w (rows-scan (length ds) s w) (cs ++ ds) (length (rows-bytes ds))
   unfolding rows-scan
@@ -219,7 +224,7 @@ module _ (s : List ℕ) where
   rows-refused zero w n = refl
   rows-refused (suc k) w n = rw (ne-eqb (w .code) 0 n) refl
 
-  -- what is read is legal path reductions
+  -- and what is read are the bytes of legal ones
   pub rows-sound : Bytes s → (k : ℕ) (w : Walk) (cs : List PathReduction) → w .code ≡ 0 → Table w cs → length cs + k ≤ 8 → rows-scan k s w .code ≡ 0
       → (ds : List PathReduction) × (rest : List ℕ) × (length ds ≡ k) × All (PathFits 256) ds × (drop (w .at) s ≡ rows-bytes ds ++ rest)
   unfolding rows-scan row-step blank

@@ -12,13 +12,12 @@ use Rattle.terms.specs.Terms.{leaf-tag, literal-tag}
 use Rattle.term_text.specs.Text.{expression-bytes, path-number}
 use Rattle.term_text.proofs.Paths.{number-same, source-small}
 use Rattle.term_text.proofs.Unique.{expression-split, le16-same, same-head, same-split}
-use Rattle.value.specs.Value.{number}
 use Rattle.walks.specs.Lists.{All}
-use Rattle.walks.specs.Rounds.{same}
 use Rattle.wire.specs.Header.{header-bytes}
 use Rattle.wire.specs.Wire.{le16}
 use Rattle.plan.specs.Text.{body-bytes, encode, entries-bytes, kind-of, row-bytes, rows-bytes}
 
+-- the six bytes of a path reduction, and those of several
 row-split : (c d : PathReduction) (x y : List ℕ) → PathFits 256 c → PathFits 256 d → row-bytes c ++ x ≡ row-bytes d ++ y → (c ≡ d) × (x ≡ y)
 row-split c d x y f g e =
     let n = same-head (length (c .keys)) (length (d .keys)) _ _ e in
@@ -62,6 +61,7 @@ module _ (n : ℕ) where
       let same : c ≡ d = λ i. record { reduction = a .0 i; body = b .0 i } in
       (cc (same, r .0), r .1)
 
+-- from the entry count on
 body-same : (n : ℕ) (a b : Body) → kind-of a ≡ kind-of b → BodyLegal n a → BodyLegal n b → body-bytes a ≡ body-bytes b → a ≡ b
 body-same n (each-vertex t) (each-vertex u) k f g e =
     let p = same-head 0 0 _ _ (same-head 1 1 _ _ e .1) .1 in
@@ -74,6 +74,7 @@ body-same n (one-result es t) (one-result ds u) k f g e =
     let b = final-split (length es) t u [] [] (f .2) (subst (λ (m : ℕ). Expression m u) (sym (c .0)) (g .2)) (append-nil (expression-bytes 3 t) ∙ a .1 ∙ sym (append-nil (expression-bytes 3 u))) in
     cc (a .0, b .0)
 
+-- A PLAN IS SEEN FROM ITS BYTES
 pub encode-unique : (p q : Plan) → PlanLegal 256 p → PlanLegal 256 q → encode p ≡ encode q → p ≡ q
 encode-unique p q l m e =
     let h = same-split (header-bytes 0x57) (header-bytes 0x57) _ _ refl e .1 in

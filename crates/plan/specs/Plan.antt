@@ -17,7 +17,7 @@ filler-code b = cond (ltb 255 b) 1 (cond (eqb b 0) 0 9)
 abbrev pub slot-code : ℕ → ℕ → ℕ → ℕ
 slot-code n j b = cond (ltb j n) (key-code b (eqb (j + 1) n)) (filler-code b)
 
--- "c chains of 6 bytes (key count, three key bytes with unused ones 0, 16-bit start)": the chain at place i
+-- "c chains of 6 bytes (key count, three key bytes with unused ones 0, 16-bit start)": the chain at byte i
 unfoldable pub row-code : List ℕ → ℕ → ℕ
 row-code s i =
     let n = getD s i 256 in
@@ -47,6 +47,7 @@ row-step s w =
     }))
     (blank (row-code s (w .at))))
 
+-- k of them; a refusal is handed on
 unfoldable pub rows-scan : ℕ → List ℕ → Walk → Walk
 rows-scan zero s w = w
 rows-scan (suc k) s w = cond (eqb (w .code) 0) (rows-scan k s (row-step s w)) w
@@ -65,6 +66,7 @@ entry-scan kind s w =
     let c = reduction-code kind (getD s (w .at) 256) in
     cond (leb (length s) (w .at)) (blank 1) (cond (eqb c 0) (read 2 16 s (moved w (w .at + 1) (w .reductions))) (blank c))
 
+-- k of them; a refusal is handed on
 unfoldable pub entries-scan : ℕ → ℕ → List ℕ → Walk → Walk
 entries-scan zero kind s w = w
 entries-scan (suc k) kind s w = cond (eqb (w .code) 0) (entries-scan k kind s (entry-scan kind s w)) w

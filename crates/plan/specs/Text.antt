@@ -12,6 +12,7 @@ use Rattle.wire.specs.Wire.{le16}
 abbrev pub row-bytes : PathReduction → List ℕ
 row-bytes c = length (c .keys) ∷ getD (c .keys) 0 0 ∷ getD (c .keys) 1 0 ∷ getD (c .keys) 2 0 ∷ le16 (c .source)
 
+-- "c chains"
 abbrev pub rows-bytes : List PathReduction → List ℕ
 rows-bytes [] = []
 rows-bytes (c ∷ cs) = row-bytes c ++ rows-bytes cs

@@ -16,6 +16,7 @@ abbrev pub body-bytes : Query → List ℕ
 body-bytes (each t) = 0 ∷ vertex-bytes t
 body-bytes (single t) = 1 ∷ result-bytes t
 
+-- with the header of an `LPQ` file
 abbrev pub encode : Query → List ℕ
 encode q = header-bytes 0x51 ++ body-bytes q
 

@@ -11,6 +11,7 @@ use Rattle.terms.specs.declared.Walk.{Walk}
 use Rattle.terms.specs.Terms.{blank, ended, started}
 use Rattle.term_text.proofs.Table.{Table}
 
+-- before the first term the table is empty
 pub started-table : (at : ℕ) → Table (started at) []
 unfolding started
 started-table at = record { legal = tt; count = refl; few = omega arith; rest = replicate 8 0; holds = refl; size = refl; few-reductions = omega arith }
@@ -33,6 +34,7 @@ ended-code s w e = go (eqb (w .code) 0) (ltb (w .at) (length s)) refl refl e
     go true false p q z = (z, ltb-false (w .at) (length s) q)
     go false b p q z = absurd (eqb-false (w .code) 0 p z)
 
+-- a list of no length
 pub no-rest : (r : List ℕ) → length r ≡ 0 → r ≡ []
 no-rest [] z = refl
 no-rest (x ∷ r) z = absurd (omega arith)

@@ -1,8 +1,9 @@
--- The four kinds of terms: place terms, result terms, entries and final expressions of a plan. Each is read exactly. Assumes nothing.
+-- The four kinds of terms: vertex terms (document 01: place terms), result terms, entries and final expressions of a plan. Each is read exactly: the laws
+-- of `Shape`, for each kind of leaf. Assumes nothing.
 use Prim.Native.Nat.{ℕ, zero, suc, _+_, _≤_, _<_}
 use mathlib.Core.Path.{_≡_, refl, sym, ap, ap₂, _∙_, subst}
 use mathlib.Core.Bool.{Bool, true, false}
-use mathlib.Core.List.{List, [], _∷_, _++_, append-assoc, append-nil}
+use mathlib.Core.List.{List, [], _∷_, _++_, append-nil}
 use native.Mathlib.Omega.{arith}
 use borrow.Author.Tests.{ltb-false, leb-false, eqb-true, eqb-false, le-ltb, lt-leb, eq-eqb}
 use lib.Dec.{leb, ltb, eqb}
@@ -10,6 +11,7 @@ use lib.ListN.{length, getD, drop, length-append}
 use Rattle.meaning.specs.Limits.{EveryBody, PathFits, depth, terms, unit}
 use Rattle.meaning.specs.Plan.{put-all}
 use Rattle.meaning.specs.Query.{PathReduction, ResultTerm, Term, VertexReduction, VertexTerm, apply, bodies, leaf, leaves, literal}
+use Rattle.meaning.proofs.Lists.{bodies-append}
 use Rattle.wire.specs.Wire.{Bytes, le16}
 use Rattle.terms.specs.declared.Walk.{Walk}
 use Rattle.fields.specs.Fields.{code-of, path-code}
@@ -21,10 +23,11 @@ use Rattle.term_text.proofs.Shape.{After, Complete, LeafSound, Leaves, 
 use Rattle.term_text.proofs.Steps.{drop-on, read-by, step-is, table-advanced, tag-there, there}
 use Rattle.term_text.proofs.Table.{Table, kept-few, kept-room}
 
--- place terms: the leaves are path reductions
+-- vertex terms: the leaves are path reductions
 abbrev pub vertex-leaves : Leaves PathReduction
 vertex-leaves = record { bytes = λ c. 0x10 ∷ path-bytes c; size = unit; deep = unit; paths = λ c. c ∷ []; count = λ c. 0; fine = PathFits 256 }
 
+-- its path reductions are the leaves, and there is no reduction in it
 pub vertex-paths : (t : VertexTerm) → term-paths vertex-leaves t ≡ leaves t
 vertex-paths (leaf c) = refl
 vertex-paths (literal k) = refl
@@ -40,6 +43,7 @@ abbrev Always : Walk → Type 0
 Always w = Unit {0}
 
 module _ (s : List ℕ) where
+  -- a leaf is read by its step
   path-walk : (d : ℕ) (w : Walk) → w .code ≡ 0 → w .at < length s → w .terms < 64 → getD s (w .at) 0 ≡ 0x10
       → read 0 (suc d) s w ≡ path-step s w .walk
   unfolding leaf-tag leaf-step path-step
@@ -98,7 +102,7 @@ module _ (s : List ℕ) where
             record { fine = f .1; shallow = omega arith; terms = omega arith; paths = few; reductions = omega (arith, t .few-reductions) },
           )
 
-  -- PLACE TERMS ARE READ EXACTLY
+  -- VERTEX TERMS ARE READ EXACTLY
   pub vertex-complete : (t : VertexTerm) → Complete vertex-leaves s 0 Always t
   unfolding literal-tag leaf-tag
   vertex-complete = term-complete vertex-leaves s 0 Always (λ w n r. tt) (λ w w′ cs t r b a. tt) refl refl path-complete
@@ -107,7 +111,7 @@ module _ (s : List ℕ) where
   unfolding literal-tag leaf-tag
   vertex-sound bytes = term-sound vertex-leaves s 0 Always (λ w n r. tt) (λ w w′ cs t r b a. tt) refl refl bytes path-complete (path-sound bytes)
 
--- result terms: the leaves are reductions of place terms
+-- result terms: the leaves are reductions of vertex terms
 abbrev pub result-leaves : Leaves (VertexReduction PathReduction)
 result-leaves = record {
   bytes = λ e. 0x20 ∷ e .reduction ∷ vertex-bytes (e .body);
@@ -118,10 +122,7 @@ result-leaves = record {
   fine = EveryBody (PathFits 256);
 }
 
-bodies-append : (es ds : List (VertexReduction PathReduction)) → bodies (es ++ ds) ≡ bodies es ++ bodies ds
-bodies-append [] ds = refl
-bodies-append (e ∷ es) ds = ap (λ (l : List PathReduction). leaves (e .body) ++ l) (bodies-append es ds) ∙ sym (append-assoc (leaves (e .body)) (bodies es) (bodies ds))
-
+-- its path reductions are those of the bodies, and its reductions are the leaves
 pub result-paths : (t : ResultTerm) → term-paths result-leaves t ≡ bodies (leaves t)
 result-paths (leaf e) = sym (append-nil (leaves (e .body)))
 result-paths (literal k) = refl
@@ -141,6 +142,7 @@ module _ (s : List ℕ) where
   unfolding under
   table-under w cs t h = record { legal = t .legal; count = t .count; few = t .few; rest = t .rest; holds = t .holds; size = t .size; few-reductions = omega arith }
 
+  -- a reduction is read by its step, and its body after it
   reduce-is : (d : ℕ) (w : Walk) → w .at < length s → w .terms < 64 → getD s (w .at) 0 ≡ 0x20 → term-step 1 (suc d) s w ≡ reduce-step s w
   unfolding leaf-tag leaf-step
   reduce-is d w h k tag = step-is s 1 d w h k ∙ rw tag refl
@@ -233,6 +235,7 @@ abbrev pub index-leaves : ℕ → ℕ → Leaves ℕ
 index-leaves m count = record { bytes = λ i. leaf-tag m ∷ i ∷ []; size = unit; deep = unit; paths = λ i. []; count = λ i. 0; fine = λ i. i < count }
 
 module _ (m count : ℕ) where
+  -- neither path reductions nor reductions are in it
   pub index-paths : (t : Term ℕ) → term-paths (index-leaves m count) t ≡ []
   index-paths (leaf c) = refl
   index-paths (literal k) = refl
@@ -247,6 +250,7 @@ module _ (s : List ℕ) (m count : ℕ) (few : count ≤ 256) (held : Walk → �
     (kept : (w w′ : Walk) → w′ .paths ≡ w .paths → w′ .reductions ≡ w .reductions → held w′ ≡ held w)
     (is-index : (w : Walk) → leaf-step m s w ≡ index-step s w (held w))
     (literal-not-leaf : eqb (literal-tag m) (leaf-tag m) ≡ false) (apply-not-leaf : eqb (literal-tag m + 1) (leaf-tag m) ≡ false) where
+  -- the state holds the count
   abbrev pub Counts : Walk → Type 0
   Counts w = held w ≡ count
 
@@ -259,6 +263,7 @@ module _ (s : List ℕ) (m count : ℕ) (few : count ≤ 256) (held : Walk → �
       let p = ap (λ (l : List PathReduction). length (put-all cs l)) (index-paths m count t) in
       kept w w′ (omega (arith, a .table .count, b .count)) (omega (arith, a .reductions, index-count m count t)) ∙ r
 
+  -- an index is read by its step
   index-is : (d : ℕ) (w : Walk) → w .at < length s → w .terms < 64 → getD s (w .at) 0 ≡ leaf-tag m → term-step m (suc d) s w ≡ index-step s w (held w)
   index-is d w h k tag = step-is s m d w h k ∙ rw (tag, eq-eqb (leaf-tag m) (leaf-tag m) refl) (is-index w)
 

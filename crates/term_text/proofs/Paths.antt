@@ -18,14 +18,15 @@ use Rattle.walks.proofs.Tests.{and-both, and-left, and-right}
 use Rattle.wire.specs.Header.{then}
 use Rattle.wire.specs.Wire.{Bytes, le16}
 use Rattle.wire.proofs.Codes.{then-both, then-zero}
-use Rattle.fields.specs.Fields.{code-of, key-code, keys-code, path-code, path-word, source-code, used}
+use Rattle.fields.specs.Fields.{as-word, code-of, key-code, keys-code, packed, path-code, path-word, source-code, used}
 use Rattle.term_text.specs.Text.{path-bytes, path-number}
 use Rattle.wire.proofs.Past.{getD-any, getD-past}
 
--- a byte by its place in the rest
+-- a byte of the rest from i on, by its index there
 pub nth : (s : List ℕ) (i j k d : ℕ) → k ≡ i + j → getD s k d ≡ getD (drop i s) j d
 nth s i j k d e = rw e (sym (getD-drop i s j d))
 
+-- a legal source has 16 bits
 pub source-small : (c : PathReduction) → PathFits 256 c → c .source < 65536
 source-small c f = go (f .1)
   where
@@ -33,10 +34,11 @@ source-small c f = go (f .1)
     go (inl h) = omega arith
     go (inr h) = omega arith
 
--- codes that are 0
-not-here : {A : Type 0} (k n : ℕ) → suc k ≡ n → n ≡ 0 → A
-not-here k n e z = absurd (omega arith)
+-- a refusal is not 0
+not-zero : {A : Type 0} (k n : ℕ) → suc k ≡ n → n ≡ 0 → A
+not-zero k n e z = absurd (omega arith)
 
+-- a byte from 1 to `most` is not refused; and what is not refused is one
 pub code-zero : (b most : ℕ) → 1 ≤ b → b ≤ most → most ≤ 255 → code-of b most ≡ 0
 code-zero b most h k l = rw (le-ltb 255 b (omega arith), ne-eqb b 0 (λ e. omega arith), le-ltb most b k) refl
 
@@ -44,14 +46,14 @@ pub code-range : (b most : ℕ) → code-of b most ≡ 0 → (b ≤ 255) × (1 �
 code-range b most e = go (ltb 255 b) (eqb b 0) (ltb most b) refl refl refl e
   where
     go : (x y z : Bool) → ltb 255 b ≡ x → eqb b 0 ≡ y → ltb most b ≡ z → _≡_ {A = ℕ} (cond x 1 (cond y 9 (cond z 9 0))) 0 → (b ≤ 255) × (1 ≤ b) × (b ≤ most)
-    go true y z p q r c = not-here 0 1 refl c
-    go false true z p q r c = not-here 8 9 refl c
-    go false false true p q r c = not-here 8 9 refl c
+    go true y z p q r c = not-zero 0 1 refl c
+    go false true z p q r c = not-zero 8 9 refl c
+    go false false true p q r c = not-zero 8 9 refl c
     go false false false p q r c =
         let n = eqb-false b 0 q in
         (ltb-false 255 b p, omega arith, ltb-false most b r)
 
--- a key
+-- the same of a key
 known-range : (k : ℕ) → T (known k) → (1 ≤ k) × (k ≤ 6)
 known-range k t = (leb→le 1 k (and-left (leb 1 k) (leb k 6) t), leb→le k 6 (and-right (leb 1 k) (leb k 6) t))
 
@@ -71,13 +73,13 @@ pub key-known : (k : ℕ) (last : Bool) → key-code k last ≡ 0 → T (known k
 key-known k last e = go (ltb 255 k) (known k) refl last (early k) e
   where
     go : (x y : Bool) → known k ≡ y → (a b : Bool) → _≡_ {A = ℕ} (cond x 1 (cond y (cond a 0 (cond b 0 10)) 9)) 0 → T y × T (a || b)
-    go true y p a b c = not-here 0 1 refl c
+    go true y p a b c = not-zero 0 1 refl c
     go false true p true b c = (tt, tt)
     go false true p false true c = (tt, tt)
-    go false true p false false c = not-here 9 10 refl c
-    go false false p a b c = not-here 8 9 refl c
+    go false true p false false c = not-zero 9 10 refl c
+    go false false p a b c = not-zero 8 9 refl c
 
--- a source
+-- and of a source
 pub source-zero : (v : ℕ) → (v < 256) ⊎ (v ≡ 65535) → source-code (v % 256) (v / 256 % 256) ≡ 0
 source-zero v (inl h) =
     let l : v % 256 ≡ v = omega arith in
@@ -90,10 +92,10 @@ source-range low high e = go (ltb 255 high) (ltb (low + 256 * high) 256) (eqb (l
   where
     go : (x y z : Bool) → ltb 255 high ≡ x → ltb (low + 256 * high) 256 ≡ y → eqb (low + 256 * high) 65535 ≡ z → _≡_ {A = ℕ} (cond x 1 (cond y 0 (cond z 0 13))) 0
         → (high ≤ 255) × ((low + 256 * high < 256) ⊎ (low + 256 * high ≡ 65535))
-    go true y z p q r c = not-here 0 1 refl c
+    go true y z p q r c = not-zero 0 1 refl c
     go false true z p q r c = (ltb-false 255 high p, inl (ltb-true (low + 256 * high) 256 q))
     go false false true p q r c = (ltb-false 255 high p, inr (eqb-true (low + 256 * high) 65535 r))
-    go false false false p q r c = not-here 12 13 refl c
+    go false false false p q r c = not-zero 12 13 refl c
 
 -- the fields of a legal path reduction: one, two or three keys
 pub legal-parts : (ks : List ℕ) → T (legal-keys ks) → T (leb 1 (length ks)) × T (leb (length ks) 3) × T (all-known ks) × T (in-order ks)
@@ -106,11 +108,7 @@ legal-parts ks t =
       and-right (leb 1 (length ks) && leb (length ks) 3 && all-known ks) (in-order ks) t,
     )
 
-or-right : (a b : Bool) → T b → T (a || b)
-or-right true b t = tt
-or-right false b t = t
-
--- two digits
+-- the lowest digit of a number, and the rest; two bytes of 16 bits
 pub digits : (a b x y : ℕ) → a < 256 → b < 256 → a + 256 * x ≡ b + 256 * y → (a ≡ b) × (x ≡ y)
 digits a b x y h k e = (omega arith, omega arith)
 
@@ -136,6 +134,7 @@ module _ (s : List ℕ) where
       drop-next : (i x : ℕ) (l : List ℕ) → drop i s ≡ x ∷ l → drop (i + 1) s ≡ l
       drop-next i x l e = sym (drop-drop 1 i s) ∙ ap (drop 1) e
 
+  -- what is no 256 is there
   pub present : (i : ℕ) → getD s i 256 ≤ 255 → i < length s
   present i h = go (decLt i (length s))
     where
@@ -143,9 +142,11 @@ module _ (s : List ℕ) where
       go (yes l) = l
       go (no l) = absurd (omega (arith, getD-past s i 256 (omega arith)))
 
+  -- the rest from a byte that is there
   pub drop-at : (i : ℕ) → i < length s → drop i s ≡ getD s i 256 ∷ drop (i + 1) s
   drop-at i h = rw add-one (drop-cons s i 256 h)
 
+  -- n legal keys from byte i on
   abbrev Keys : ℕ → ℕ → Type 0
   Keys n i = (ks : List ℕ) × (length ks ≡ n) × (drop i s ≡ ks ++ drop (i + n) s) × T (all-known ks) × T (in-order ks)
 
@@ -208,6 +209,7 @@ module _ (s : List ℕ) where
 
   -- THOSE OF A LEGAL ONE ARE ACCEPTED, and give its number
   module _ (c : PathReduction) (fits : PathFits 256 c) (i : ℕ) (rest : List ℕ) (e : drop i s ≡ path-bytes c ++ rest) where
+    -- its count, its keys and its source stand where they should
     pub path-count : getD s i 256 ≡ length (c .keys)
     path-count = rw (nth s i 0 i 256 (omega arith), e) refl
 
@@ -233,9 +235,6 @@ module _ (s : List ℕ) where
     unfolding path-word
     path-numbered = rw (path-count, low, high) (go (c .keys) keys-there (legal-parts (c .keys) (fits .0) .0) (legal-parts (c .keys) (fits .0) .1))
       where
-        n : ℕ
-        n = length (c .keys)
-
         low : getD s (i + 1 + length (c .keys)) 256 ≡ c .source % 256
         low = rw (nth s (i + 1 + length (c .keys)) 0 (i + 1 + length (c .keys)) 256 (omega arith), source-there) refl
 
@@ -246,9 +245,8 @@ module _ (s : List ℕ) where
         key j k x p l q r = rw (nth s (i + 1) j k 256 p, q) r
 
         go : (ks : List ℕ) → drop (i + 1) s ≡ ks ++ (le16 (c .source) ++ rest) → T (leb 1 (length ks)) → T (leb (length ks) 3)
-            → length ks + 256 * getD s (i + 1) 256 + 65536 * used (length ks) 1 (getD s (i + 2) 256) + 16777216 * used (length ks) 2 (getD s (i + 3) 256)
-            + 4294967296 * (c .source % 256 + 256 * (c .source / 256 % 256))
-            ≡ length ks + 256 * getD ks 0 0 + 65536 * getD ks 1 0 + 16777216 * getD ks 2 0 + 4294967296 * c .source
+            → packed (length ks) (getD s (i + 1) 256) (used (length ks) 1 (getD s (i + 2) 256)) (used (length ks) 2 (getD s (i + 3) 256)) (c .source % 256) (c .source / 256 % 256)
+            ≡ as-word (length ks) (getD ks 0 0) (getD ks 1 0) (getD ks 2 0) (c .source)
         go [] e a b = absurd a
         go (x ∷ []) e a b = rw (key 0 (i + 1) x (omega arith) _ e refl) (omega (arith, source-small c fits))
         go (x ∷ (y ∷ [])) e a b = rw (key 0 (i + 1) x (omega arith) _ e refl, key 1 (i + 2) y (omega arith) _ e refl) (omega (arith, source-small c fits))
@@ -256,10 +254,9 @@ module _ (s : List ℕ) where
             rw (key 0 (i + 1) x (omega arith) _ e refl, key 1 (i + 2) y (omega arith) _ e refl, key 2 (i + 3) z (omega arith) _ e refl) (omega (arith, source-small c fits))
         go (x ∷ (y ∷ (z ∷ (t ∷ ks)))) e a b = absurd (omega (arith, leb→le (suc (suc (suc (suc (length ks))))) 3 b))
 
--- DIFFERENT LEGAL PATH REDUCTIONS HAVE DIFFERENT NUMBERS
+-- the five parts of a number are seen from it
 module _ (n a b c s n′ a′ b′ c′ s′ : ℕ) (h : n < 256) (h′ : n′ < 256) (ha : a < 256) (ha′ : a′ < 256) (hb : b < 256) (hb′ : b′ < 256) (hc : c < 256) (hc′ : c′ < 256) where
-  pub five-digits : n + 256 * a + 65536 * b + 16777216 * c + 4294967296 * s ≡ n′ + 256 * a′ + 65536 * b′ + 16777216 * c′ + 4294967296 * s′
-      → (n ≡ n′) × (a ≡ a′) × (b ≡ b′) × (c ≡ c′) × (s ≡ s′)
+  pub five-digits : as-word n a b c s ≡ as-word n′ a′ b′ c′ s′ → (n ≡ n′) × (a ≡ a′) × (b ≡ b′) × (c ≡ c′) × (s ≡ s′)
   five-digits e =
       let p = digits n n′ (a + 256 * b + 65536 * c + 16777216 * s) (a′ + 256 * b′ + 65536 * c′ + 16777216 * s′) h h′ (omega arith) in
       let q = digits a a′ (b + 256 * c + 65536 * s) (b′ + 256 * c′ + 65536 * s′) ha ha′ (omega (arith, p .1)) in
@@ -273,6 +270,7 @@ key-byte [] t i = omega arith
 key-byte (k ∷ ks) t zero = omega (arith, known-range k (and-left (known k) (all-known ks) t))
 key-byte (k ∷ ks) t (suc i) = key-byte ks (and-right (known k) (all-known ks) t) i
 
+-- at most three keys, each the same
 same-keys : (ks js : List ℕ) → length ks ≡ length js → length ks ≤ 3 → getD ks 0 0 ≡ getD js 0 0 → getD ks 1 0 ≡ getD js 1 0 → getD ks 2 0 ≡ getD js 2 0 → ks ≡ js
 same-keys ks js e l p q r = ext-getD 0 ks js e at
   where
@@ -282,6 +280,7 @@ same-keys ks js e l p q r = ext-getD 0 ks js e at
     at (suc (suc zero)) h = r
     at (suc (suc (suc i))) h = absurd (omega arith)
 
+-- DIFFERENT LEGAL PATH REDUCTIONS HAVE DIFFERENT NUMBERS
 pub number-same : (c d : PathReduction) → PathFits 256 c → PathFits 256 d → path-number c ≡ path-number d → c ≡ d
 number-same c d f g e = λ i. record { keys = ks i; source = x .4 i }
   where

@@ -18,7 +18,7 @@ use Rattle.fields.specs.Fields.{code-of}
 use Rattle.terms.specs.Terms.{advanced, apply-step, blank, leaf-tag, literal-step, literal-tag, read, stopped, term-step}
 use Rattle.term_text.specs.Text.{term-bytes}
 use Rattle.wire.proofs.Past.{getD-any}
-use Rattle.terms.proofs.Laws.{handed-on}
+use Rattle.terms.proofs.Laws.{read-accepted}
 use Rattle.term_text.proofs.Paths.{code-range, code-zero, drop-at, nth, present}
 use Rattle.term_text.proofs.Steps.{drop-on, four-bytes, read-by, read-flat, read-starts, step-is, table-advanced, tag-there, there}
 use Rattle.term_text.proofs.Table.{Table}
@@ -33,6 +33,7 @@ pub record Leaves (A : Type 0) : Type 1 where
   pub fine : A → Type 0
 
 module _ {A : Type 0} (K : Leaves A) where
+  -- the path reductions of a term as written, and how many reductions are in it
   abbrev pub term-paths : Term A → List PathReduction
   term-paths (leaf a) = K .paths a
   term-paths (literal k) = []
@@ -59,6 +60,7 @@ module _ {A : Type 0} (K : Leaves A) where
     pub reductions : w′ .reductions ≡ w .reductions + term-count t
     pub table : Table w′ (put-all cs (term-paths t))
 
+-- path reductions put after others take no room away
 put-all-grows : (cs ds : List PathReduction) → length cs ≤ length (put-all cs ds)
 put-all-grows cs [] = omega arith
 put-all-grows cs (d ∷ ds) = omega (arith, grows (among d cs), put-all-grows (put cs d) ds)
@@ -222,16 +224,10 @@ module _ {A : Type 0} (K : Leaves A) (s : List ℕ) (m : ℕ) (Ready : Walk → 
       unfolding apply-step advanced
       apply-found complete ih ready tag = go (eqb (code-of (getD s (w .at + 1) 256) 11) 0) refl
         where
-          o : ℕ
-          o = getD s (w .at + 1) 256
-
           step : term-step m (suc d) s w ≡ apply-step s w
           step =
               step-is s m d w h k
               ∙ rw (tag, apply-not-leaf, ne-eqb (literal-tag m + 1) (literal-tag m) (λ p. omega arith), eq-eqb (literal-tag m + 1) (literal-tag m + 1) refl) refl
-
-          w1 : Walk
-          w1 = advanced w (w .at + 1 + 1)
 
           both : (lo : 1 ≤ getD s (w .at + 1) 256) (hi : getD s (w .at + 1) 256 ≤ 11) (l : w .at + 1 < length s) (r : read m (suc d) s w ≡ read m d s (read m d s (advanced w (w .at + 1 + 1))))
               (f : Found K s m Ready d (advanced w (w .at + 1 + 1)) cs) → Found K s m Ready (suc d) w cs
@@ -266,14 +262,7 @@ module _ {A : Type 0} (K : Leaves A) (s : List ℕ) (m : ℕ) (Ready : Walk → 
               let c = code-range (getD s (w .at + 1) 256) 11 (eqb-true (code-of (getD s (w .at + 1) 256) 11) 0 p) in
               let r = read-by s m d w z (record { walk = advanced w (w .at + 1 + 1); follow = 2 }) (step ∙ rw p refl) in
               both (c .1) (c .2) (present s (w .at + 1) (c .0)) r
-              (ih (advanced w (w .at + 1 + 1)) cs z (table-advanced w cs (w .at + 1 + 1) t) (on w (w .at + 1 + 1) ready) (first-read (read m d s (advanced w (w .at + 1 + 1))) (sym (ap (λ (v : Walk). v .code) r) ∙ e)))
-            where
-              first-read : (v : Walk) → read m d s v .code ≡ 0 → v .code ≡ 0
-              first-read v q = pick (eqb (v .code) 0) refl
-                where
-                  pick : (b : Bool) → eqb (v .code) 0 ≡ b → v .code ≡ 0
-                  pick true x = eqb-true (v .code) 0 x
-                  pick false x = sym (ap (λ (u : Walk). u .code) (handed-on m d s v (eqb-false (v .code) 0 x))) ∙ q
+              (ih (advanced w (w .at + 1 + 1)) cs z (table-advanced w cs (w .at + 1 + 1) t) (on w (w .at + 1 + 1) ready) (read-accepted m d s (read m d s (advanced w (w .at + 1 + 1))) (sym (ap (λ (v : Walk). v .code) r) ∙ e)))
 
     -- WHAT IS READ IS A LEGAL TERM
     pub term-sound : ((a : A) → Complete K s m Ready (leaf a)) → LeafSound K s m Ready → (d : ℕ) → Sound K s m Ready d

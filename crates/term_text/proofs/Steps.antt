@@ -17,7 +17,7 @@ use Rattle.terms.proofs.Laws.{read-next}
 use Rattle.term_text.proofs.Paths.{digits, nth, two-bytes}
 use Rattle.term_text.proofs.Table.{Table}
 
--- a byte that stands there
+-- a rest that begins with x: there is a byte, it is x, and behind a text of n bytes stands what follows
 pub there : (s : List ℕ) (i x : ℕ) (l : List ℕ) → drop i s ≡ x ∷ l → i < length s
 there s i x l e = omega (arith, length-drop i s, ap length e)
 
@@ -42,6 +42,7 @@ module _ (s : List ℕ) (m : ℕ) where
       cond (eqb tag (leaf-tag m)) (leaf-step m s w)
       (cond (eqb tag (literal-tag m)) (literal-step s w) (cond (eqb tag (literal-tag m + 1)) (apply-step s w) (stopped 9)))
 
+  -- a step within the limits goes by the tag; and a term is read by its step
   pub step-is : (d : ℕ) (w : Walk) → w .at < length s → w .terms < 64 → term-step m (suc d) s w ≡ tagged (getD s (w .at) 0) w
   unfolding term-step
   step-is d w h k = rw (lt-leb (length s) (w .at) h, lt-leb 64 (w .terms) k, ne-eqb (suc d) 0 (λ e. omega arith)) refl

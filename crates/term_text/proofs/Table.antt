@@ -40,9 +40,11 @@ same-number c d f g = go (same-path c d) refl
     go false e = ne-eqb (path-number d) (path-number c) (λ p. subst T e (subst (λ (x : PathReduction). T (same-path c x)) (number-same c d f g (sym p)) (path-refl c)))
 
 module _ (c : PathReduction) (f : PathFits 256 c) (table : List ℕ) where
+  -- the search from slot i on ends at the position in ds
   abbrev At : ℕ → List PathReduction → ℕ → ℕ → Type 0
   At k ds p i = slot-of k p table (path-number c) i ≡ i + position c ds
 
+  -- the slot found is the position, from `pre` on
   slot-position : (ds : List PathReduction) → All (PathFits 256) ds → (pre rest : List ℕ) → table ≡ pre ++ (map path-number ds ++ rest)
       → length pre + length ds ≤ 8 → (k : ℕ) → k + length pre ≡ 8
       → At k ds (length pre + length ds) (length pre)
@@ -69,6 +71,7 @@ module _ (c : PathReduction) (f : PathFits 256 c) (table : List ℕ) where
       go true n = omega arith
       go false n = omega arith
 
+-- what does not stand there has its position at the end
 position-none : (c : PathReduction) (cs : List PathReduction) → among c cs ≡ false → position c cs ≡ length cs
 position-none c [] e = refl
 position-none c (d ∷ cs) e = go (same-path c d) (position-none c cs) e
@@ -92,7 +95,7 @@ module _ (w : Walk) (cs : List PathReduction) (t : Table w cs) (c : PathReductio
       (slot-position c f (w .table) cs (t .legal) [] (t .rest) (t .holds) (omega (arith, t .few)) 8 refl)
       ∙ zero-add (position c cs)
 
-  -- the state with the path reduction at the place i
+  -- the state with the path reduction in slot i
   abbrev stored : ℕ → Walk
   stored i = record { code = w .code; at = w .at; terms = w .terms; paths = max (w .paths) (i + 1); reductions = w .reductions; table = set (w .table) i (path-number c) }
 
@@ -100,6 +103,7 @@ module _ (w : Walk) (cs : List PathReduction) (t : Table w cs) (c : PathReductio
   unfolding kept-path
   kept-is = rw slot-is refl
 
+  -- one that stands there already is put over itself; a new one behind the others
   old : among c cs ≡ true → Table (stored (position c cs)) cs
   old e = record {
     legal = t .legal;

@@ -15,7 +15,7 @@ use Rattle.terms.specs.Terms.{leaf-tag, literal-tag}
 use Rattle.term_text.proofs.Paths.{source-small}
 use Rattle.term_text.specs.Text.{expression-bytes, path-bytes, result-bytes, term-bytes, vertex-bytes}
 
--- lists of one length
+-- equal texts begin with equal parts, where these are of one length; equal first bytes
 pub same-split : (a b x y : List ℕ) → length a ≡ length b → a ++ x ≡ b ++ y → (a ≡ b) × (x ≡ y)
 same-split a b x y l e = (
   sym (take-at a x (length a) refl) ∙ ap (take (length a)) e ∙ ap (λ (n : ℕ). take n (b ++ y)) l ∙ take-at b y (length b) refl,
@@ -28,7 +28,8 @@ same-head x y a b e = (cc, cc)
 le32-back : (k : ℕ) → k < 2 ^ 32 → k % 256 + 256 * (k / 256 % 256) + 65536 * (k / 65536 % 256) + 16777216 * (k / 65536 / 256 % 256) ≡ k
 le32-back k h = omega arith
 
-pub le32-same : (k j : ℕ) → k < 2 ^ 32 → j < 2 ^ 32 → le32 k ≡ le32 j → k ≡ j
+-- numbers of 32 and 16 bits are seen from their bytes
+le32-same : (k j : ℕ) → k < 2 ^ 32 → j < 2 ^ 32 → le32 k ≡ le32 j → k ≡ j
 le32-same k j h i e =
     let a = same-head (k % 256) (j % 256) _ _ e in
     let b = same-head (k / 256 % 256) (j / 256 % 256) _ _ (a .1) in
@@ -42,7 +43,8 @@ le16-same k j h i e =
     let b = same-head (k / 256 % 256) (j / 256 % 256) _ _ (a .1) in
     omega (arith, a .0, b .0)
 
-pub path-split : (c d : PathReduction) (x y : List ℕ) → PathFits 256 c → PathFits 256 d → path-bytes c ++ x ≡ path-bytes d ++ y → (c ≡ d) × (x ≡ y)
+-- so is a path reduction, and where it ends
+path-split : (c d : PathReduction) (x y : List ℕ) → PathFits 256 c → PathFits 256 d → path-bytes c ++ x ≡ path-bytes d ++ y → (c ≡ d) × (x ≡ y)
 path-split c d x y f g e =
     let n = same-head (length (c .keys)) (length (d .keys)) _ _ e in
     let k = same-split (c .keys) (d .keys) (le16 (c .source) ++ x) (le16 (d .source) ++ y) (n .0) (sym (append-assoc (c .keys) (le16 (c .source)) x) ∙ n .1 ∙ append-assoc (d .keys) (le16 (d .source)) y) in
@@ -66,7 +68,8 @@ module _ {A : Type 0} (m : ℕ) (L : A → List ℕ) (fine : A → Type 0) (tail
   no-apply : leaf-tag m ≡ literal-tag m + 1 → ⊥
   no-apply e = eqb-false (literal-tag m + 1) (leaf-tag m) apply-not-leaf (sym e)
 
-  pub term-split : (t u : Term A) (x y : List ℕ) → Every fine t → Every fine u → text t ++ x ≡ text u ++ y → (t ≡ u) × (x ≡ y)
+  -- a term, and where it ends
+  term-split : (t u : Term A) (x y : List ℕ) → Every fine t → Every fine u → text t ++ x ≡ text u ++ y → (t ≡ u) × (x ≡ y)
   term-split (leaf a) (leaf b) x y f g e = let r = leaf-split a b x y f g e in (ap leaf (r .0), r .1)
   term-split (leaf a) (literal k) x y f g e = absurd (no-literal (leaf-first a (literal-tag m) x _ e))
   term-split (leaf a) (apply o t u) x y f g e = absurd (no-apply (leaf-first a (literal-tag m + 1) x _ e))
@@ -85,7 +88,7 @@ module _ {A : Type 0} (m : ℕ) (L : A → List ℕ) (fine : A → Type 0) (tail
       let d = term-split u w x y (f .3) (g .3) (c .1) in
       (cc (b .0, c .0, d .0), d .1)
 
--- place terms, result terms, expressions
+-- vertex terms, result terms, expressions
 pub vertex-split : (t u : VertexTerm) (x y : List ℕ) → Every (PathFits 256) t → Every (PathFits 256) u → vertex-bytes t ++ x ≡ vertex-bytes u ++ y → (t ≡ u) × (x ≡ y)
 unfolding literal-tag leaf-tag
 vertex-split =

@@ -1,9 +1,10 @@
 -- THE BYTES OF TERMS (document 01, "Layouts").
-use Prim.Native.Nat.{ℕ, _+_, _*_}
+use Prim.Native.Nat.{ℕ, _+_}
 use mathlib.Core.List.{List, [], _∷_, _++_}
 use lib.ListN.{length, getD}
 use Rattle.meaning.specs.Query.{PathReduction, ResultTerm, Term, VertexTerm, apply, leaf, literal}
 use Rattle.wire.specs.Wire.{le16, le32}
+use Rattle.fields.specs.Fields.{as-word}
 use Rattle.terms.specs.Terms.{leaf-tag, literal-tag}
 
 -- "key count 1 to 3, the keys, a 16-bit start"
@@ -30,5 +31,4 @@ expression-bytes mode = term-bytes mode (λ i. leaf-tag mode ∷ i ∷ [])
 
 -- a path reduction as its six bytes in a worksheet, one number
 abbrev pub path-number : PathReduction → ℕ
-path-number c =
-    length (c .keys) + 256 * getD (c .keys) 0 0 + 65536 * getD (c .keys) 1 0 + 16777216 * getD (c .keys) 2 0 + 4294967296 * c .source
+path-number c = as-word (length (c .keys)) (getD (c .keys) 0 0) (getD (c .keys) 1 0) (getD (c .keys) 2 0) (c .source)

@@ -1,18 +1,18 @@
--- What the code's proofs cite. Assumes nothing.
+-- The definitions step by step, as the code goes: a loop with one index less left, a call with one level of depth less. Assumes nothing.
 use Prim.Native.Nat.{ℕ, zero, suc, _+_, _-_, _<_}
-use mathlib.Core.Path.{_≡_, refl, ap}
+use mathlib.Core.Path.{_≡_, refl, sym, ap, _∙_}
 use mathlib.Core.Bool.{Bool, true, false, cond}
 use mathlib.Core.List.{List}
 use native.Mathlib.Omega.{arith}
 use native.Mathlib.Nat.{not-suc-le-zero}
-use borrow.Author.Tests.{ne-eqb}
+use borrow.Author.Tests.{eqb-true, eqb-false, ne-eqb}
 use lib.Dec.{leb, eqb}
 use lib.ListN.{getD}
 use Rattle.terms.specs.declared.Step.{Step}
 use Rattle.terms.specs.declared.Walk.{Walk}
 use Rattle.terms.specs.Terms.{read, slot-of, term-step}
 
--- one place of the table more
+-- one index of the table
 pub slot-next : (k paths : ℕ) (table : List ℕ) (word i : ℕ) → 0 < k
     → slot-of k paths table word i ≡ cond (leb paths i) i (cond (eqb (getD table i 0) word) i (slot-of (k - 1) paths table word (i + 1)))
 unfolding slot-of
@@ -20,12 +20,13 @@ slot-next zero paths table word i h = absurd (not-suc-le-zero h)
 slot-next (suc k) paths table word i h =
     ap (λ (m : ℕ). cond (leb paths i) i (cond (eqb (getD table i 0) word) i (slot-of m paths table word (i + 1)))) (let e : k ≡ suc k - 1 = omega arith in e)
 
--- one level of depth
+-- no depth left: the term alone
 pub read-none : (mode left : ℕ) (s : List ℕ) (w : Walk) → left ≡ 0 → read mode left s w ≡ cond (eqb (w .code) 0) (term-step mode left s w .walk) w
 unfolding read
 read-none mode zero s w e = refl
 read-none mode (suc left) s w e = absurd (omega arith)
 
+-- else the term and, with one level less, those that follow it
 pub read-next : (mode left : ℕ) (s : List ℕ) (w : Walk) → (left ≡ 0 → ⊥)
     → read mode left s w
     ≡ cond (eqb (w .code) 0)
@@ -50,7 +51,16 @@ read-next mode (suc left) s w n = go (eqb (w .code) 0) (eqb (h .follow) 0) (eqb 
     go true false false e = ap (λ (k : ℕ). read mode k s (read mode k s (h .walk))) e
     go false b c e = refl
 
+-- a refusal is handed on
 pub handed-on : (mode left : ℕ) (s : List ℕ) (w : Walk) → (w .code ≡ 0 → ⊥) → read mode left s w ≡ w
 unfolding read
 handed-on mode zero s w n = rw (ne-eqb (w .code) 0 n) refl
 handed-on mode (suc left) s w n = rw (ne-eqb (w .code) 0 n, read) refl
+
+-- so what is read to its end was not refused before
+pub read-accepted : (mode left : ℕ) (s : List ℕ) (w : Walk) → read mode left s w .code ≡ 0 → w .code ≡ 0
+read-accepted mode left s w e = go (eqb (w .code) 0) refl
+  where
+    go : (b : Bool) → eqb (w .code) 0 ≡ b → w .code ≡ 0
+    go true p = eqb-true (w .code) 0 p
+    go false p = sym (ap (λ (v : Walk). v .code) (handed-on mode left s w (eqb-false (w .code) 0 p))) ∙ e

@@ -12,6 +12,7 @@ use Rattle.fields.specs.Fields.{code-of, path-code, path-word}
 unfoldable pub blank : ℕ → Walk
 blank code = record { code = code; at = 0; terms = 0; paths = 0; reductions = 0; table = replicate 8 0 }
 
+-- the step of a refusal
 abbrev pub stopped : ℕ → Step
 stopped code = record { walk = blank code; follow = 0 }
 
@@ -19,7 +20,7 @@ stopped code = record { walk = blank code; follow = 0 }
 unfoldable pub advanced : Walk → ℕ → Walk
 advanced w next = record { code = w .code; at = next; terms = w .terms + 1; paths = w .paths; reductions = w .reductions; table = w .table }
 
--- the first of k places of the table, from place i on, that is free or holds the path reduction
+-- the first of k slots of the table, from slot i on, that is free or holds the path reduction
 unfoldable pub slot-of : ℕ → ℕ → List ℕ → ℕ → ℕ → ℕ
 slot-of zero paths table word i = i
 slot-of (suc k) paths table word i = cond (leb paths i) i (cond (eqb (getD table i 0) word) i (slot-of k paths table word (i + 1)))
@@ -106,7 +107,7 @@ read mode (suc left) s w =
       | false ↦ w
     ]
 
--- the state before the first term, at place `at`
+-- the state before the first term, at byte `at`
 unfoldable pub started : ℕ → Walk
 started at = record { code = 0; at = at; terms = 0; paths = 0; reductions = 0; table = replicate 8 0 }
 

@@ -31,7 +31,7 @@ pub const ENTRY: u8 = 2;
 
 pub const FINAL: u8 = 3;
 
-// The first of the eight places of the table that is free or holds the path reduction; 8 where there is none.
+// The first of the eight slots of the table that is free or holds the path reduction; 8 where there is none.
 fn slot(table: [u64; 8], paths: usize, word: u64) -> usize
     ensures { λ r. ⌜ (r ≡ slot-of 8 paths table word 0) × (r ≤ 8) ⌝ }
 {
@@ -293,7 +293,7 @@ pub fn read_term(s: &[u8], w: Walk, mode: u8, left: usize) -> Walk
     read_term(s, first, mode, left - 1)
 }
 
-// The state before the first term, at place `at`.
+// The state before the first term, at byte `at`.
 pub fn start(at: usize) -> Walk
     ensures { λ r. ⌜ r ≡ started at ⌝ }
 {

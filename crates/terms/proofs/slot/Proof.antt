@@ -1,4 +1,4 @@
--- `terms::slot` meets its contract: from the place reached on the search goes as from the start. Assumes nothing.
+-- `terms::slot` meets its contract: from the index reached on the search goes as from the first. Assumes nothing.
 use Prim.Native.Nat.{_+_, _-_, _≤_}
 use mathlib.Core.Path.{_≡_, refl}
 use native.Mathlib.Omega.{arith}

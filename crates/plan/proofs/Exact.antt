@@ -19,7 +19,7 @@ use Rattle.term_text.proofs.Ends.{ended-code, ended-whole, no-rest, started-tab
 use Rattle.terms.proofs.Laws.{read-accepted}
 use Rattle.term_text.proofs.Paths.{drop-at, nth, present}
 use Rattle.term_text.proofs.Steps.{drop-on, there}
-use Rattle.term_text.proofs.Table.{Table}
+use Rattle.term_text.proofs.Table.{Further, Table}
 use Rattle.wire.specs.Header.{header-bytes, header-code}
 use Rattle.wire.specs.Wire.{Bytes}
 use Rattle.wire.proofs.Header.{header-accepted, header-found}
@@ -34,14 +34,6 @@ pub record Scanned (w : Walk) (p : Plan) : Type 0 where
   pub terms : w .terms ≡ plan-terms (p .body)
   pub reductions : w .reductions ≡ entry-count (p .body)
   pub table : Table w (p .paths)
-
--- so far on, with the same path reductions
-record Read (w w′ : Walk) (cs : List PathReduction) (n z e : ℕ) : Type 0 where
-  pub code : w′ .code ≡ 0
-  pub at : w′ .at ≡ w .at + n
-  pub terms : w′ .terms ≡ z
-  pub reductions : w′ .reductions ≡ e
-  pub table : Table w′ cs
 
 abbrev reductions-of : Walk → ℕ
 reductions-of w = w .reductions
@@ -58,7 +50,7 @@ module _ (s : List ℕ) where
 
   -- from the entry count on
   body-complete : (b : Body) (w : Walk) (cs : List PathReduction) (rest : List ℕ) → w .code ≡ 0 → Table w cs → w .terms ≡ 0 → drop (w .at) s ≡ body-bytes b ++ rest
-      → BodyLegal (length cs) b → plan-terms b ≤ 64 → Read w (body-scan (kind-of b) s w) cs (length (body-bytes b)) (plan-terms b) (entry-count b)
+      → BodyLegal (length cs) b → plan-terms b ≤ 64 → Further w (body-scan (kind-of b) s w) cs (length (body-bytes b)) (plan-terms b) (entry-count b)
   unfolding moved final-scan entries-scan leaf-step literal-tag leaf-tag
   body-complete (each-vertex t) w cs rest z tb n e l k =
       let h = there s (w .at) 1 (0 ∷ (expression-bytes 2 t ++ rest)) e in
@@ -67,7 +59,7 @@ module _ (s : List ℕ) where
       let next = drop-on s (w .at) 1 (1 ∷ []) (0 ∷ (expression-bytes 2 t ++ rest)) e refl in
       let a = entry-complete s 0 0 t w1 cs rest z (moved-table w cs (w .at + 1) 1 tb (omega arith)) refl next l (omega arith) in
       let walk : body-scan 0 s w ≡ entry-scan 0 s w1 = body-walk 0 1 w z h b refl ∙ rw (eq-eqb (w .code) 0 z) refl in
-      subst (λ (v : Walk). Read w v cs (length (body-bytes (each-vertex t))) (terms unit t) 1) (sym walk)
+      subst (λ (v : Walk). Further w v cs (length (body-bytes (each-vertex t))) (terms unit t) 1) (sym walk)
       (record { code = a .code; at = omega (arith, a .at); terms = omega (arith, a .terms); reductions = a .reductions; table = a .table })
   body-complete (one-result es t) w cs rest z tb n e l k =
       let c = length es in
@@ -84,7 +76,7 @@ module _ (s : List ℕ) where
       let d = expr-complete s 3 reductions-of (λ w w′ p q. q) (λ w. refl) refl refl t w2 cs rest (a .code) (a .table) (omega (arith, a .reductions, l .0)) e2
       (subst (λ (m : ℕ). Expression m t) (sym (a .reductions)) (l .2)) (omega (arith, a .terms)) in
       let walk : body-scan 1 s w ≡ read 3 16 s w2 = body-walk 1 c w z h b (count-one c (l .0)) in
-      subst (λ (v : Walk). Read w v cs (length (body-bytes (one-result es t))) (plan-terms (one-result es t)) (length es)) (sym walk)
+      subst (λ (v : Walk). Further w v cs (length (body-bytes (one-result es t))) (plan-terms (one-result es t)) (length es)) (sym walk)
       (record {
         code = d .code;
         at = omega (arith, d .at, a .at, length-append (entries-bytes es) (expression-bytes 3 t));
@@ -204,7 +196,6 @@ module _ (s : List ℕ) (bytes : Bytes s) where
       let two = read-accepted 3 16 s w2 (p .2) in
       let t1 = moved-table w cs (w .at + 1) c tb few in
       let f = entries-sound s bytes c w1 cs z t1 (omega arith) two in
-      let es = f .0 in
       let walk : entries-scan (length (f .0)) 1 s w1 ≡ w2 = ap (λ (m : ℕ). entries-scan m 1 s w1) (f .2) in
       let a = subst (λ (v : Walk). Passed w1 v cs (length (entries-bytes (f .0))) (entry-terms (f .0))) walk (entries-complete s (f .0) w1 cs (f .1) z t1 (f .3) (f .4) (f .5)) in
       let g = expr-sound s 3 reductions-of (λ w w′ p q. q) (λ w. refl) refl refl bytes w2 cs two (a .table) (omega (arith, a .reductions)) (p .2) in
@@ -231,12 +222,11 @@ read-sound s bytes e =
     let z = ended-code s (body-scan kind s w1) (p .3) in
     let ok = rows-accepted kind s w1 (z .0) in
     let f = rows-sound s bytes count (started 7) [] refl (started-table 7) (omega (arith, p .2)) ok in
-    let cs = f .0 in
     let walk : rows-scan (length (f .0)) s (started 7) ≡ w1 = ap (λ (m : ℕ). rows-scan m s (started 7)) (f .2) in
     let a = subst (λ (v : Walk). RowsHeld (started 7) v (f .0) (length (rows-bytes (f .0)))) walk
     (rows-complete s (f .0) (started 7) [] (f .1) refl (started-table 7) (f .3) (f .4) (omega (arith, p .2, f .2))) in
     let b = body-sound s bytes kind w1 (f .0) (p .1) ok (a .table) (a .terms) (z .0) in
-    let c = subst (λ (k : ℕ). Read w1 (body-scan k s w1) (f .0) (length (body-bytes (b .0))) (plan-terms (b .0)) (entry-count (b .0))) (b .2)
+    let c = subst (λ (k : ℕ). Further w1 (body-scan k s w1) (f .0) (length (body-bytes (b .0))) (plan-terms (b .0)) (entry-count (b .0))) (b .2)
     (body-complete s (b .0) w1 (f .0) (b .1) ok (a .table) (a .terms) (b .3) (b .4) (b .5)) in
     let rest : f .1 ≡ body-bytes (b .0) ++ b .1 =
     sym (ap (λ (i : ℕ). drop i s) (a .at) ∙ drop-on s 7 (length (rows-bytes (f .0))) (rows-bytes (f .0)) (f .1) (f .4) refl) ∙ b .3 in

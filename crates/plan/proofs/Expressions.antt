@@ -17,19 +17,15 @@ use Rattle.term_text.proofs.Exact.{expression-complete, expression-sound, index
 use Rattle.term_text.proofs.Paths.{code-range, code-zero, drop-at, nth}
 use Rattle.term_text.proofs.Shape.{term-paths}
 use Rattle.term_text.proofs.Steps.{drop-on, there}
-use Rattle.term_text.proofs.Table.{Table}
+use Rattle.term_text.proofs.Table.{Further, Table}
 use Rattle.walks.specs.Lists.{All}
 use Rattle.wire.specs.Wire.{Bytes}
 use Rattle.plan.specs.Plan.{entries-scan, entry-scan, moved, reduction-code}
 use Rattle.plan.specs.Text.{entries-bytes}
 
 -- so many bytes and terms further on, with the same path reductions
-pub record Passed (w w′ : Walk) (cs : List PathReduction) (n z : ℕ) : Type 0 where
-  pub code : w′ .code ≡ 0
-  pub at : w′ .at ≡ w .at + n
-  pub terms : w′ .terms ≡ w .terms + z
-  pub reductions : w′ .reductions ≡ w .reductions
-  pub table : Table w′ cs
+abbrev pub Passed : Walk → Walk → List PathReduction → ℕ → ℕ → Type 0
+Passed w w′ cs n z = Further w w′ cs n (w .terms + z) (w .reductions)
 
 -- an expression of an entry, or a final one: `held` is the count that its indices stay below
 module _ (s : List ℕ) (m : ℕ) (held : Walk → ℕ) (kept : (w w′ : Walk) → w′ .paths ≡ w .paths → w′ .reductions ≡ w .reductions → held w′ ≡ held w)

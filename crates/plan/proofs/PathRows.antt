@@ -19,7 +19,7 @@ use Rattle.term_text.specs.Text.{path-number}
 use Rattle.wire.proofs.Past.{getD-any}
 use Rattle.term_text.proofs.Paths.{code-range, code-zero, drop-at, key-known, key-zero, legal-parts, nth, present, source-range, source-small, source-zero, two-bytes}
 use Rattle.term_text.proofs.Steps.{drop-on, there}
-use Rattle.term_text.proofs.Table.{Table}
+use Rattle.term_text.proofs.Table.{Further, Table}
 use Rattle.walks.specs.Keys.{all-known, early, in-order, known, legal-keys}
 use Rattle.walks.specs.Lists.{All}
 use Rattle.walks.proofs.Tests.{and-both, and-left, and-right}
@@ -161,13 +161,9 @@ module _ (s : List ℕ) where
         six i h5 ∙ rw (ks .1, parts .0, parts .1, parts .2, two .0, two .1) refl,
       )
 
--- the path reductions ds after cs
-pub record RowsHeld (w w′ : Walk) (cs : List PathReduction) (n : ℕ) : Type 0 where
-  pub code : w′ .code ≡ 0
-  pub at : w′ .at ≡ w .at + n
-  pub terms : w′ .terms ≡ w .terms
-  pub reductions : w′ .reductions ≡ w .reductions
-  pub table : Table w′ cs
+-- n bytes further, with the path reductions cs and no more terms
+abbrev pub RowsHeld : Walk → Walk → List PathReduction → ℕ → Type 0
+RowsHeld w w′ cs n = Further w w′ cs n (w .terms) (w .reductions)
 
 module _ (s : List ℕ) where
   -- one more is held

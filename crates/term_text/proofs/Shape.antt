@@ -21,7 +21,7 @@ use Rattle.wire.proofs.Past.{getD-any}
 use Rattle.terms.proofs.Laws.{read-accepted}
 use Rattle.term_text.proofs.Paths.{code-range, code-zero, drop-at, nth, present}
 use Rattle.term_text.proofs.Steps.{drop-on, four-bytes, read-by, read-flat, read-starts, step-is, table-advanced, tag-there, there}
-use Rattle.term_text.proofs.Table.{Table}
+use Rattle.term_text.proofs.Table.{Further, Table}
 
 -- a kind of leaf: its bytes, how many terms it is, how deep, the path reductions and reductions in it, and what is legal
 pub record Leaves (A : Type 0) : Type 1 where
@@ -53,12 +53,8 @@ module _ {A : Type 0} (K : Leaves A) where
     pub reductions : w .reductions + term-count t ≤ 8
 
   -- w′ has read the term after w
-  pub record After (m : ℕ) (w w′ : Walk) (cs : List PathReduction) (t : Term A) : Type 0 where
-    pub code : w′ .code ≡ 0
-    pub at : w′ .at ≡ w .at + length (term-bytes m (K .bytes) t)
-    pub terms : w′ .terms ≡ w .terms + terms (K .size) t
-    pub reductions : w′ .reductions ≡ w .reductions + term-count t
-    pub table : Table w′ (put-all cs (term-paths t))
+  abbrev pub After : ℕ → Walk → Walk → List PathReduction → Term A → Type 0
+  After m w w′ cs t = Further w w′ (put-all cs (term-paths t)) (length (term-bytes m (K .bytes) t)) (w .terms + terms (K .size) t) (w .reductions + term-count t)
 
 -- path reductions put after others take no room away
 put-all-grows : (cs ds : List PathReduction) → length cs ≤ length (put-all cs ds)

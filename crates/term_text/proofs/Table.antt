@@ -31,6 +31,14 @@ pub record Table (w : Walk) (cs : List PathReduction) : Type 0 where
   pub size : length (w .table) ≡ 8
   pub few-reductions : w .reductions ≤ 8
 
+-- w′ stands n bytes after w, not refused, with z terms and e reductions, and holds the path reductions cs
+pub record Further (w w′ : Walk) (cs : List PathReduction) (n z e : ℕ) : Type 0 where
+  pub code : w′ .code ≡ 0
+  pub at : w′ .at ≡ w .at + n
+  pub terms : w′ .terms ≡ z
+  pub reductions : w′ .reductions ≡ e
+  pub table : Table w′ cs
+
 -- equal numbers are equal path reductions
 pub same-number : (c d : PathReduction) → PathFits 256 c → PathFits 256 d → eqb (path-number d) (path-number c) ≡ same-path c d
 same-number c d f g = go (same-path c d) refl

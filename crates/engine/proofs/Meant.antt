@@ -32,7 +32,7 @@ use Rattle.rounds_laws.specs.Ways.{way}
 use Rattle.rows.specs.Rows.{body-read, final-found, many, row-count, rows-at}
 use Rattle.rows.proofs.Exact.{Holds, answer-rows, rows-length}
 use Rattle.term_text.proofs.Table.{Table}
-use Rattle.terms.specs.declared.Walk.{Walk}
+use Rattle.terms.specs.declared.Progress.{Progress}
 use Rattle.value.specs.declared.Row.{Row}
 use Rattle.value.specs.declared.Value.{Value}
 use Rattle.value.specs.declared.Value.the-variants.{Absent}
@@ -135,7 +135,7 @@ module _ (p : Plan) (legal : PlanLegal 256 p) (m : List ℕ) (bytes : Bytes m) (
 
   -- ---- the program's
 
-  abbrev w : Walk
+  abbrev w : Progress
   w = plan-scan (encode p)
 
   held : Table w (p .paths)
@@ -265,7 +265,7 @@ rows-full s F n h =
     go false = omega arith
 
 -- 15 before the rounds
-pub finished-refused : (push given : Bool) (limit : ℕ) (s : List ℕ) (w : Walk) (m : List ℕ) (room k : ℕ) → k ≡ answer-code (at16 m 5) (getD s 5 0) room → (k ≡ 0 → ⊥)
+pub finished-refused : (push given : Bool) (limit : ℕ) (s : List ℕ) (w : Progress) (m : List ℕ) (room k : ℕ) → k ≡ answer-code (at16 m 5) (getD s 5 0) room → (k ≡ 0 → ⊥)
     → finished push given limit s w m room ≡ refused k
 unfolding finished
 finished-refused push given limit s w m room k e h =
@@ -274,6 +274,6 @@ finished-refused push given limit s w m room k e h =
     reply-refused (at16 m 5) (count-of given limit (t .count)) (getD s 5 0) (values (many (body-read s F (min (at16 m 5) 256)))) (rows-full s F (min (at16 m 5) 256) (omega arith)) room k e h
 
 -- the map was accepted
-pub run-graph : (w : Walk) (m : List ℕ) → run-code w m ≡ 0 → graph-code m ≡ 0
+pub run-graph : (w : Progress) (m : List ℕ) → run-code w m ≡ 0 → graph-code m ≡ 0
 unfolding run-code
 run-graph w m z = then-both (graph-code m) (sources-code (at16 m 5) (paths-of w)) (then-both (w .code) (then (graph-code m) (sources-code (at16 m 5) (paths-of w))) z .1) .0

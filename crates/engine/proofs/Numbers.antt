@@ -12,7 +12,7 @@ use Rattle.nodes.proofs.Fields.{path-digits}
 use Rattle.term_text.specs.Text.{path-number}
 use Rattle.term_text.proofs.Paths.{legal-parts}
 use Rattle.term_text.proofs.Table.{Table}
-use Rattle.terms.specs.declared.Walk.{Walk}
+use Rattle.terms.specs.declared.Progress.{Progress}
 use Rattle.walks.specs.Lists.{All}
 use Rattle.engine.specs.Run.{path-of, paths-of}
 
@@ -36,8 +36,8 @@ pub paths-of-numbers : (cs : List PathReduction) → All (PathFits 256) cs → m
 paths-of-numbers [] f = refl
 paths-of-numbers (c ∷ cs) f = ap₂ (λ (x : PathReduction) (l : List PathReduction). x ∷ l) (path-of-number c (f .0)) (paths-of-numbers cs (f .1))
 
-pub numbers-held : (w : Walk) (cs : List PathReduction) → Table w cs → take (w .paths) (w .table) ≡ map path-number cs
+pub numbers-held : (w : Progress) (cs : List PathReduction) → Table w cs → take (w .paths) (w .table) ≡ map path-number cs
 numbers-held w cs t = rw (t .holds) (take-at (map path-number cs) (t .rest) (w .paths) (length-map cs path-number ∙ sym (t .count)))
 
-pub paths-held : (w : Walk) (cs : List PathReduction) → Table w cs → paths-of w ≡ cs
+pub paths-held : (w : Progress) (cs : List PathReduction) → Table w cs → paths-of w ≡ cs
 paths-held w cs t = ap (map path-of) (numbers-held w cs t) ∙ paths-of-numbers cs (t .legal)

@@ -10,7 +10,7 @@ use Rattle.graph.specs.Graph.{graph-code, graph-of}
 use Rattle.meaning.specs.Query.{PathReduction, anywhere}
 use Rattle.meaning.specs.Run.{pull, values-at}
 use Rattle.plan.specs.Plan.{plan-code, plan-scan}
-use Rattle.terms.specs.declared.Walk.{Walk}
+use Rattle.terms.specs.declared.Progress.{Progress}
 use Rattle.value.specs.declared.Value.{Value}
 use Rattle.value.specs.Value.{values}
 use Rattle.walks.specs.Rounds.{rounds}
@@ -24,7 +24,7 @@ use Rattle.engine.specs.declared.Limit.the-variants.{Quiet, Rounds}
 unfoldable pub path-of : ℕ → PathReduction
 path-of w = record { keys = take (w % 256) (w / 256 % 256 ∷ w / 65536 % 256 ∷ w / 16777216 % 256 ∷ []); source = w / 4294967296 }
 
-abbrev pub paths-of : Walk → List PathReduction
+abbrev pub paths-of : Progress → List PathReduction
 paths-of w = map path-of (take (w .paths) (w .table))
 
 -- "13 | start | .. at a run n or more other than 65,535", "starts in chain order"

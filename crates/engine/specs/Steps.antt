@@ -7,7 +7,7 @@ use Rattle.answer.specs.Answer.{answer-reply}
 use Rattle.graph.specs.Graph.{graph-code}
 use Rattle.rounds.specs.Run.{Ran, ran}
 use Rattle.rows.specs.Rows.{body-read, many, rows-at}
-use Rattle.terms.specs.declared.Walk.{Walk}
+use Rattle.terms.specs.declared.Progress.{Progress}
 use Rattle.value.specs.Value.{values}
 use Rattle.wire.specs.Header.{then}
 use Rattle.wire.specs.Wire.{Reply, at16}
@@ -16,7 +16,7 @@ use Rattle.engine.specs.declared.Limit.the-variants.{Quiet, Rounds}
 use Rattle.engine.specs.Run.{paths-of, sources-code}
 
 -- the refusal of the worksheet, of the map, of the starts
-unfoldable pub run-code : Walk → List ℕ → ℕ
+unfoldable pub run-code : Progress → List ℕ → ℕ
 run-code w m = then (w .code) (then (graph-code m) (sources-code (at16 m 5) (paths-of w)))
 
 -- the limit as document 01 has it; at most so many rounds are done; so many are reported
@@ -29,10 +29,10 @@ limit-of given limit n = cond given limit (2 * n)
 abbrev pub count-of : Bool → ℕ → ℕ → ℕ
 count-of given limit count = cond given limit count
 
-abbrev pub table-after : Bool → Bool → ℕ → Walk → List ℕ → Ran
+abbrev pub table-after : Bool → Bool → ℕ → Progress → List ℕ → Ran
 table-after push given limit w m = ran push m (min (w .paths) 8) (w .table) (limit-of given limit (at16 m 5)) (replicate 8192 0)
 
-unfoldable pub finished : Bool → Bool → ℕ → List ℕ → Walk → List ℕ → ℕ → Reply
+unfoldable pub finished : Bool → Bool → ℕ → List ℕ → Progress → List ℕ → ℕ → Reply
 finished push given limit s w m room =
     let n = at16 m 5 in
     let t = table-after push given limit w m in

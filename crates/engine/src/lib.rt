@@ -1,5 +1,5 @@
 // Runs (document 01): a worksheet on a map, bytes to bytes, by pull and by push, to the first quiet round or for a given number of rounds.
-use terms::Walk;
+use terms::Progress;
 ghost use mathlib.Core.Path.{_≡_};
 ghost use mathlib.Core.List.{map};
 ghost use Prim.Native.Nat.{_≤_};
@@ -53,7 +53,7 @@ fn sources_code(table: [u64; 8], paths: usize, n: u64) -> u8
 }
 
 // "A run judges the worksheet, the map, starts in chain order": the first refusal, or 0.
-fn judge(w: Walk, graph: &[u8]) -> u8
+fn judge(w: Progress, graph: &[u8]) -> u8
     ensures { λ r. ⌜ r ≡ run-code w (now (graph .entry)) ⌝ }
 {
     let c = w.code;
@@ -96,7 +96,7 @@ fn finish(
     given: bool,
     limit: u16,
     plan: &[u8],
-    w: Walk,
+    w: Progress,
     graph: &[u8],
     out: &mut [u8],
 ) -> u32

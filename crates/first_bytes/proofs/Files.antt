@@ -14,7 +14,7 @@ use Rattle.fusion.specs.Fusion.{fuse-reply}
 use Rattle.graph.specs.Graph.{graph-code}
 use Rattle.plan.specs.Plan.{plan-code}
 use Rattle.query.specs.Query.{query-code}
-use Rattle.terms.specs.declared.Walk.{Walk}
+use Rattle.terms.specs.declared.Progress.{Progress}
 use Rattle.wire.specs.Wire.{Reply, unless}
 use Rattle.first_bytes.proofs.Graph as graph
 use Rattle.first_bytes.proofs.Query as query
@@ -34,7 +34,7 @@ long-query s k room h = go (leb (length s) k) refl
         let l = leb-false (length s) k e in
         let r = query.scan-same s (take k s)
         (record { bytes = λ i d b. getD-take k s i d (omega arith); long = omega arith; longer = omega (arith, length-take k s) }) in
-        refused-both (query-code (take k s)) (query-code s) _ _ (ap (λ (w : Walk). w .code) (r .0)) (r .1)
+        refused-both (query-code (take k s)) (query-code s) _ _ (ap (λ (w : Progress). w .code) (r .0)) (r .1)
 
 -- a map by 8,202 bytes or more
 pub long-graph : (limit : Limit) (w s : List ℕ) (k room : ℕ) → 8202 ≤ k → run-reply limit w (take k s) room ≡ run-reply limit w s room

@@ -10,7 +10,7 @@ use lib.Dec.{leb, ltb, eqb}
 use lib.ListN.{length, getD, set}
 use Rattle.fields.specs.Fields.{code-of, key-code, keys-code, opening-code, path-code, path-word, source-code}
 use Rattle.terms.specs.declared.Step.{Step}
-use Rattle.terms.specs.declared.Walk.{Walk}
+use Rattle.terms.specs.declared.Progress.{Progress}
 use Rattle.terms.specs.Terms.{advanced, apply-step, blank, ended, index-step, kept-path, leaf-step, leaf-tag, literal-step, literal-tag, path-step, read, reduce-step, slot-of, started, stopped, term-step}
 use Rattle.term_text.proofs.Paths.{code-range}
 use Rattle.query.specs.Query.{query-code, query-scan}
@@ -23,12 +23,12 @@ pub record Alike (s t : List ℕ) : Type 0 where
   pub longer : 455 ≤ length t
 
 -- a reading has come no further than its terms take it; after a refusal it is at 0
-pub record Near (w : Walk) : Type 0 where
+pub record Near (w : Progress) : Type 0 where
   pub few : w .terms ≤ 64
   pub near : w .at ≤ 6 + 7 * w .terms
 
 record NearStep (h : Step) : Type 0 where
-  walk : Near (h .walk)
+  progress : Near (h .progress)
 
 module _ (s t : List ℕ) (a : Alike s t) where
   keys-same : (n i : ℕ) → i + n ≤ 454 → keys-code n t i ≡ keys-code n s i
@@ -81,7 +81,7 @@ module _ (s t : List ℕ) (a : Alike s t) where
       )
       refl
 
-  path-same : (w : Walk) → w .at ≤ 447 → path-step t w ≡ path-step s w
+  path-same : (w : Progress) → w .at ≤ 447 → path-step t w ≡ path-step s w
   unfolding path-step
   path-same w h = rw (path-code-same (w .at + 1) (omega arith)) (go (eqb (path-code s (w .at + 1)) 0) refl)
     where
@@ -89,34 +89,34 @@ module _ (s t : List ℕ) (a : Alike s t) where
       i = w .at + 1
 
       made : List ℕ → Step
-      made u = record { walk = kept-path (advanced w (i + 3 + getD u i 256)) (path-word u i); follow = 0 }
+      made u = record { progress = kept-path (advanced w (i + 3 + getD u i 256)) (path-word u i); follow = 0 }
 
       go : (b : Bool) → eqb (path-code s i) 0 ≡ b → cond b (made t) (stopped (path-code s i)) ≡ cond b (made s) (stopped (path-code s i))
       go true e =
           rw (a .bytes i 256 (omega arith), path-word-same i (omega arith) (path-range i (eqb-true (path-code s i) 0 e))) refl
       go false e = refl
 
-  reduce-same : (w : Walk) → w .at ≤ 447 → reduce-step t w ≡ reduce-step s w
+  reduce-same : (w : Progress) → w .at ≤ 447 → reduce-step t w ≡ reduce-step s w
   unfolding reduce-step
   reduce-same w h = rw (a .bytes (w .at + 1) 256 (omega arith)) refl
 
-  index-same : (w : Walk) (n : ℕ) → w .at ≤ 447 → index-step t w n ≡ index-step s w n
+  index-same : (w : Progress) (n : ℕ) → w .at ≤ 447 → index-step t w n ≡ index-step s w n
   unfolding index-step
   index-same w n h = rw (a .bytes (w .at + 1) 256 (omega arith)) refl
 
-  literal-same : (w : Walk) → w .at ≤ 447 → literal-step t w ≡ literal-step s w
+  literal-same : (w : Progress) → w .at ≤ 447 → literal-step t w ≡ literal-step s w
   unfolding literal-step
   literal-same w h = rw (a .bytes (w .at + 4) 256 (omega arith)) refl
 
-  apply-same : (w : Walk) → w .at ≤ 447 → apply-step t w ≡ apply-step s w
+  apply-same : (w : Progress) → w .at ≤ 447 → apply-step t w ≡ apply-step s w
   unfolding apply-step
   apply-same w h = rw (a .bytes (w .at + 1) 256 (omega arith)) refl
 
-  leaf-same : (mode : ℕ) (w : Walk) → w .at ≤ 447 → leaf-step mode t w ≡ leaf-step mode s w
+  leaf-same : (mode : ℕ) (w : Progress) → w .at ≤ 447 → leaf-step mode t w ≡ leaf-step mode s w
   unfolding leaf-step
   leaf-same mode w h = rw (path-same w h, reduce-same w h, index-same w (w .paths) h, index-same w (w .reductions) h) refl
 
-  term-same : (mode left : ℕ) (w : Walk) → Near w → term-step mode left t w ≡ term-step mode left s w
+  term-same : (mode left : ℕ) (w : Progress) → Near w → term-step mode left t w ≡ term-step mode left s w
   unfolding term-step
   term-same mode left w g =
       rw (lt-leb (length t) (w .at) (omega (arith, a .longer, g .few, g .near)), lt-leb (length s) (w .at) (omega (arith, a .long, g .few, g .near))) (go (leb 64 (w .terms)) refl)
@@ -139,11 +139,11 @@ module _ (s t : List ℕ) (a : Alike s t) where
   unfolding blank
   near-blank c = record { few = omega arith; near = omega arith }
 
-  near-next : (w : Walk) (next : ℕ) → w .terms < 64 → w .at ≤ 6 + 7 * w .terms → next ≤ w .at + 7 → Near (advanced w next)
+  near-next : (w : Progress) (next : ℕ) → w .terms < 64 → w .at ≤ 6 + 7 * w .terms → next ≤ w .at + 7 → Near (advanced w next)
   unfolding advanced
   near-next w next l g h = record { few = omega arith; near = omega arith }
 
-  near-kept : (w : Walk) (word : ℕ) → Near w → Near (kept-path w word)
+  near-kept : (w : Progress) (word : ℕ) → Near w → Near (kept-path w word)
   unfolding kept-path
   near-kept w word g = go (leb 8 i)
     where
@@ -158,55 +158,55 @@ module _ (s t : List ℕ) (a : Alike s t) where
       go false = record { few = g .few; near = g .near }
 
   near-stopped : (c : ℕ) → NearStep (stopped c)
-  near-stopped c = record { walk = near-blank c }
+  near-stopped c = record { progress = near-blank c }
 
   -- a step by either side of its test
   near-cond : (b : Bool) {x y : Step} → (b ≡ true → NearStep x) → NearStep y → NearStep (cond b x y)
   near-cond true p q = p refl
   near-cond false p q = q
 
-  near-path : (w : Walk) → w .terms < 64 → w .at ≤ 6 + 7 * w .terms → NearStep (path-step s w)
+  near-path : (w : Progress) → w .terms < 64 → w .at ≤ 6 + 7 * w .terms → NearStep (path-step s w)
   unfolding path-step
   near-path w l g =
       near-cond (eqb (path-code s (w .at + 1)) 0)
       (λ e.
       let n = path-range (w .at + 1) (eqb-true (path-code s (w .at + 1)) 0 e) in
-      record { walk = near-kept (advanced w (w .at + 1 + 3 + getD s (w .at + 1) 256)) (path-word s (w .at + 1)) (near-next w (w .at + 1 + 3 + getD s (w .at + 1) 256) l g (omega (arith, n))) })
+      record { progress = near-kept (advanced w (w .at + 1 + 3 + getD s (w .at + 1) 256)) (path-word s (w .at + 1)) (near-next w (w .at + 1 + 3 + getD s (w .at + 1) 256) l g (omega (arith, n))) })
       (near-stopped (path-code s (w .at + 1)))
 
-  near-reduce : (w : Walk) → w .terms < 64 → w .at ≤ 6 + 7 * w .terms → NearStep (reduce-step s w)
+  near-reduce : (w : Progress) → w .terms < 64 → w .at ≤ 6 + 7 * w .terms → NearStep (reduce-step s w)
   unfolding reduce-step
   near-reduce w l g =
       let n = near-next w (w .at + 1 + 1) l g (omega arith) in
       near-cond (eqb (code-of (getD s (w .at + 1) 256) 5) 0)
-      (λ e. near-cond (leb 8 (w .reductions)) (λ f. near-stopped 14) (record { walk = record { few = n .few; near = n .near } }))
+      (λ e. near-cond (leb 8 (w .reductions)) (λ f. near-stopped 14) (record { progress = record { few = n .few; near = n .near } }))
       (near-stopped (code-of (getD s (w .at + 1) 256) 5))
 
-  near-index : (w : Walk) (n : ℕ) → w .terms < 64 → w .at ≤ 6 + 7 * w .terms → NearStep (index-step s w n)
+  near-index : (w : Progress) (n : ℕ) → w .terms < 64 → w .at ≤ 6 + 7 * w .terms → NearStep (index-step s w n)
   unfolding index-step
   near-index w n l g =
       near-cond (ltb 255 (getD s (w .at + 1) 256)) (λ e. near-stopped 1)
-      (near-cond (leb n (getD s (w .at + 1) 256)) (λ e. near-stopped 16) (record { walk = near-next w (w .at + 1 + 1) l g (omega arith) }))
+      (near-cond (leb n (getD s (w .at + 1) 256)) (λ e. near-stopped 16) (record { progress = near-next w (w .at + 1 + 1) l g (omega arith) }))
 
-  near-literal : (w : Walk) → w .terms < 64 → w .at ≤ 6 + 7 * w .terms → NearStep (literal-step s w)
+  near-literal : (w : Progress) → w .terms < 64 → w .at ≤ 6 + 7 * w .terms → NearStep (literal-step s w)
   unfolding literal-step
-  near-literal w l g = near-cond (ltb 255 (getD s (w .at + 4) 256)) (λ e. near-stopped 1) (record { walk = near-next w (w .at + 4 + 1) l g (omega arith) })
+  near-literal w l g = near-cond (ltb 255 (getD s (w .at + 4) 256)) (λ e. near-stopped 1) (record { progress = near-next w (w .at + 4 + 1) l g (omega arith) })
 
-  near-apply : (w : Walk) → w .terms < 64 → w .at ≤ 6 + 7 * w .terms → NearStep (apply-step s w)
+  near-apply : (w : Progress) → w .terms < 64 → w .at ≤ 6 + 7 * w .terms → NearStep (apply-step s w)
   unfolding apply-step
   near-apply w l g =
       near-cond (eqb (code-of (getD s (w .at + 1) 256) 11) 0)
-      (λ e. record { walk = near-next w (w .at + 1 + 1) l g (omega arith) })
+      (λ e. record { progress = near-next w (w .at + 1 + 1) l g (omega arith) })
       (near-stopped (code-of (getD s (w .at + 1) 256) 11))
 
-  near-leaf : (mode : ℕ) (w : Walk) → w .terms < 64 → w .at ≤ 6 + 7 * w .terms → NearStep (leaf-step mode s w)
+  near-leaf : (mode : ℕ) (w : Progress) → w .terms < 64 → w .at ≤ 6 + 7 * w .terms → NearStep (leaf-step mode s w)
   unfolding leaf-step
   near-leaf mode w l g =
       near-cond (eqb mode 0) (λ e. near-path w l g)
       (near-cond (eqb mode 1) (λ e. near-reduce w l g)
       (near-cond (eqb mode 2) (λ e. near-index w (w .paths) l g) (near-index w (w .reductions) l g)))
 
-  near-term : (mode left : ℕ) (w : Walk) → Near w → NearStep (term-step mode left s w)
+  near-term : (mode left : ℕ) (w : Progress) → Near w → NearStep (term-step mode left s w)
   unfolding term-step
   near-term mode left w g = near-cond (leb (length s) (w .at)) (λ e. near-stopped 1) (go (leb 64 (w .terms)) refl)
     where
@@ -230,15 +230,15 @@ module _ (s t : List ℕ) (a : Alike s t) where
           (near-cond (eqb tag (literal-tag mode + 1)) (λ f. near-apply w l (g .near)) (near-stopped 9))))
 
   -- a term and all that it contains
-  pub read-same : (mode left : ℕ) (w : Walk) → Near w → (read mode left t w ≡ read mode left s w) × Near (read mode left s w)
+  pub read-same : (mode left : ℕ) (w : Progress) → Near w → (read mode left t w ≡ read mode left s w) × Near (read mode left s w)
   unfolding read
   read-same mode zero w g = rw (term-same mode zero w g) (go (eqb (w .code) 0))
     where
       h : Step
       h = term-step mode zero s w
 
-      go : (b : Bool) → (_≡_ {A = Walk} (cond b (h .walk) w) (cond b (h .walk) w)) × Near (cond b (h .walk) w)
-      go true = (refl, near-term mode zero w g .walk)
+      go : (b : Bool) → (_≡_ {A = Progress} (cond b (h .progress) w) (cond b (h .progress) w)) × Near (cond b (h .progress) w)
+      go true = (refl, near-term mode zero w g .progress)
       go false = (refl, g)
   read-same mode (suc left) w g =
       let p = go (λ m v. read-same m left v) (eqb (w .code) 0) (eqb (here .follow) 0) (eqb (here .follow) 1) in
@@ -247,23 +247,23 @@ module _ (s t : List ℕ) (a : Alike s t) where
       here : Step
       here = term-step mode (suc left) s w
 
-      n : Near (here .walk)
-      n = near-term mode (suc left) w g .walk
+      n : Near (here .progress)
+      n = near-term mode (suc left) w g .progress
 
-      after : List ℕ → Step → Bool → Bool → Bool → Walk
+      after : List ℕ → Step → Bool → Bool → Bool → Progress
       after u h x y z =
           elim x [
-            | true ↦ elim y [ true ↦ h .walk | false ↦ elim z [ true ↦ read 0 left u (h .walk) | false ↦ read mode left u (read mode left u (h .walk)) ] ]
+            | true ↦ elim y [ true ↦ h .progress | false ↦ elim z [ true ↦ read 0 left u (h .progress) | false ↦ read mode left u (read mode left u (h .progress)) ] ]
             | false ↦ w
           ]
 
-      go : ((m : ℕ) (v : Walk) → Near v → (read m left t v ≡ read m left s v) × Near (read m left s v)) → (x y z : Bool)
+      go : ((m : ℕ) (v : Progress) → Near v → (read m left t v ≡ read m left s v) × Near (read m left s v)) → (x y z : Bool)
           → (after t here x y z ≡ after s here x y z) × Near (after s here x y z)
       go deeper true true z = (refl, n)
-      go deeper true false true = deeper 0 (here .walk) n
+      go deeper true false true = deeper 0 (here .progress) n
       go deeper true false false =
-          let p = deeper mode (here .walk) n in
-          let q = deeper mode (read mode left s (here .walk)) (p .1) in
+          let p = deeper mode (here .progress) n in
+          let q = deeper mode (read mode left s (here .progress)) (p .1) in
           (ap (read mode left t) (p .0) ∙ q .0, q .1)
       go deeper false y z = (refl, g)
 
@@ -284,12 +284,12 @@ module _ (s t : List ℕ) (a : Alike s t) where
       refl
 
   -- left-over bytes: there are some in either text
-  ended-same : (w : Walk) → Near w → (ended t w ≡ ended s w) × (ended s w .code ≡ 0 → ⊥)
+  ended-same : (w : Progress) → Near w → (ended t w ≡ ended s w) × (ended s w .code ≡ 0 → ⊥)
   unfolding ended blank
   ended-same w g =
       rw (lt-ltb (w .at) (length t) (omega (arith, a .longer, g .few, g .near)), lt-ltb (w .at) (length s) (omega (arith, a .long, g .few, g .near))) (go (eqb (w .code) 0) refl)
     where
-      go : (b : Bool) → eqb (w .code) 0 ≡ b → (_≡_ {A = Walk} (cond b (blank 6) w) (cond b (blank 6) w)) × (cond b (blank 6) w .code ≡ 0 → ⊥)
+      go : (b : Bool) → eqb (w .code) 0 ≡ b → (_≡_ {A = Progress} (cond b (blank 6) w) (cond b (blank 6) w)) × (cond b (blank 6) w .code ≡ 0 → ⊥)
       go true e = (refl, λ z. omega arith)
       go false e = (refl, λ z. eqb-false (w .code) 0 e z)
 
@@ -311,10 +311,10 @@ module _ (s t : List ℕ) (a : Alike s t) where
       e : (ended t (read kind 16 s (started 6)) ≡ ended s (read kind 16 s (started 6))) × (ended s (read kind 16 s (started 6)) .code ≡ 0 → ⊥)
       e = ended-same (read kind 16 s (started 6)) (r .1)
 
-      whole : Walk
+      whole : Progress
       whole = ended s (read kind 16 s (started 6))
 
       go : (b : Bool) → eqb (opening-code 0x51 s) 0 ≡ b
-          → (_≡_ {A = Walk} (cond b whole (blank (opening-code 0x51 s))) (cond b whole (blank (opening-code 0x51 s)))) × (cond b whole (blank (opening-code 0x51 s)) .code ≡ 0 → ⊥)
+          → (_≡_ {A = Progress} (cond b whole (blank (opening-code 0x51 s))) (cond b whole (blank (opening-code 0x51 s)))) × (cond b whole (blank (opening-code 0x51 s)) .code ≡ 0 → ⊥)
       go true p = (refl, e .1)
       go false p = (refl, λ z. eqb-false (opening-code 0x51 s) 0 p z)

@@ -8,7 +8,7 @@ use lib.Dec.{eqb}
 use Rattle.plan_form.specs.Form.{write-reply}
 use Rattle.query.specs.Query.{query-code, query-scan}
 use Rattle.query_form.specs.Form.{query-reading, read-after}
-use Rattle.terms.specs.declared.Walk.{Walk}
+use Rattle.terms.specs.declared.Progress.{Progress}
 use Rattle.wire.specs.Wire.{refused}
 use Rattle.fusion.specs.Fusion.{fuse-reply, fused-form}
 
@@ -17,7 +17,7 @@ pub reading-code : (s : List ℕ) → query-reading s .code ≡ query-code s
 unfolding read-after
 reading-code s = go (query-scan s) (eqb (query-code s) 0) refl
   where
-    go : (w : Walk) (b : Bool) → eqb (w .code) 0 ≡ b → read-after s w .code ≡ w .code
+    go : (w : Progress) (b : Bool) → eqb (w .code) 0 ≡ b → read-after s w .code ≡ w .code
     go w true e = rw e (sym (eqb-true (w .code) 0 e))
     go w false e = rw e refl
 

@@ -12,7 +12,7 @@ use Rattle.meaning.specs.Plan.{Body, Plan, each-vertex, one-result}
 use Rattle.meaning.specs.Query.{PathReduction}
 use Rattle.fields.specs.Fields.{opening-code}
 use Rattle.fields.proofs.Opening.{opening-found}
-use Rattle.terms.specs.declared.Walk.{Walk}
+use Rattle.terms.specs.declared.Progress.{Progress}
 use Rattle.terms.specs.Terms.{blank, ended, leaf-step, leaf-tag, literal-tag, read, started}
 use Rattle.term_text.specs.Text.{expression-bytes}
 use Rattle.term_text.proofs.Ends.{ended-code, ended-whole, no-rest, started-table}
@@ -29,37 +29,37 @@ use Rattle.plan.proofs.Expressions.{Passed, entries-complete, entries-s
 use Rattle.plan.proofs.PathRows.{RowsHeld, filler-zero, rows-complete, rows-sound}
 
 -- what the reader knows of an accepted plan: its path reductions in the table, its terms and its entries
-pub record Scanned (w : Walk) (p : Plan) : Type 0 where
+pub record Scanned (w : Progress) (p : Plan) : Type 0 where
   pub accepted : w .code ≡ 0
   pub terms : w .terms ≡ plan-terms (p .body)
   pub reductions : w .reductions ≡ entry-count (p .body)
   pub table : Table w (p .paths)
 
-abbrev reductions-of : Walk → ℕ
+abbrev reductions-of : Progress → ℕ
 reductions-of w = w .reductions
 
 module _ (s : List ℕ) where
   -- a body whose entry count is right: its entries, and the final expression
-  body-walk : (kind e : ℕ) (w : Walk) → w .code ≡ 0 → w .at < length s → getD s (w .at) 256 ≡ e → count-code kind e ≡ 0
+  body-scanned : (kind e : ℕ) (w : Progress) → w .code ≡ 0 → w .at < length s → getD s (w .at) 256 ≡ e → count-code kind e ≡ 0
       → body-scan kind s w ≡ final-scan kind s (entries-scan e kind s (moved w (w .at + 1) e))
   unfolding body-scan
-  body-walk kind e w z h b c = rw (eq-eqb (w .code) 0 z, b, c, lt-leb (length s) (w .at) h) refl
+  body-scanned kind e w z h b c = rw (eq-eqb (w .code) 0 z, b, c, lt-leb (length s) (w .at) h) refl
 
   count-one : (e : ℕ) → e ≤ 8 → count-code 1 e ≡ 0
   count-one e h = rw (le-ltb 255 e (omega arith), le-ltb 8 e h) refl
 
   -- from the entry count on
-  body-complete : (b : Body) (w : Walk) (cs : List PathReduction) (rest : List ℕ) → w .code ≡ 0 → Table w cs → w .terms ≡ 0 → drop (w .at) s ≡ body-bytes b ++ rest
+  body-complete : (b : Body) (w : Progress) (cs : List PathReduction) (rest : List ℕ) → w .code ≡ 0 → Table w cs → w .terms ≡ 0 → drop (w .at) s ≡ body-bytes b ++ rest
       → BodyLegal (length cs) b → plan-terms b ≤ 64 → Further w (body-scan (kind-of b) s w) cs (length (body-bytes b)) (plan-terms b) (entry-count b)
   unfolding moved final-scan entries-scan leaf-step literal-tag leaf-tag
   body-complete (each-vertex t) w cs rest z tb n e l k =
       let h = there s (w .at) 1 (0 ∷ (expression-bytes 2 t ++ rest)) e in
       let b : getD s (w .at) 256 ≡ 1 = rw (nth s (w .at) 0 (w .at) 256 (omega arith), e) refl in
-      let w1 : Walk = moved w (w .at + 1) 1 in
+      let w1 : Progress = moved w (w .at + 1) 1 in
       let next = drop-on s (w .at) 1 (1 ∷ []) (0 ∷ (expression-bytes 2 t ++ rest)) e refl in
       let a = entry-complete s 0 0 t w1 cs rest z (moved-table w cs (w .at + 1) 1 tb (omega arith)) refl next l (omega arith) in
-      let walk : body-scan 0 s w ≡ entry-scan 0 s w1 = body-walk 0 1 w z h b refl ∙ rw (eq-eqb (w .code) 0 z) refl in
-      subst (λ (v : Walk). Further w v cs (length (body-bytes (each-vertex t))) (terms unit t) 1) (sym walk)
+      let reads : body-scan 0 s w ≡ entry-scan 0 s w1 = body-scanned 0 1 w z h b refl ∙ rw (eq-eqb (w .code) 0 z) refl in
+      subst (λ (v : Progress). Further w v cs (length (body-bytes (each-vertex t))) (terms unit t) 1) (sym reads)
       (record { code = a .code; at = omega (arith, a .at); terms = omega (arith, a .terms); reductions = a .reductions; table = a .table })
   body-complete (one-result es t) w cs rest z tb n e l k =
       let c = length es in
@@ -67,16 +67,16 @@ module _ (s : List ℕ) where
       e ∙ ap (λ (x : List ℕ). length es ∷ x) (append-assoc (entries-bytes es) (expression-bytes 3 t) rest) in
       let h = there s (w .at) c (entries-bytes es ++ (expression-bytes 3 t ++ rest)) e0 in
       let b : getD s (w .at) 256 ≡ c = rw (nth s (w .at) 0 (w .at) 256 (omega arith), e0) refl in
-      let w1 : Walk = moved w (w .at + 1) c in
+      let w1 : Progress = moved w (w .at + 1) c in
       let next = drop-on s (w .at) 1 (c ∷ []) (entries-bytes es ++ (expression-bytes 3 t ++ rest)) e0 refl in
       let a = entries-complete s es w1 cs (expression-bytes 3 t ++ rest) z (moved-table w cs (w .at + 1) c tb (l .0)) (l .1) next (omega arith) in
-      let w2 : Walk = entries-scan c 1 s w1 in
+      let w2 : Progress = entries-scan c 1 s w1 in
       let e2 : drop (w2 .at) s ≡ expression-bytes 3 t ++ rest =
       ap (λ (i : ℕ). drop i s) (a .at) ∙ drop-on s (w .at + 1) (length (entries-bytes es)) (entries-bytes es) (expression-bytes 3 t ++ rest) next refl in
       let d = expr-complete s 3 reductions-of (λ w w′ p q. q) (λ w. refl) refl refl t w2 cs rest (a .code) (a .table) (omega (arith, a .reductions, l .0)) e2
       (subst (λ (m : ℕ). Expression m t) (sym (a .reductions)) (l .2)) (omega (arith, a .terms)) in
-      let walk : body-scan 1 s w ≡ read 3 16 s w2 = body-walk 1 c w z h b (count-one c (l .0)) in
-      subst (λ (v : Walk). Further w v cs (length (body-bytes (one-result es t))) (plan-terms (one-result es t)) (length es)) (sym walk)
+      let reads : body-scan 1 s w ≡ read 3 16 s w2 = body-scanned 1 c w z h b (count-one c (l .0)) in
+      subst (λ (v : Progress). Further w v cs (length (body-bytes (one-result es t))) (plan-terms (one-result es t)) (length es)) (sym reads)
       (record {
         code = d .code;
         at = omega (arith, d .at, a .at, length-append (entries-bytes es) (expression-bytes 3 t));
@@ -86,10 +86,10 @@ module _ (s : List ℕ) where
       })
 
 -- the whole
-plan-walk : (s : List ℕ) (kind count : ℕ) → header-code 0x57 5 s ≡ 0 → getD s 5 256 ≡ kind → kind ≤ 1 → getD s 6 256 ≡ count → count ≤ 8
+plan-scanned : (s : List ℕ) (kind count : ℕ) → header-code 0x57 5 s ≡ 0 → getD s 5 256 ≡ kind → kind ≤ 1 → getD s 6 256 ≡ count → count ≤ 8
     → plan-scan s ≡ ended s (body-scan kind s (rows-scan count s (started 7)))
 unfolding plan-scan
-plan-walk s kind count h k l c m = rw (h, k, le-ltb 255 kind (omega arith), le-ltb 1 kind l, c, le-ltb 255 count (omega arith), le-ltb 8 count m) refl
+plan-scanned s kind count h k l c m = rw (h, k, le-ltb 255 kind (omega arith), le-ltb 1 kind l, c, le-ltb 255 count (omega arith), le-ltb 8 count m) refl
 
 kind-small : (b : Body) → kind-of b ≤ 1
 kind-small (each-vertex t) = omega arith
@@ -102,15 +102,15 @@ read-complete p l =
     let s : List ℕ = encode p in
     let n = length (p .paths) in
     let a = rows-complete s (p .paths) (started 7) [] (body-bytes (p .body)) refl (started-table 7) (l .paths-legal) refl (omega (arith, l .few-paths)) in
-    let w1 : Walk = rows-scan n s (started 7) in
+    let w1 : Progress = rows-scan n s (started 7) in
     let e1 : drop (w1 .at) s ≡ body-bytes (p .body) ++ [] =
     ap (λ (i : ℕ). drop i s) (a .at) ∙ drop-on s 7 (length (rows-bytes (p .paths))) (rows-bytes (p .paths)) (body-bytes (p .body)) refl refl ∙ sym (append-nil (body-bytes (p .body))) in
     let b = body-complete s (p .body) w1 (p .paths) [] (a .code) (a .table) (a .terms) e1 (l .body-legal) (l .few-terms) in
     let len = length-append (rows-bytes (p .paths)) (body-bytes (p .body)) in
     let whole =
-    plan-walk s (kind-of (p .body)) n (header-accepted 0x57 5 (kind-of (p .body) ∷ n ∷ (rows-bytes (p .paths) ++ body-bytes (p .body))) (omega arith)) refl (kind-small (p .body)) refl (l .few-paths)
+    plan-scanned s (kind-of (p .body)) n (header-accepted 0x57 5 (kind-of (p .body) ∷ n ∷ (rows-bytes (p .paths) ++ body-bytes (p .body))) (omega arith)) refl (kind-small (p .body)) refl (l .few-paths)
     ∙ ended-whole s (body-scan (kind-of (p .body)) s w1) (omega (arith, b .at, a .at)) in
-    subst (λ (w : Walk). Scanned w p) (sym whole) (record { accepted = b .code; terms = b .terms; reductions = b .reductions; table = b .table })
+    subst (λ (w : Progress). Scanned w p) (sym whole) (record { accepted = b .code; terms = b .terms; reductions = b .reductions; table = b .table })
 
 -- what an accepted text is: header, kind, count, and the rest read to its end
 accepted-parts : (s : List ℕ) → plan-code s ≡ 0
@@ -127,23 +127,23 @@ accepted-parts s e = go (eqb (opening-code 0x57 s) 0) (ltb 255 (getD s 6 256)) (
     go true false false p q r z = let f = opening-found 0x57 s (eqb-true (opening-code 0x57 s) 0 p) in (f .0, f .1, ltb-false 8 (getD s 6 256) r, z)
 
 -- a refused state is handed on
-body-handed : (kind : ℕ) (s : List ℕ) (w : Walk) → (w .code ≡ 0 → ⊥) → body-scan kind s w ≡ w
+body-handed : (kind : ℕ) (s : List ℕ) (w : Progress) → (w .code ≡ 0 → ⊥) → body-scan kind s w ≡ w
 unfolding body-scan
 body-handed kind s w n = rw (ne-eqb (w .code) 0 n) refl
 
-rows-accepted : (kind : ℕ) (s : List ℕ) (w : Walk) → body-scan kind s w .code ≡ 0 → w .code ≡ 0
+rows-accepted : (kind : ℕ) (s : List ℕ) (w : Progress) → body-scan kind s w .code ≡ 0 → w .code ≡ 0
 rows-accepted kind s w e = go (eqb (w .code) 0) refl
   where
     go : (b : Bool) → eqb (w .code) 0 ≡ b → w .code ≡ 0
     go true p = eqb-true (w .code) 0 p
-    go false p = let n = eqb-false (w .code) 0 p in sym (ap (λ (v : Walk). v .code) (body-handed kind s w n)) ∙ e
+    go false p = let n = eqb-false (w .code) 0 p in sym (ap (λ (v : Progress). v .code) (body-handed kind s w n)) ∙ e
 
 -- the entry count and what follows it, of an accepted text
 module _ (s : List ℕ) (bytes : Bytes s) where
-  abbrev Body-found : ℕ → Walk → List PathReduction → Type 0
+  abbrev Body-found : ℕ → Progress → List PathReduction → Type 0
   Body-found kind w cs = (b : Body) × (rest : List ℕ) × (kind-of b ≡ kind) × (drop (w .at) s ≡ body-bytes b ++ rest) × BodyLegal (length cs) b × (plan-terms b ≤ 64)
 
-  body-starts : (kind : ℕ) (w : Walk) → w .code ≡ 0 → body-scan kind s w .code ≡ 0
+  body-starts : (kind : ℕ) (w : Progress) → w .code ≡ 0 → body-scan kind s w .code ≡ 0
       → (w .at < length s) × (count-code kind (getD s (w .at) 256) ≡ 0) × (final-scan kind s (entries-scan (getD s (w .at) 256) kind s (moved w (w .at + 1) (getD s (w .at) 256))) .code ≡ 0)
   unfolding body-scan blank
   body-starts kind w z e = go (eqb (count-code kind (getD s (w .at) 256)) 0) (leb (length s) (w .at)) refl refl (rw (eq-eqb (w .code) 0 z) at e)
@@ -172,12 +172,12 @@ module _ (s : List ℕ) (bytes : Bytes s) where
       go false true p z = absurd (omega arith)
       go false false p z = ltb-false 8 b p
 
-  body-sound : (kind : ℕ) (w : Walk) (cs : List PathReduction) → kind ≤ 1 → w .code ≡ 0 → Table w cs → w .terms ≡ 0 → body-scan kind s w .code ≡ 0 → Body-found kind w cs
+  body-sound : (kind : ℕ) (w : Progress) (cs : List PathReduction) → kind ≤ 1 → w .code ≡ 0 → Table w cs → w .terms ≡ 0 → body-scan kind s w .code ≡ 0 → Body-found kind w cs
   unfolding moved final-scan entries-scan leaf-step literal-tag leaf-tag
   body-sound zero w cs k z tb n e =
       let p = body-starts 0 w z e in
       let one = count-zero (getD s (w .at) 256) (p .1) in
-      let w1 : Walk = moved w (w .at + 1) 1 in
+      let w1 : Progress = moved w (w .at + 1) 1 in
       let r : entry-scan 0 s w1 .code ≡ 0 = rw (eq-eqb (w .code) 0 z) at (rw one at (p .2)) in
       let f = entry-sound s bytes 0 w1 cs z (moved-table w cs (w .at + 1) 1 tb (omega arith)) r in (
         each-vertex (f .1),
@@ -191,13 +191,13 @@ module _ (s : List ℕ) (bytes : Bytes s) where
       let p = body-starts 1 w z e in
       let c = getD s (w .at) 256 in
       let few = count-few c (p .1) in
-      let w1 : Walk = moved w (w .at + 1) c in
-      let w2 : Walk = entries-scan c 1 s w1 in
+      let w1 : Progress = moved w (w .at + 1) c in
+      let w2 : Progress = entries-scan c 1 s w1 in
       let two = read-accepted 3 16 s w2 (p .2) in
       let t1 = moved-table w cs (w .at + 1) c tb few in
       let f = entries-sound s bytes c w1 cs z t1 (omega arith) two in
-      let walk : entries-scan (length (f .0)) 1 s w1 ≡ w2 = ap (λ (m : ℕ). entries-scan m 1 s w1) (f .2) in
-      let a = subst (λ (v : Walk). Passed w1 v cs (length (entries-bytes (f .0))) (entry-terms (f .0))) walk (entries-complete s (f .0) w1 cs (f .1) z t1 (f .3) (f .4) (f .5)) in
+      let reads : entries-scan (length (f .0)) 1 s w1 ≡ w2 = ap (λ (m : ℕ). entries-scan m 1 s w1) (f .2) in
+      let a = subst (λ (v : Progress). Passed w1 v cs (length (entries-bytes (f .0))) (entry-terms (f .0))) reads (entries-complete s (f .0) w1 cs (f .1) z t1 (f .3) (f .4) (f .5)) in
       let g = expr-sound s 3 reductions-of (λ w w′ p q. q) (λ w. refl) refl refl bytes w2 cs two (a .table) (omega (arith, a .reductions)) (p .2) in
       let rest : f .1 ≡ expression-bytes 3 (g .0) ++ g .1 =
       sym (ap (λ (i : ℕ). drop i s) (a .at) ∙ drop-on s (w .at + 1) (length (entries-bytes (f .0))) (entries-bytes (f .0)) (f .1) (f .4) refl) ∙ g .2 in (
@@ -218,12 +218,12 @@ read-sound s bytes e =
     let p = accepted-parts s e in
     let kind = getD s 5 256 in
     let count = getD s 6 256 in
-    let w1 : Walk = rows-scan (getD s 6 256) s (started 7) in
+    let w1 : Progress = rows-scan (getD s 6 256) s (started 7) in
     let z = ended-code s (body-scan kind s w1) (p .3) in
     let ok = rows-accepted kind s w1 (z .0) in
     let f = rows-sound s bytes count (started 7) [] refl (started-table 7) (omega (arith, p .2)) ok in
-    let walk : rows-scan (length (f .0)) s (started 7) ≡ w1 = ap (λ (m : ℕ). rows-scan m s (started 7)) (f .2) in
-    let a = subst (λ (v : Walk). RowsHeld (started 7) v (f .0) (length (rows-bytes (f .0)))) walk
+    let reads : rows-scan (length (f .0)) s (started 7) ≡ w1 = ap (λ (m : ℕ). rows-scan m s (started 7)) (f .2) in
+    let a = subst (λ (v : Progress). RowsHeld (started 7) v (f .0) (length (rows-bytes (f .0)))) reads
     (rows-complete s (f .0) (started 7) [] (f .1) refl (started-table 7) (f .3) (f .4) (omega (arith, p .2, f .2))) in
     let b = body-sound s bytes kind w1 (f .0) (p .1) ok (a .table) (a .terms) (z .0) in
     let c = subst (λ (k : ℕ). Further w1 (body-scan k s w1) (f .0) (length (body-bytes (b .0))) (plan-terms (b .0)) (entry-count (b .0))) (b .2)

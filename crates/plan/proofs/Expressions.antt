@@ -10,7 +10,7 @@ use lib.ListN.{length, getD, drop, length-append}
 use Rattle.meaning.specs.Limits.{terms, EntryLegal, Expression, entry-terms, unit}
 use Rattle.meaning.specs.Plan.{put-all}
 use Rattle.meaning.specs.Query.{PathReduction, Term, VertexReduction}
-use Rattle.terms.specs.declared.Walk.{Walk}
+use Rattle.terms.specs.declared.Progress.{Progress}
 use Rattle.terms.specs.Terms.{blank, index-step, leaf-step, leaf-tag, literal-tag, read}
 use Rattle.term_text.specs.Text.{expression-bytes}
 use Rattle.term_text.proofs.Exact.{expression-complete, expression-sound, index-count, index-leaves, index-paths}
@@ -24,18 +24,18 @@ use Rattle.plan.specs.Plan.{entries-scan, entry-scan, moved, reduction-c
 use Rattle.plan.specs.Text.{entries-bytes}
 
 -- so many bytes and terms further on, with the same path reductions
-abbrev pub Passed : Walk → Walk → List PathReduction → ℕ → ℕ → Type 0
+abbrev pub Passed : Progress → Progress → List PathReduction → ℕ → ℕ → Type 0
 Passed w w′ cs n z = Further w w′ cs n (w .terms + z) (w .reductions)
 
 -- an expression of an entry, or a final one: `held` is the count that its indices stay below
-module _ (s : List ℕ) (m : ℕ) (held : Walk → ℕ) (kept : (w w′ : Walk) → w′ .paths ≡ w .paths → w′ .reductions ≡ w .reductions → held w′ ≡ held w)
-    (is-index : (w : Walk) → leaf-step m s w ≡ index-step s w (held w)) (literal-not-leaf : eqb (literal-tag m) (leaf-tag m) ≡ false)
+module _ (s : List ℕ) (m : ℕ) (held : Progress → ℕ) (kept : (w w′ : Progress) → w′ .paths ≡ w .paths → w′ .reductions ≡ w .reductions → held w′ ≡ held w)
+    (is-index : (w : Progress) → leaf-step m s w ≡ index-step s w (held w)) (literal-not-leaf : eqb (literal-tag m) (leaf-tag m) ≡ false)
     (apply-not-leaf : eqb (literal-tag m + 1) (leaf-tag m) ≡ false) where
   none-put : (count : ℕ) (cs : List PathReduction) (t : Term ℕ) → put-all cs (term-paths (index-leaves m count) t) ≡ cs
   none-put count cs t = ap (put-all cs) (index-paths m count t)
 
   -- its bytes are read as it; and what is read are its bytes
-  pub expr-complete : (t : Term ℕ) (w : Walk) (cs : List PathReduction) (rest : List ℕ) → w .code ≡ 0 → Table w cs → held w ≤ 256
+  pub expr-complete : (t : Term ℕ) (w : Progress) (cs : List PathReduction) (rest : List ℕ) → w .code ≡ 0 → Table w cs → held w ≤ 256
       → drop (w .at) s ≡ expression-bytes m t ++ rest → Expression (held w) t → w .terms + terms unit t ≤ 64
       → Passed w (read m 16 s w) cs (length (expression-bytes m t)) (terms unit t)
   expr-complete t w cs rest z tb few e x l =
@@ -57,7 +57,7 @@ module _ (s : List ℕ) (m : ℕ) (held : Walk → ℕ) (kept : (w w′ : Walk) 
         table = subst (Table (read m 16 s w)) none (a .table);
       }
 
-  pub expr-sound : Bytes s → (w : Walk) (cs : List PathReduction) → w .code ≡ 0 → Table w cs → held w ≤ 256 → read m 16 s w .code ≡ 0
+  pub expr-sound : Bytes s → (w : Progress) (cs : List PathReduction) → w .code ≡ 0 → Table w cs → held w ≤ 256 → read m 16 s w .code ≡ 0
       → (t : Term ℕ) × (rest : List ℕ) × (drop (w .at) s ≡ expression-bytes m t ++ rest) × Expression (held w) t × (w .terms + terms unit t ≤ 64)
   expr-sound bytes w cs z tb few e =
       let f = expression-sound s m (held w) few held kept is-index literal-not-leaf apply-not-leaf bytes 16 w cs z tb refl e in
@@ -65,36 +65,36 @@ module _ (s : List ℕ) (m : ℕ) (held : Walk → ℕ) (kept : (w w′ : Walk) 
       (f .0, f .1, f .2, (room .fine, room .shallow), room .terms)
 
 -- the state further on is as good
-pub moved-table : (w : Walk) (cs : List PathReduction) (at n : ℕ) → Table w cs → n ≤ 8 → Table (moved w at n) cs
+pub moved-table : (w : Progress) (cs : List PathReduction) (at n : ℕ) → Table w cs → n ≤ 8 → Table (moved w at n) cs
 unfolding moved
 moved-table w cs at n t h = record { legal = t .legal; count = t .count; few = t .few; rest = t .rest; holds = t .holds; size = t .size; few-reductions = h }
 
 module _ (s : List ℕ) where
-  abbrev paths-of : Walk → ℕ
+  abbrev paths-of : Progress → ℕ
   paths-of w = w .paths
 
   -- an entry whose reduction byte is right
-  entry-walk : (kind : ℕ) (w : Walk) → w .at < length s → reduction-code kind (getD s (w .at) 256) ≡ 0
+  entry-scanned : (kind : ℕ) (w : Progress) → w .at < length s → reduction-code kind (getD s (w .at) 256) ≡ 0
       → entry-scan kind s w ≡ read 2 16 s (moved w (w .at + 1) (w .reductions))
   unfolding entry-scan
-  entry-walk kind w h c = rw (lt-leb (length s) (w .at) h, c) refl
+  entry-scanned kind w h c = rw (lt-leb (length s) (w .at) h, c) refl
 
   -- an entry: the same
-  pub entry-complete : (kind r : ℕ) (t : Term ℕ) (w : Walk) (cs : List PathReduction) (rest : List ℕ) → w .code ≡ 0 → Table w cs → reduction-code kind r ≡ 0
+  pub entry-complete : (kind r : ℕ) (t : Term ℕ) (w : Progress) (cs : List PathReduction) (rest : List ℕ) → w .code ≡ 0 → Table w cs → reduction-code kind r ≡ 0
       → drop (w .at) s ≡ r ∷ (expression-bytes 2 t ++ rest) → Expression (length cs) t → w .terms + terms unit t ≤ 64
       → Passed w (entry-scan kind s w) cs (suc (length (expression-bytes 2 t))) (terms unit t)
   unfolding moved leaf-step literal-tag leaf-tag
   entry-complete kind r t w cs rest z tb c e x l =
       let h = there s (w .at) r (expression-bytes 2 t ++ rest) e in
       let b : getD s (w .at) 256 ≡ r = rw (nth s (w .at) 0 (w .at) 256 (omega arith), e) refl in
-      let w1 : Walk = moved w (w .at + 1) (w .reductions) in
+      let w1 : Progress = moved w (w .at + 1) (w .reductions) in
       let next = drop-on s (w .at) 1 (r ∷ []) (expression-bytes 2 t ++ rest) e refl in
       let a = expr-complete s 2 paths-of (λ w w′ p q. p) (λ w. refl) refl refl t w1 cs rest z (moved-table w cs (w .at + 1) (w .reductions) tb (tb .few-reductions))
       (omega (arith, tb .count, tb .few)) next (subst (λ (n : ℕ). Expression n t) (sym (tb .count)) x) l in
-      subst (λ (v : Walk). Passed w v cs (suc (length (expression-bytes 2 t))) (terms unit t)) (sym (entry-walk kind w h (rw b c)))
+      subst (λ (v : Progress). Passed w v cs (suc (length (expression-bytes 2 t))) (terms unit t)) (sym (entry-scanned kind w h (rw b c)))
       (record { code = a .code; at = omega (arith, a .at); terms = a .terms; reductions = a .reductions; table = a .table })
 
-  pub entry-sound : Bytes s → (kind : ℕ) (w : Walk) (cs : List PathReduction) → w .code ≡ 0 → Table w cs → entry-scan kind s w .code ≡ 0
+  pub entry-sound : Bytes s → (kind : ℕ) (w : Progress) (cs : List PathReduction) → w .code ≡ 0 → Table w cs → entry-scan kind s w .code ≡ 0
       → (r : ℕ) × (t : Term ℕ) × (rest : List ℕ) × (reduction-code kind r ≡ 0) × (drop (w .at) s ≡ r ∷ (expression-bytes 2 t ++ rest)) × Expression (length cs) t × (w .terms + terms unit t ≤ 64)
   unfolding moved leaf-step literal-tag leaf-tag blank entry-scan
   entry-sound bytes kind w cs z tb e = go (leb (length s) (w .at)) (eqb (reduction-code kind (getD s (w .at) 256)) 0) refl refl
@@ -106,7 +106,7 @@ module _ (s : List ℕ) where
       go false true p q =
           let h = leb-false (length s) (w .at) p in
           let c = eqb-true (reduction-code kind (getD s (w .at) 256)) 0 q in
-          let w1 : Walk = moved w (w .at + 1) (w .reductions) in
+          let w1 : Progress = moved w (w .at + 1) (w .reductions) in
           let f = expr-sound s 2 paths-of (λ w w′ p q. p) (λ w. refl) refl refl bytes w1 cs z (moved-table w cs (w .at + 1) (w .reductions) tb (tb .few-reductions))
           (omega (arith, tb .count, tb .few)) (rw (p, q) at e) in (
             getD s (w .at) 256,
@@ -119,7 +119,7 @@ module _ (s : List ℕ) where
           )
 
   -- ENTRIES OF KIND 1 ARE READ EXACTLY
-  pub entries-complete : (es : List (VertexReduction ℕ)) (w : Walk) (cs : List PathReduction) (rest : List ℕ) → w .code ≡ 0 → Table w cs → All (EntryLegal (length cs)) es
+  pub entries-complete : (es : List (VertexReduction ℕ)) (w : Progress) (cs : List PathReduction) (rest : List ℕ) → w .code ≡ 0 → Table w cs → All (EntryLegal (length cs)) es
       → drop (w .at) s ≡ entries-bytes es ++ rest → w .terms + entry-terms es ≤ 64
       → Passed w (entries-scan (length es) 1 s w) cs (length (entries-bytes es)) (entry-terms es)
   unfolding entries-scan
@@ -129,7 +129,7 @@ module _ (s : List ℕ) where
       e ∙ ap (λ (l : List ℕ). d .reduction ∷ l) (append-assoc (expression-bytes 2 (d .body)) (entries-bytes es) rest) in
       let g = f .0 in
       let a = entry-complete 1 (d .reduction) (d .body) w cs (entries-bytes es ++ rest) z tb (code-zero (d .reduction) 5 (g .0) (g .1) (omega arith)) e1 (g .2) (omega arith) in
-      let w1 : Walk = entry-scan 1 s w in
+      let w1 : Progress = entry-scan 1 s w in
       let e2 : drop (w1 .at) s ≡ entries-bytes es ++ rest =
       ap (λ (i : ℕ). drop i s) (a .at) ∙ drop-on s (w .at) (suc (length (expression-bytes 2 (d .body)))) (d .reduction ∷ expression-bytes 2 (d .body)) (entries-bytes es ++ rest) e1 refl in
       let b = entries-complete es w1 cs rest (a .code) (a .table) (f .1) e2 (omega (arith, a .terms)) in
@@ -142,17 +142,17 @@ module _ (s : List ℕ) where
         table = b .table;
       })
 
-  entries-refused : (k kind : ℕ) (w : Walk) → (w .code ≡ 0 → ⊥) → entries-scan k kind s w ≡ w
+  entries-refused : (k kind : ℕ) (w : Progress) → (w .code ≡ 0 → ⊥) → entries-scan k kind s w ≡ w
   unfolding entries-scan
   entries-refused zero kind w n = refl
   entries-refused (suc k) kind w n = rw (ne-eqb (w .code) 0 n) refl
 
   -- k legal entries whose bytes stand next
-  abbrev Entries : ℕ → Walk → List PathReduction → Type 0
+  abbrev Entries : ℕ → Progress → List PathReduction → Type 0
   Entries k w cs =
       (es : List (VertexReduction ℕ)) × (rest : List ℕ) × (length es ≡ k) × All (EntryLegal (length cs)) es × (drop (w .at) s ≡ entries-bytes es ++ rest) × (w .terms + entry-terms es ≤ 64)
 
-  pub entries-sound : Bytes s → (k : ℕ) (w : Walk) (cs : List PathReduction) → w .code ≡ 0 → Table w cs → w .terms ≤ 64 → entries-scan k 1 s w .code ≡ 0 → Entries k w cs
+  pub entries-sound : Bytes s → (k : ℕ) (w : Progress) (cs : List PathReduction) → w .code ≡ 0 → Table w cs → w .terms ≤ 64 → entries-scan k 1 s w .code ≡ 0 → Entries k w cs
   unfolding entries-scan
   entries-sound bytes zero w cs z tb l e = ([], drop (w .at) s, refl, tt, refl, omega arith)
   entries-sound bytes (suc k) w cs z tb l e = first (eqb (entry-scan 1 s w .code) 0) refl (entries-sound bytes k)
@@ -161,10 +161,10 @@ module _ (s : List ℕ) where
       on = rw (eq-eqb (w .code) 0 z) at e
 
       first : (b : Bool) → eqb (entry-scan 1 s w .code) 0 ≡ b
-          → ((w : Walk) (cs : List PathReduction) → w .code ≡ 0 → Table w cs → w .terms ≤ 64 → entries-scan k 1 s w .code ≡ 0 → Entries k w cs) → Entries (suc k) w cs
+          → ((w : Progress) (cs : List PathReduction) → w .code ≡ 0 → Table w cs → w .terms ≤ 64 → entries-scan k 1 s w .code ≡ 0 → Entries k w cs) → Entries (suc k) w cs
       first false p ih =
           let n = eqb-false (entry-scan 1 s w .code) 0 p in
-          absurd (n (sym (ap (λ (v : Walk). v .code) (entries-refused k 1 (entry-scan 1 s w) n)) ∙ on))
+          absurd (n (sym (ap (λ (v : Progress). v .code) (entries-refused k 1 (entry-scan 1 s w) n)) ∙ on))
       first true p ih =
           let f = entry-sound bytes 1 w cs z tb (eqb-true (entry-scan 1 s w .code) 0 p) in
           let range = code-range (f .0) 5 (f .3) in

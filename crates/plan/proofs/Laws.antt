@@ -6,26 +6,26 @@ use mathlib.Core.List.{List}
 use native.Mathlib.Omega.{arith}
 use native.Mathlib.Nat.{not-suc-le-zero}
 use lib.Dec.{eqb}
-use Rattle.terms.specs.declared.Walk.{Walk}
+use Rattle.terms.specs.declared.Progress.{Progress}
 use Rattle.plan.specs.Plan.{entries-scan, entry-scan, row-step, rows-scan}
 
-pub rows-next : (k : ℕ) (s : List ℕ) (w : Walk) → 0 < k → rows-scan k s w ≡ cond (eqb (w .code) 0) (rows-scan (k - 1) s (row-step s w)) w
+pub rows-next : (k : ℕ) (s : List ℕ) (w : Progress) → 0 < k → rows-scan k s w ≡ cond (eqb (w .code) 0) (rows-scan (k - 1) s (row-step s w)) w
 unfolding rows-scan
 rows-next zero s w h = absurd (not-suc-le-zero h)
 rows-next (suc k) s w h = ap (λ (n : ℕ). cond (eqb (w .code) 0) (rows-scan n s (row-step s w)) w) (let e : k ≡ suc k - 1 = omega arith in e)
 
-pub rows-none : (k : ℕ) (s : List ℕ) (w : Walk) → k ≡ 0 → rows-scan k s w ≡ w
+pub rows-none : (k : ℕ) (s : List ℕ) (w : Progress) → k ≡ 0 → rows-scan k s w ≡ w
 unfolding rows-scan
 rows-none zero s w e = refl
 rows-none (suc k) s w e = absurd (omega arith)
 
-pub entries-next : (k kind : ℕ) (s : List ℕ) (w : Walk) → 0 < k
+pub entries-next : (k kind : ℕ) (s : List ℕ) (w : Progress) → 0 < k
     → entries-scan k kind s w ≡ cond (eqb (w .code) 0) (entries-scan (k - 1) kind s (entry-scan kind s w)) w
 unfolding entries-scan
 entries-next zero kind s w h = absurd (not-suc-le-zero h)
 entries-next (suc k) kind s w h = ap (λ (n : ℕ). cond (eqb (w .code) 0) (entries-scan n kind s (entry-scan kind s w)) w) (let e : k ≡ suc k - 1 = omega arith in e)
 
-pub entries-none : (k kind : ℕ) (s : List ℕ) (w : Walk) → k ≡ 0 → entries-scan k kind s w ≡ w
+pub entries-none : (k kind : ℕ) (s : List ℕ) (w : Progress) → k ≡ 0 → entries-scan k kind s w ≡ w
 unfolding entries-scan
 entries-none zero kind s w e = refl
 entries-none (suc k) kind s w e = absurd (omega arith)

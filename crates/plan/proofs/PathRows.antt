@@ -12,7 +12,7 @@ use lib.Seq.{set-at, append-snoc}
 use Rattle.meaning.specs.Limits.{PathFits}
 use Rattle.meaning.specs.Query.{PathReduction}
 use Rattle.meaning.proofs.Lists.{all-append, map-append}
-use Rattle.terms.specs.declared.Walk.{Walk}
+use Rattle.terms.specs.declared.Progress.{Progress}
 use Rattle.fields.specs.Fields.{code-of, source-code}
 use Rattle.terms.specs.Terms.{blank}
 use Rattle.term_text.specs.Text.{path-number}
@@ -162,18 +162,18 @@ module _ (s : List ℕ) where
       )
 
 -- n bytes further, with the path reductions cs and no more terms
-abbrev pub RowsHeld : Walk → Walk → List PathReduction → ℕ → Type 0
+abbrev pub RowsHeld : Progress → Progress → List PathReduction → ℕ → Type 0
 RowsHeld w w′ cs n = Further w w′ cs n (w .terms) (w .reductions)
 
 module _ (s : List ℕ) where
   -- one more is held
-  row-held : (w : Walk) (cs : List PathReduction) (c : PathReduction) → w .code ≡ 0 → Table w cs → PathFits 256 c → w .at < length s → row-code s (w .at) ≡ 0
+  row-held : (w : Progress) (cs : List PathReduction) (c : PathReduction) → w .code ≡ 0 → Table w cs → PathFits 256 c → w .at < length s → row-code s (w .at) ≡ 0
       → row-word s (w .at) ≡ path-number c → suc (length cs) ≤ 8 → RowsHeld w (row-step s w) (cs ++ (c ∷ [])) 6
   unfolding row-step
   row-held w cs c z t f h code word l =
       let made : row-step s w ≡ record { code = w .code; at = w .at + 6; terms = w .terms; paths = w .paths + 1; reductions = w .reductions; table = set (w .table) (w .paths) (path-number c) } =
       rw (lt-leb (length s) (w .at) h, code, lt-leb 8 (w .paths) (omega (arith, t .count)), word) refl in
-      subst (λ (v : Walk). RowsHeld w v (cs ++ (c ∷ [])) 6) (sym made)
+      subst (λ (v : Progress). RowsHeld w v (cs ++ (c ∷ [])) 6) (sym made)
       (record { code = z; at = refl; terms = refl; reductions = refl; table = stored (t .rest) (t .holds) })
     where
       stored : (rest : List ℕ) → w .table ≡ map path-number cs ++ rest
@@ -194,7 +194,7 @@ module _ (s : List ℕ) where
       }
 
   -- the bytes of legal path reductions are read as they
-  pub rows-complete : (ds : List PathReduction) (w : Walk) (cs : List PathReduction) (rest : List ℕ) → w .code ≡ 0 → Table w cs → All (PathFits 256) ds
+  pub rows-complete : (ds : List PathReduction) (w : Progress) (cs : List PathReduction) (rest : List ℕ) → w .code ≡ 0 → Table w cs → All (PathFits 256) ds
       → drop (w .at) s ≡ rows-bytes ds ++ rest → length cs + length ds ≤ 8 → RowsHeld w (rows-scan (length ds) s w) (cs ++ ds) (length (rows-bytes ds))
   unfolding rows-scan
   rows-complete [] w cs rest z t f e l =
@@ -215,13 +215,13 @@ module _ (s : List ℕ) where
         table = subst (Table (rows-scan (length ds) s (row-step s w))) more (b .table);
       })
 
-  rows-refused : (k : ℕ) (w : Walk) → (w .code ≡ 0 → ⊥) → rows-scan k s w ≡ w
+  rows-refused : (k : ℕ) (w : Progress) → (w .code ≡ 0 → ⊥) → rows-scan k s w ≡ w
   unfolding rows-scan
   rows-refused zero w n = refl
   rows-refused (suc k) w n = rw (ne-eqb (w .code) 0 n) refl
 
   -- and what is read are the bytes of legal ones
-  pub rows-sound : Bytes s → (k : ℕ) (w : Walk) (cs : List PathReduction) → w .code ≡ 0 → Table w cs → length cs + k ≤ 8 → rows-scan k s w .code ≡ 0
+  pub rows-sound : Bytes s → (k : ℕ) (w : Progress) (cs : List PathReduction) → w .code ≡ 0 → Table w cs → length cs + k ≤ 8 → rows-scan k s w .code ≡ 0
       → (ds : List PathReduction) × (rest : List ℕ) × (length ds ≡ k) × All (PathFits 256) ds × (drop (w .at) s ≡ rows-bytes ds ++ rest)
   unfolding rows-scan row-step blank
   rows-sound bytes zero w cs z t l e = ([], drop (w .at) s, refl, tt, refl)
@@ -231,10 +231,10 @@ module _ (s : List ℕ) where
       on = rw (eq-eqb (w .code) 0 z) at e
 
       stops : (n : ℕ) → (n ≡ 0 → ⊥) → row-step s w ≡ blank n → ⊥
-      stops n f p = f (sym (ap (λ (v : Walk). v .code) (ap (rows-scan k s) p ∙ rows-refused k (blank n) f)) ∙ on)
+      stops n f p = f (sym (ap (λ (v : Progress). v .code) (ap (rows-scan k s) p ∙ rows-refused k (blank n) f)) ∙ on)
 
       go : (a b : Bool) → leb (length s) (w .at) ≡ a → eqb (row-code s (w .at)) 0 ≡ b
-          → ((w : Walk) (cs : List PathReduction) → w .code ≡ 0 → Table w cs → length cs + k ≤ 8 → rows-scan k s w .code ≡ 0
+          → ((w : Progress) (cs : List PathReduction) → w .code ≡ 0 → Table w cs → length cs + k ≤ 8 → rows-scan k s w .code ≡ 0
           → (ds : List PathReduction) × (rest : List ℕ) × (length ds ≡ k) × All (PathFits 256) ds × (drop (w .at) s ≡ rows-bytes ds ++ rest))
           → (ds : List PathReduction) × (rest : List ℕ) × (length ds ≡ suc k) × All (PathFits 256) ds × (drop (w .at) s ≡ rows-bytes ds ++ rest)
       go true b p q ih = absurd (stops 1 (λ x. omega arith) (rw p refl))

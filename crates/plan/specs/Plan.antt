@@ -4,7 +4,7 @@ use mathlib.Core.Bool.{cond}
 use mathlib.Core.List.{List}
 use lib.Dec.{leb, ltb, eqb}
 use lib.ListN.{length, getD, set}
-use Rattle.terms.specs.declared.Walk.{Walk}
+use Rattle.terms.specs.declared.Progress.{Progress}
 use Rattle.fields.specs.Fields.{code-of, key-code, opening-code, packed, source-code}
 use Rattle.terms.specs.Terms.{blank, ended, read, started}
 use Rattle.wire.specs.Header.{then}
@@ -32,7 +32,7 @@ row-word s i =
     packed (getD s i 256) (getD s (i + 1) 256) (getD s (i + 2) 256) (getD s (i + 3) 256) (getD s (i + 4) 256) (getD s (i + 5) 256)
 
 -- one chain more (equal chains stay apart: they are legal here)
-unfoldable pub row-step : List ℕ → Walk → Walk
+unfoldable pub row-step : List ℕ → Progress → Progress
 row-step s w =
     cond (leb (length s) (w .at)) (blank 1)
     (cond (eqb (row-code s (w .at)) 0)
@@ -48,7 +48,7 @@ row-step s w =
     (blank (row-code s (w .at))))
 
 -- k of them; a refusal is handed on
-unfoldable pub rows-scan : ℕ → List ℕ → Walk → Walk
+unfoldable pub rows-scan : ℕ → List ℕ → Progress → Progress
 rows-scan zero s w = w
 rows-scan (suc k) s w = cond (eqb (w .code) 0) (rows-scan k s (row-step s w)) w
 
@@ -57,17 +57,17 @@ abbrev pub reduction-code : ℕ → ℕ → ℕ
 reduction-code kind b = cond (eqb kind 0) (filler-code b) (code-of b 5)
 
 -- the same state further on
-unfoldable pub moved : Walk → ℕ → ℕ → Walk
+unfoldable pub moved : Progress → ℕ → ℕ → Progress
 moved w at reductions = record { code = w .code; at = at; terms = w .terms; paths = w .paths; reductions = reductions; table = w .table }
 
 -- "e entries, each a reduction byte and an expression"
-unfoldable pub entry-scan : ℕ → List ℕ → Walk → Walk
+unfoldable pub entry-scan : ℕ → List ℕ → Progress → Progress
 entry-scan kind s w =
     let c = reduction-code kind (getD s (w .at) 256) in
     cond (leb (length s) (w .at)) (blank 1) (cond (eqb c 0) (read 2 16 s (moved w (w .at + 1) (w .reductions))) (blank c))
 
 -- k of them; a refusal is handed on
-unfoldable pub entries-scan : ℕ → ℕ → List ℕ → Walk → Walk
+unfoldable pub entries-scan : ℕ → ℕ → List ℕ → Progress → Progress
 entries-scan zero kind s w = w
 entries-scan (suc k) kind s w = cond (eqb (w .code) 0) (entries-scan k kind s (entry-scan kind s w)) w
 
@@ -76,11 +76,11 @@ abbrev pub count-code : ℕ → ℕ → ℕ
 count-code kind b = cond (ltb 255 b) 1 (cond (eqb kind 0) (cond (eqb b 1) 0 9) (cond (ltb 8 b) 14 0))
 
 -- "for kind 1 a final expression"
-unfoldable pub final-scan : ℕ → List ℕ → Walk → Walk
+unfoldable pub final-scan : ℕ → List ℕ → Progress → Progress
 final-scan kind s w = cond (eqb kind 0) w (read 3 16 s w)
 
 -- from the entry count on
-unfoldable pub body-scan : ℕ → List ℕ → Walk → Walk
+unfoldable pub body-scan : ℕ → List ℕ → Progress → Progress
 body-scan kind s w =
     let e = getD s (w .at) 256 in
     cond (eqb (w .code) 0)
@@ -90,7 +90,7 @@ body-scan kind s w =
     w
 
 -- the whole reading: header, kind, chain count, chains, entries, final expression, left-over bytes
-unfoldable pub plan-scan : List ℕ → Walk
+unfoldable pub plan-scan : List ℕ → Progress
 plan-scan s =
     let kind = getD s 5 256 in
     let count = getD s 6 256 in

@@ -1,5 +1,5 @@
 // Plans (document 01, worksheet `LPW`): judged and read.
-use terms::Walk;
+use terms::Progress;
 ghost use mathlib.Core.Path.{_≡_};
 ghost use Prim.Native.Nat.{_+_, _≤_, _<_};
 ghost use lib.ListN.{length};
@@ -73,7 +73,7 @@ fn row_word_of(s: &[u8], at: usize) -> u64
 }
 
 // One path reduction more.
-fn row_step_of(s: &[u8], w: Walk) -> Walk
+fn row_step_of(s: &[u8], w: Progress) -> Progress
     ensures { λ r. ⌜ r ≡ row-step (now (s .entry)) w ⌝ }
 {
     let at = w.at;
@@ -96,7 +96,7 @@ fn row_step_of(s: &[u8], w: Walk) -> Walk
 }
 
 // The path reductions, k of them. A refusal is handed on.
-fn rows(s: &[u8], w: Walk, k: usize) -> Walk
+fn rows(s: &[u8], w: Progress, k: usize) -> Progress
     ensures { λ r. ⌜ r ≡ rows-scan k (now (s .entry)) w ⌝ }
 {
     let mut state = w;
@@ -122,7 +122,7 @@ fn reduction_code_of(kind: u16, b: u16) -> u8
 }
 
 // An entry: its reduction byte and its expression.
-fn entry(s: &[u8], w: Walk, kind: u16) -> Walk
+fn entry(s: &[u8], w: Progress, kind: u16) -> Progress
     ensures { λ r. ⌜ r ≡ entry-scan kind (now (s .entry)) w ⌝ }
 {
     let at = w.at;
@@ -139,7 +139,7 @@ fn entry(s: &[u8], w: Walk, kind: u16) -> Walk
 }
 
 // The entries, k of them. A refusal is handed on.
-fn entries(s: &[u8], w: Walk, kind: u16, k: usize) -> Walk
+fn entries(s: &[u8], w: Progress, kind: u16, k: usize) -> Progress
     ensures { λ r. ⌜ r ≡ entries-scan k kind (now (s .entry)) w ⌝ }
 {
     let mut state = w;
@@ -174,7 +174,7 @@ fn count_code_of(kind: u16, b: u16) -> u8
 }
 
 // The final expression of kind 1.
-fn final_of(s: &[u8], w: Walk, kind: u16) -> Walk
+fn final_of(s: &[u8], w: Progress, kind: u16) -> Progress
     ensures { λ r. ⌜ r ≡ final-scan kind (now (s .entry)) w ⌝ }
 {
     if kind == 0 {
@@ -184,7 +184,7 @@ fn final_of(s: &[u8], w: Walk, kind: u16) -> Walk
 }
 
 // The entries and the final expression, from the entry count on.
-fn body(s: &[u8], w: Walk, kind: u16) -> Walk
+fn body(s: &[u8], w: Progress, kind: u16) -> Progress
     ensures { λ r. ⌜ r ≡ body-scan kind (now (s .entry)) w ⌝ }
 {
     if w.code != 0 {
@@ -206,7 +206,7 @@ fn body(s: &[u8], w: Walk, kind: u16) -> Walk
 }
 
 // The reading of a whole worksheet: its path reductions in the table, its terms and entries counted; or a refusal.
-pub fn scan(s: &[u8]) -> Walk
+pub fn scan(s: &[u8]) -> Progress
     ensures { λ r. ⌜ r ≡ plan-scan (now (s .entry)) ⌝ }
 {
     let c = fields::opening_code(s, 0x57);

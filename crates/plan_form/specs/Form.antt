@@ -18,7 +18,7 @@ use Rattle.plan.specs.Plan.{plan-code, plan-scan}
 use Rattle.plan.specs.Text.{entry-count, kind-of}
 use Rattle.term_text.specs.Text.{path-number}
 use Rattle.wire.specs.Header.{header-bytes}
-use Rattle.terms.specs.declared.Walk.{Walk}
+use Rattle.terms.specs.declared.Progress.{Progress}
 use Rattle.wire.specs.Wire.{Reply, fitted, le16, unless}
 use Rattle.plan_form.specs.declared.Form.{Form}
 use Rattle.plan_form.specs.declared.Reading.{Reading}
@@ -67,8 +67,8 @@ blank-reading code = record {
   form = record { kind = 0; paths = 0; table = replicate 8 0; entries = 0; count = 0; nodes = replicate 72 (node Empty) };
 }
 
--- from what the reader's walk over the bytes has found
-unfoldable pub read-after : List ℕ → Walk → Reading
+-- from what the reader of the bytes has found
+unfoldable pub read-after : List ℕ → Progress → Reading
 read-after s w =
     let count = min (w .terms) 64 + min (w .reductions) 8 in
     cond (eqb (w .code) 0)

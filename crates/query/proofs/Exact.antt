@@ -12,7 +12,7 @@ use Rattle.meaning.specs.Plan.{put-all}
 use Rattle.meaning.specs.Query.{PathReduction, Query, Term, each, single, written-paths}
 use Rattle.fields.specs.Fields.{opening-code}
 use Rattle.fields.proofs.Opening.{opening-found}
-use Rattle.terms.specs.declared.Walk.{Walk}
+use Rattle.terms.specs.declared.Progress.{Progress}
 use Rattle.terms.specs.Terms.{blank, ended, read, started}
 use Rattle.term_text.specs.Text.{term-bytes}
 use Rattle.term_text.proofs.Exact.{result-complete, result-count, result-leaves, result-paths, result-sound, vertex-complete, vertex-count, vertex-leaves, vertex-paths, vertex-sound}
@@ -26,7 +26,7 @@ use Rattle.wire.proofs.Header.{header-accepted, header-found}
 use Rattle.query.specs.Query.{encode, query-code, query-scan}
 
 -- what the reader knows of an accepted query: its table of different path reductions in order of first writing, its terms and its reductions
-pub record Scanned (w : Walk) (q : Query) : Type 0 where
+pub record Scanned (w : Progress) (q : Query) : Type 0 where
   pub accepted : w .code ≡ 0
   pub terms : w .terms ≡ query-terms q
   pub reductions : w .reductions ≡ query-reductions q
@@ -46,7 +46,7 @@ joined s kind l rest k h c d n =
     sym (header-found 0x51 5 s c ∙ ap (λ (t : List ℕ). header-bytes 0x51 ++ t) (drop-at s 5 p ∙ ap₂ (λ (x : ℕ) (t : List ℕ). x ∷ t) k (d ∙ ap (λ (t : List ℕ). l ++ t) none ∙ append-nil l)))
 
 -- BOTH KINDS ALIKE: kind m, its leaves, and the query that a term of it is
-module _ {A : Type 0} (K : Leaves A) (m : ℕ) (low : m ≤ 1) (Ready : Walk → Type 0) (ready : Ready (started 6)) (of : Term A → Query)
+module _ {A : Type 0} (K : Leaves A) (m : ℕ) (low : m ≤ 1) (Ready : Progress → Type 0) (ready : Ready (started 6)) (of : Term A → Query)
     (text : (t : Term A) → encode (of t) ≡ header-bytes 0x51 ++ (m ∷ term-bytes m (K .bytes) t))
     (size : (t : Term A) → query-terms (of t) ≡ terms (K .size) t) (deep : (t : Term A) → query-depth (of t) ≡ depth (K .deep) t)
     (paths : (t : Term A) → term-paths K t ≡ written-paths (of t)) (count : (t : Term A) → term-count K t ≡ query-reductions (of t))
@@ -65,7 +65,7 @@ module _ {A : Type 0} (K : Leaves A) (m : ℕ) (low : m ≤ 1) (Ready : Walk →
         reductions = omega (arith, l .few-reductions, count t);
       }) in
       let whole = scan-is s m (header-accepted 0x51 5 (m ∷ term-bytes m (K .bytes) t) (omega arith)) refl low ∙ ended-whole s (read m 16 s (started 6)) (omega (arith, a .at)) in
-      subst (λ (w : Walk). Scanned w (of t)) (sym (ap query-scan (text t) ∙ whole))
+      subst (λ (w : Progress). Scanned w (of t)) (sym (ap query-scan (text t) ∙ whole))
       (record {
         accepted = a .code;
         terms = omega (arith, a .terms, size t);

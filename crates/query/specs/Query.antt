@@ -6,7 +6,7 @@ use lib.Dec.{eqb}
 use lib.ListN.{getD}
 use Rattle.meaning.specs.Query.{Query, each, single}
 use Rattle.fields.specs.Fields.{opening-code}
-use Rattle.terms.specs.declared.Walk.{Walk}
+use Rattle.terms.specs.declared.Progress.{Progress}
 use Rattle.terms.specs.Terms.{blank, ended, read, started}
 use Rattle.term_text.specs.Text.{result-bytes, vertex-bytes}
 use Rattle.wire.specs.Header.{header-bytes}
@@ -21,7 +21,7 @@ abbrev pub encode : Query → List ℕ
 encode q = header-bytes 0x51 ++ body-bytes q
 
 -- the reading: header, kind, the term to a depth of 16, left-over bytes
-unfoldable pub query-scan : List ℕ → Walk
+unfoldable pub query-scan : List ℕ → Progress
 query-scan s =
     cond (eqb (opening-code 0x51 s) 0) (ended s (read (getD s 5 256) 16 s (started 6))) (blank (opening-code 0x51 s))
 

@@ -1,10 +1,10 @@
 // Queries (document 01, question `LPQ`): judged and read.
-use terms::Walk;
+use terms::Progress;
 ghost use mathlib.Core.Path.{_≡_};
 ghost use Rattle.query.specs.Query.{query-scan, query-code};
 
 // The reading of a whole question: its terms counted, with the table of its different path reductions; or a refusal.
-pub fn scan(s: &[u8]) -> Walk
+pub fn scan(s: &[u8]) -> Progress
     ensures { λ r. ⌜ r ≡ query-scan (now (s .entry)) ⌝ }
 {
     let c = fields::opening_code(s, 0x51);

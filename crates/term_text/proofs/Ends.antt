@@ -7,7 +7,7 @@ use native.Mathlib.Omega.{arith}
 use borrow.Author.Tests.{ltb-false, eqb-false, le-ltb}
 use lib.Dec.{ltb, eqb}
 use lib.ListN.{length, replicate}
-use Rattle.terms.specs.declared.Walk.{Walk}
+use Rattle.terms.specs.declared.Progress.{Progress}
 use Rattle.terms.specs.Terms.{blank, ended, started}
 use Rattle.term_text.proofs.Table.{Table}
 
@@ -17,7 +17,7 @@ unfolding started
 started-table at = record { legal = tt; count = refl; few = omega arith; rest = replicate 8 0; holds = refl; size = refl; few-reductions = omega arith }
 
 -- nothing is left over exactly where the reading has come to the end
-pub ended-whole : (s : List ℕ) (w : Walk) → length s ≤ w .at → ended s w ≡ w
+pub ended-whole : (s : List ℕ) (w : Progress) → length s ≤ w .at → ended s w ≡ w
 unfolding ended
 ended-whole s w h = go (eqb (w .code) 0)
   where
@@ -25,7 +25,7 @@ ended-whole s w h = go (eqb (w .code) 0)
     go true = rw (le-ltb (w .at) (length s) h) refl
     go false = refl
 
-pub ended-code : (s : List ℕ) (w : Walk) → ended s w .code ≡ 0 → (w .code ≡ 0) × (length s ≤ w .at)
+pub ended-code : (s : List ℕ) (w : Progress) → ended s w .code ≡ 0 → (w .code ≡ 0) × (length s ≤ w .at)
 unfolding ended blank
 ended-code s w e = go (eqb (w .code) 0) (ltb (w .at) (length s)) refl refl e
   where

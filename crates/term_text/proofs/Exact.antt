@@ -13,7 +13,7 @@ use Rattle.meaning.specs.Plan.{put-all}
 use Rattle.meaning.specs.Query.{PathReduction, ResultTerm, Term, VertexReduction, VertexTerm, apply, bodies, leaf, leaves, literal}
 use Rattle.meaning.proofs.Lists.{bodies-append}
 use Rattle.wire.specs.Wire.{Bytes, le16}
-use Rattle.terms.specs.declared.Walk.{Walk}
+use Rattle.terms.specs.declared.Progress.{Progress}
 use Rattle.fields.specs.Fields.{code-of, path-code}
 use Rattle.terms.specs.Terms.{advanced, blank, index-step, kept-path, leaf-step, leaf-tag, literal-tag, path-step, read, reduce-step, stopped, term-step}
 use Rattle.term_text.specs.Text.{path-bytes, path-number, vertex-bytes}
@@ -39,19 +39,19 @@ vertex-count (literal k) = refl
 vertex-count (apply o t u) = omega (arith, vertex-count t, vertex-count u)
 
 -- nothing is asked of the state
-abbrev Always : Walk → Type 0
+abbrev Always : Progress → Type 0
 Always w = Unit {0}
 
 module _ (s : List ℕ) where
   -- a leaf is read by its step
-  path-walk : (d : ℕ) (w : Walk) → w .code ≡ 0 → w .at < length s → w .terms < 64 → getD s (w .at) 0 ≡ 0x10
-      → read 0 (suc d) s w ≡ path-step s w .walk
+  path-read : (d : ℕ) (w : Progress) → w .code ≡ 0 → w .at < length s → w .terms < 64 → getD s (w .at) 0 ≡ 0x10
+      → read 0 (suc d) s w ≡ path-step s w .progress
   unfolding leaf-tag leaf-step path-step
-  path-walk d w z h k tag =
+  path-read d w z h k tag =
       let step : term-step 0 (suc d) s w ≡ path-step s w = step-is s 0 d w h k ∙ rw tag refl in
       go (eqb (path-code s (w .at + 1)) 0) refl step
     where
-      go : (b : Bool) → eqb (path-code s (w .at + 1)) 0 ≡ b → term-step 0 (suc d) s w ≡ path-step s w → read 0 (suc d) s w ≡ path-step s w .walk
+      go : (b : Bool) → eqb (path-code s (w .at + 1)) 0 ≡ b → term-step 0 (suc d) s w ≡ path-step s w → read 0 (suc d) s w ≡ path-step s w .progress
       go true p e = read-by s 0 d w z (path-step s w) e ∙ rw p refl
       go false p e = read-by s 0 d w z (path-step s w) e ∙ rw p refl
 
@@ -65,11 +65,11 @@ module _ (s : List ℕ) where
       let ok = path-accepted s c (room .fine) (w .at + 1) rest next in
       let n = path-count s c (room .fine) (w .at + 1) rest next in
       let number = path-numbered s c (room .fine) (w .at + 1) rest next in
-      let w1 : Walk = advanced w (w .at + 1 + 3 + length (c .keys)) in
-      let walk : read 0 (suc d) s w ≡ kept-path w1 (path-number c) = path-walk d w z i (omega (arith, room .terms)) tag ∙ rw (ok, n, number) refl in
+      let w1 : Progress = advanced w (w .at + 1 + 3 + length (c .keys)) in
+      let reads : read 0 (suc d) s w ≡ kept-path w1 (path-number c) = path-read d w z i (omega (arith, room .terms)) tag ∙ rw (ok, n, number) refl in
       let p = kept-room w1 cs (table-advanced w cs (w .at + 1 + 3 + length (c .keys)) t) c (room .fine) (room .paths) in
       let len = length-append (c .keys) (le16 (c .source)) in
-      subst (λ (v : Walk). After vertex-leaves 0 w v cs (leaf c)) (sym walk)
+      subst (λ (v : Progress). After vertex-leaves 0 w v cs (leaf c)) (sym reads)
       (record {
         code = p .code ∙ z;
         at = omega (arith, p .at, len);
@@ -80,22 +80,22 @@ module _ (s : List ℕ) where
 
   path-sound : Bytes s → LeafSound vertex-leaves s 0 Always
   unfolding path-step advanced leaf-tag blank
-  path-sound bytes d w cs z t r h k tag e = go (eqb (path-code s (w .at + 1)) 0) refl (path-walk d w z h k tag)
+  path-sound bytes d w cs z t r h k tag e = go (eqb (path-code s (w .at + 1)) 0) refl (path-read d w z h k tag)
     where
-      go : (b : Bool) → eqb (path-code s (w .at + 1)) 0 ≡ b → read 0 (suc d) s w ≡ path-step s w .walk
+      go : (b : Bool) → eqb (path-code s (w .at + 1)) 0 ≡ b → read 0 (suc d) s w ≡ path-step s w .progress
           → (c : PathReduction) × (rest : List ℕ) × (drop (w .at) s ≡ (0x10 ∷ path-bytes c) ++ rest) × Room vertex-leaves (suc d) w cs (leaf c)
       go false p q =
-          let walk : read 0 (suc d) s w ≡ blank (path-code s (w .at + 1)) = q ∙ rw p refl in
-          absurd (eqb-false (path-code s (w .at + 1)) 0 p (sym (ap (λ (v : Walk). v .code) walk) ∙ e))
+          let reads : read 0 (suc d) s w ≡ blank (path-code s (w .at + 1)) = q ∙ rw p refl in
+          absurd (eqb-false (path-code s (w .at + 1)) 0 p (sym (ap (λ (v : Progress). v .code) reads) ∙ e))
       go true p q =
           let ok = eqb-true (path-code s (w .at + 1)) 0 p in
           let f = path-found s bytes (w .at + 1) ok in
           let c = f .0 in
           let n = path-count s c (f .1) (w .at + 1) _ (f .3) in
           let number = path-numbered s c (f .1) (w .at + 1) _ (f .3) in
-          let w1 : Walk = advanced w (w .at + 1 + 3 + length (f .0 .keys)) in
-          let walk : read 0 (suc d) s w ≡ kept-path w1 (path-number (f .0)) = q ∙ rw (p, n, number) refl in
-          let few = kept-few w1 cs (table-advanced w cs (w .at + 1 + 3 + length (f .0 .keys)) t) c (f .1) (sym (ap (λ (v : Walk). v .code) walk) ∙ e) in (
+          let w1 : Progress = advanced w (w .at + 1 + 3 + length (f .0 .keys)) in
+          let reads : read 0 (suc d) s w ≡ kept-path w1 (path-number (f .0)) = q ∙ rw (p, n, number) refl in
+          let few = kept-few w1 cs (table-advanced w cs (w .at + 1 + 3 + length (f .0 .keys)) t) c (f .1) (sym (ap (λ (v : Progress). v .code) reads) ∙ e) in (
             c,
             drop (w .at + 1 + 3 + getD s (w .at + 1) 256) s,
             drop-at s (w .at) h ∙ ap₂ (λ (x : ℕ) (l : List ℕ). x ∷ l) (getD-any s (w .at) 256 0 h ∙ tag) (f .3),
@@ -135,24 +135,24 @@ result-count (apply o t u) = omega (arith, result-count t, result-count u, lengt
 
 module _ (s : List ℕ) where
   -- the state after a reduction's own two bytes
-  unfoldable under : Walk → Walk
+  unfoldable under : Progress → Progress
   under w = record { code = w .code; at = w .at + 1 + 1; terms = w .terms + 1; paths = w .paths; reductions = w .reductions + 1; table = w .table }
 
-  table-under : (w : Walk) (cs : List PathReduction) → Table w cs → w .reductions < 8 → Table (under w) cs
+  table-under : (w : Progress) (cs : List PathReduction) → Table w cs → w .reductions < 8 → Table (under w) cs
   unfolding under
   table-under w cs t h = record { legal = t .legal; count = t .count; few = t .few; rest = t .rest; holds = t .holds; size = t .size; few-reductions = omega arith }
 
   -- a reduction is read by its step, and its body after it
-  reduce-is : (d : ℕ) (w : Walk) → w .at < length s → w .terms < 64 → getD s (w .at) 0 ≡ 0x20 → term-step 1 (suc d) s w ≡ reduce-step s w
+  reduce-is : (d : ℕ) (w : Progress) → w .at < length s → w .terms < 64 → getD s (w .at) 0 ≡ 0x20 → term-step 1 (suc d) s w ≡ reduce-step s w
   unfolding leaf-tag leaf-step
   reduce-is d w h k tag = step-is s 1 d w h k ∙ rw tag refl
 
-  reduce-walk : (d : ℕ) (w : Walk) → w .code ≡ 0 → w .at < length s → w .terms < 64 → getD s (w .at) 0 ≡ 0x20 → code-of (getD s (w .at + 1) 256) 5 ≡ 0
+  reduce-read : (d : ℕ) (w : Progress) → w .code ≡ 0 → w .at < length s → w .terms < 64 → getD s (w .at) 0 ≡ 0x20 → code-of (getD s (w .at + 1) 256) 5 ≡ 0
       → w .reductions < 8 → read 1 (suc d) s w ≡ read 0 d s (under w)
   unfolding reduce-step advanced under
-  reduce-walk d w z h k tag c r =
-      let made : reduce-step s w ≡ record { walk = under w; follow = 1 } = rw (c, lt-leb 8 (w .reductions) r) refl in
-      read-by s 1 d w z (record { walk = under w; follow = 1 }) (reduce-is d w h k tag ∙ made)
+  reduce-read d w z h k tag c r =
+      let made : reduce-step s w ≡ record { progress = under w; follow = 1 } = rw (c, lt-leb 8 (w .reductions) r) refl in
+      read-by s 1 d w z (record { progress = under w; follow = 1 }) (reduce-is d w h k tag ∙ made)
 
   reduce-complete : (e : VertexReduction PathReduction) → Complete result-leaves s 1 Always (leaf e)
   unfolding under
@@ -164,7 +164,7 @@ module _ (s : List ℕ) where
       let b : getD s (w .at + 1) 256 ≡ e .reduction = rw (nth s (w .at) 1 (w .at + 1) 256 refl, p) refl in
       let f = room .fine in
       let fewer : w .reductions < 8 = omega (arith, room .reductions) in
-      let walk = reduce-walk d w z i (omega (arith, room .terms)) tag (rw b (code-zero (e .reduction) 5 (f .0) (f .1) (omega arith))) fewer in
+      let reads = reduce-read d w z i (omega (arith, room .terms)) tag (rw b (code-zero (e .reduction) 5 (f .0) (f .1) (omega arith))) fewer in
       let next : drop (w .at + 1 + 1) s ≡ vertex-bytes (e .body) ++ rest =
       ap (λ (i : ℕ). drop i s) (let q : w .at + 1 + 1 ≡ w .at + 2 = omega arith in q) ∙ drop-on s (w .at) 2 (0x20 ∷ e .reduction ∷ []) (vertex-bytes (e .body) ++ rest) p refl in
       let paths = ap (put-all cs) (vertex-paths (e .body)) in
@@ -177,7 +177,7 @@ module _ (s : List ℕ) where
         paths = omega (arith, room .paths, ap length paths);
         reductions = omega (arith, count);
       }) in
-      subst (λ (v : Walk). After result-leaves 1 w v cs (leaf e)) (sym walk)
+      subst (λ (v : Progress). After result-leaves 1 w v cs (leaf e)) (sym reads)
       (record {
         code = a .code;
         at = omega (arith, a .at);
@@ -191,7 +191,7 @@ module _ (s : List ℕ) where
   reduce-sound bytes d w cs z t r h k tag e = go (eqb (code-of (getD s (w .at + 1) 256) 5) 0) (leb 8 (w .reductions)) refl refl
     where
       stops : (n : ℕ) → (n ≡ 0 → ⊥) → term-step 1 (suc d) s w ≡ stopped n → ⊥
-      stops n f p = f (sym (ap (λ (v : Walk). v .code) (read-by s 1 d w z (stopped n) p)) ∙ e)
+      stops n f p = f (sym (ap (λ (v : Progress). v .code) (read-by s 1 d w z (stopped n) p)) ∙ e)
 
       go : (x y : Bool) → eqb (code-of (getD s (w .at + 1) 256) 5) 0 ≡ x → leb 8 (w .reductions) ≡ y
           → (a : VertexReduction PathReduction) × (rest : List ℕ) × (drop (w .at) s ≡ (0x20 ∷ a .reduction ∷ vertex-bytes (a .body)) ++ rest) × Room result-leaves (suc d) w cs (leaf a)
@@ -202,8 +202,8 @@ module _ (s : List ℕ) where
           let c = eqb-true (code-of (getD s (w .at + 1) 256) 5) 0 p in
           let range = code-range (getD s (w .at + 1) 256) 5 c in
           let fewer = leb-false 8 (w .reductions) q in
-          let walk = reduce-walk d w z h k tag c fewer in
-          let f = vertex-sound s bytes d (under w) cs z (table-under w cs t fewer) tt (sym (ap (λ (v : Walk). v .code) walk) ∙ e) in
+          let reads = reduce-read d w z h k tag c fewer in
+          let f = vertex-sound s bytes d (under w) cs z (table-under w cs t fewer) tt (sym (ap (λ (v : Progress). v .code) reads) ∙ e) in
           let b = f .0 in
           let room = f .3 in
           let paths = ap (put-all cs) (vertex-paths b) in (
@@ -246,25 +246,25 @@ module _ (m count : ℕ) where
   index-count (literal k) = refl
   index-count (apply o t u) = omega (arith, index-count t, index-count u)
 
-module _ (s : List ℕ) (m count : ℕ) (few : count ≤ 256) (held : Walk → ℕ)
-    (kept : (w w′ : Walk) → w′ .paths ≡ w .paths → w′ .reductions ≡ w .reductions → held w′ ≡ held w)
-    (is-index : (w : Walk) → leaf-step m s w ≡ index-step s w (held w))
+module _ (s : List ℕ) (m count : ℕ) (few : count ≤ 256) (held : Progress → ℕ)
+    (kept : (w w′ : Progress) → w′ .paths ≡ w .paths → w′ .reductions ≡ w .reductions → held w′ ≡ held w)
+    (is-index : (w : Progress) → leaf-step m s w ≡ index-step s w (held w))
     (literal-not-leaf : eqb (literal-tag m) (leaf-tag m) ≡ false) (apply-not-leaf : eqb (literal-tag m + 1) (leaf-tag m) ≡ false) where
   -- the state holds the count
-  abbrev pub Counts : Walk → Type 0
+  abbrev pub Counts : Progress → Type 0
   Counts w = held w ≡ count
 
-  counts-on : (w : Walk) (n : ℕ) → Counts w → Counts (advanced w n)
+  counts-on : (w : Progress) (n : ℕ) → Counts w → Counts (advanced w n)
   unfolding advanced
   counts-on w n r = kept w (advanced w n) refl refl ∙ r
 
-  counts-past : (w w′ : Walk) (cs : List PathReduction) (t : Term ℕ) → Counts w → Table w cs → After (index-leaves m count) m w w′ cs t → Counts w′
+  counts-past : (w w′ : Progress) (cs : List PathReduction) (t : Term ℕ) → Counts w → Table w cs → After (index-leaves m count) m w w′ cs t → Counts w′
   counts-past w w′ cs t r b a =
       let p = ap (λ (l : List PathReduction). length (put-all cs l)) (index-paths m count t) in
       kept w w′ (omega (arith, a .table .count, b .count)) (omega (arith, a .reductions, index-count m count t)) ∙ r
 
   -- an index is read by its step
-  index-is : (d : ℕ) (w : Walk) → w .at < length s → w .terms < 64 → getD s (w .at) 0 ≡ leaf-tag m → term-step m (suc d) s w ≡ index-step s w (held w)
+  index-is : (d : ℕ) (w : Progress) → w .at < length s → w .terms < 64 → getD s (w .at) 0 ≡ leaf-tag m → term-step m (suc d) s w ≡ index-step s w (held w)
   index-is d w h k tag = step-is s m d w h k ∙ rw (tag, eq-eqb (leaf-tag m) (leaf-tag m) refl) (is-index w)
 
   index-complete : (i : ℕ) → Complete (index-leaves m count) s m Counts (leaf i)
@@ -275,9 +275,9 @@ module _ (s : List ℕ) (m count : ℕ) (few : count ≤ 256) (held : Walk → �
       let tag = tag-there s (w .at) (leaf-tag m) (i ∷ rest) p in
       let b : getD s (w .at + 1) 256 ≡ i = rw (nth s (w .at) 1 (w .at + 1) 256 refl, p) refl in
       let below : i < count = room .fine in
-      let made : index-step s w (held w) ≡ record { walk = advanced w (w .at + 1 + 1); follow = 0 } = rw (b, le-ltb 255 i (omega arith), r, lt-leb count i below) refl in
-      let walk = read-by s m d w z (record { walk = advanced w (w .at + 1 + 1); follow = 0 }) (index-is d w h (omega (arith, room .terms)) tag ∙ made) in
-      subst (λ (v : Walk). After (index-leaves m count) m w v cs (leaf i)) (sym walk)
+      let made : index-step s w (held w) ≡ record { progress = advanced w (w .at + 1 + 1); follow = 0 } = rw (b, le-ltb 255 i (omega arith), r, lt-leb count i below) refl in
+      let reads = read-by s m d w z (record { progress = advanced w (w .at + 1 + 1); follow = 0 }) (index-is d w h (omega (arith, room .terms)) tag ∙ made) in
+      subst (λ (v : Progress). After (index-leaves m count) m w v cs (leaf i)) (sym reads)
       (record { code = z; at = omega arith; terms = refl; reductions = omega arith; table = table-advanced w cs (w .at + 1 + 1) t })
 
   index-sound : LeafSound (index-leaves m count) s m Counts
@@ -285,7 +285,7 @@ module _ (s : List ℕ) (m count : ℕ) (few : count ≤ 256) (held : Walk → �
   index-sound d w cs z t r h k tag e = go (ltb 255 (getD s (w .at + 1) 256)) (leb (held w) (getD s (w .at + 1) 256)) refl refl
     where
       stops : (n : ℕ) → (n ≡ 0 → ⊥) → term-step m (suc d) s w ≡ stopped n → ⊥
-      stops n f p = f (sym (ap (λ (v : Walk). v .code) (read-by s m d w z (stopped n) p)) ∙ e)
+      stops n f p = f (sym (ap (λ (v : Progress). v .code) (read-by s m d w z (stopped n) p)) ∙ e)
 
       go : (x y : Bool) → ltb 255 (getD s (w .at + 1) 256) ≡ x → leb (held w) (getD s (w .at + 1) 256) ≡ y
           → (i : ℕ) × (rest : List ℕ) × (drop (w .at) s ≡ (leaf-tag m ∷ i ∷ []) ++ rest) × Room (index-leaves m count) (suc d) w cs (leaf i)

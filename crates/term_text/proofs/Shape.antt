@@ -13,7 +13,7 @@ use Rattle.meaning.specs.Plan.{among, put, put-all}
 use Rattle.meaning.specs.Query.{PathReduction, Term, apply, leaf, literal}
 use Rattle.meaning.proofs.Paths.{put-all-append}
 use Rattle.wire.specs.Wire.{Bytes, le32}
-use Rattle.terms.specs.declared.Walk.{Walk}
+use Rattle.terms.specs.declared.Progress.{Progress}
 use Rattle.fields.specs.Fields.{code-of}
 use Rattle.terms.specs.Terms.{advanced, apply-step, blank, leaf-tag, literal-step, literal-tag, read, stopped, term-step}
 use Rattle.term_text.specs.Text.{term-bytes}
@@ -45,7 +45,7 @@ module _ {A : Type 0} (K : Leaves A) where
   term-count (apply o t u) = term-count t + term-count u
 
   -- the term is legal after what w has read, with d levels of depth left
-  pub record Room (d : ℕ) (w : Walk) (cs : List PathReduction) (t : Term A) : Type 0 where
+  pub record Room (d : ℕ) (w : Progress) (cs : List PathReduction) (t : Term A) : Type 0 where
     pub fine : Every (K .fine) t
     pub shallow : depth (K .deep) t ≤ d
     pub terms : w .terms + terms (K .size) t ≤ 64
@@ -53,7 +53,7 @@ module _ {A : Type 0} (K : Leaves A) where
     pub reductions : w .reductions + term-count t ≤ 8
 
   -- w′ has read the term after w
-  abbrev pub After : ℕ → Walk → Walk → List PathReduction → Term A → Type 0
+  abbrev pub After : ℕ → Progress → Progress → List PathReduction → Term A → Type 0
   After m w w′ cs t = Further w w′ (put-all cs (term-paths t)) (length (term-bytes m (K .bytes) t)) (w .terms + terms (K .size) t) (w .reductions + term-count t)
 
 -- path reductions put after others take no room away
@@ -65,74 +65,74 @@ put-all-grows cs (d ∷ ds) = omega (arith, grows (among d cs), put-all-grows (p
     grows true = omega arith
     grows false = omega (arith, length-append cs (d ∷ []))
 
-module _ {A : Type 0} (K : Leaves A) (s : List ℕ) (m : ℕ) (Ready : Walk → Type 0) where
+module _ {A : Type 0} (K : Leaves A) (s : List ℕ) (m : ℕ) (Ready : Progress → Type 0) where
   -- the bytes of the term are read as it
   abbrev pub Complete : Term A → Type 0
   Complete t =
-      (d : ℕ) (w : Walk) (cs : List PathReduction) (rest : List ℕ) → w .code ≡ 0 → Table w cs → Ready w → drop (w .at) s ≡ term-bytes m (K .bytes) t ++ rest
+      (d : ℕ) (w : Progress) (cs : List PathReduction) (rest : List ℕ) → w .code ≡ 0 → Table w cs → Ready w → drop (w .at) s ≡ term-bytes m (K .bytes) t ++ rest
       → Room K d w cs t → After K m w (read m d s w) cs t
 
   -- a legal term whose bytes stand next
-  abbrev pub Found : ℕ → Walk → List PathReduction → Type 0
+  abbrev pub Found : ℕ → Progress → List PathReduction → Type 0
   Found d w cs = (t : Term A) × (rest : List ℕ) × (drop (w .at) s ≡ term-bytes m (K .bytes) t ++ rest) × Room K d w cs t
 
   -- what is read with d levels of depth is such a term
   abbrev pub Sound : ℕ → Type 0
-  Sound d = (w : Walk) (cs : List PathReduction) → w .code ≡ 0 → Table w cs → Ready w → read m d s w .code ≡ 0 → Found d w cs
+  Sound d = (w : Progress) (cs : List PathReduction) → w .code ≡ 0 → Table w cs → Ready w → read m d s w .code ≡ 0 → Found d w cs
 
   -- the same of a leaf
   abbrev pub LeafSound : Type 0
   LeafSound =
-      (d : ℕ) (w : Walk) (cs : List PathReduction) → w .code ≡ 0 → Table w cs → Ready w → w .at < length s → w .terms < 64 → getD s (w .at) 0 ≡ leaf-tag m
+      (d : ℕ) (w : Progress) (cs : List PathReduction) → w .code ≡ 0 → Table w cs → Ready w → w .at < length s → w .terms < 64 → getD s (w .at) 0 ≡ leaf-tag m
       → read m (suc d) s w .code ≡ 0 → (a : A) × (rest : List ℕ) × (drop (w .at) s ≡ K .bytes a ++ rest) × Room K (suc d) w cs (leaf a)
 
-module _ {A : Type 0} (K : Leaves A) (s : List ℕ) (m : ℕ) (Ready : Walk → Type 0)
-    (on : (w : Walk) (n : ℕ) → Ready w → Ready (advanced w n))
-    (past : (w w′ : Walk) (cs : List PathReduction) (t : Term A) → Ready w → Table w cs → After K m w w′ cs t → Ready w′)
+module _ {A : Type 0} (K : Leaves A) (s : List ℕ) (m : ℕ) (Ready : Progress → Type 0)
+    (on : (w : Progress) (n : ℕ) → Ready w → Ready (advanced w n))
+    (past : (w w′ : Progress) (cs : List PathReduction) (t : Term A) → Ready w → Table w cs → After K m w w′ cs t → Ready w′)
     (literal-not-leaf : eqb (literal-tag m) (leaf-tag m) ≡ false) (apply-not-leaf : eqb (literal-tag m + 1) (leaf-tag m) ≡ false) where
   abbrev text : Term A → List ℕ
   text = term-bytes m (K .bytes)
 
   -- a literal
-  literal-walk : (d : ℕ) (w : Walk) (k : ℕ) (rest : List ℕ) → w .code ≡ 0 → w .terms < 64 → drop (w .at) s ≡ text (literal k) ++ rest
+  literal-read : (d : ℕ) (w : Progress) (k : ℕ) (rest : List ℕ) → w .code ≡ 0 → w .terms < 64 → drop (w .at) s ≡ text (literal k) ++ rest
       → read m (suc d) s w ≡ advanced w (w .at + 4 + 1)
   unfolding literal-step
-  literal-walk d w k rest z h e =
+  literal-read d w k rest z h e =
       let i = there s (w .at) (literal-tag m) (le32 k ++ rest) e in
       let tag = tag-there s (w .at) (literal-tag m) (le32 k ++ rest) e in
       let last : getD s (w .at + 4) 256 ≡ k / 65536 / 256 % 256 = rw (nth s (w .at) 4 (w .at + 4) 256 refl, e) refl in
       let step : term-step m (suc d) s w ≡ literal-step s w =
       step-is s m d w i h ∙ rw (tag, literal-not-leaf, eq-eqb (literal-tag m) (literal-tag m) refl) refl in
-      let made : literal-step s w ≡ record { walk = advanced w (w .at + 4 + 1); follow = 0 } = rw (last, le-ltb 255 (k / 65536 / 256 % 256) (omega arith)) refl in
-      read-by s m d w z (record { walk = advanced w (w .at + 4 + 1); follow = 0 }) (step ∙ made)
+      let made : literal-step s w ≡ record { progress = advanced w (w .at + 4 + 1); follow = 0 } = rw (last, le-ltb 255 (k / 65536 / 256 % 256) (omega arith)) refl in
+      read-by s m d w z (record { progress = advanced w (w .at + 4 + 1); follow = 0 }) (step ∙ made)
 
   literal-complete : (k : ℕ) → Complete K s m Ready (literal k)
   unfolding advanced
   literal-complete k zero w cs rest z t r e room = absurd (omega (arith, room .shallow))
   literal-complete k (suc d) w cs rest z t r e room =
-      subst (λ (v : Walk). After K m w v cs (literal k)) (sym (literal-walk d w k rest z (omega (arith, room .terms)) e))
+      subst (λ (v : Progress). After K m w v cs (literal k)) (sym (literal-read d w k rest z (omega (arith, room .terms)) e))
       (record { code = z; at = omega arith; terms = refl; reductions = omega arith; table = table-advanced w cs (w .at + 4 + 1) t })
 
   -- an operator and its two terms
   module _ (o : ℕ) (t u : Term A) where
-    apply-walk : (d : ℕ) (w : Walk) (l : List ℕ) → w .code ≡ 0 → w .terms < 64 → (1 ≤ o) → (o ≤ 11) → drop (w .at) s ≡ (literal-tag m + 1) ∷ o ∷ l
+    apply-read : (d : ℕ) (w : Progress) (l : List ℕ) → w .code ≡ 0 → w .terms < 64 → (1 ≤ o) → (o ≤ 11) → drop (w .at) s ≡ (literal-tag m + 1) ∷ o ∷ l
         → read m (suc d) s w ≡ read m d s (read m d s (advanced w (w .at + 1 + 1)))
     unfolding apply-step
-    apply-walk d w l z h lo hi e =
+    apply-read d w l z h lo hi e =
         let i = there s (w .at) (literal-tag m + 1) (o ∷ l) e in
         let tag = tag-there s (w .at) (literal-tag m + 1) (o ∷ l) e in
         let next : getD s (w .at + 1) 256 ≡ o = rw (nth s (w .at) 1 (w .at + 1) 256 refl, e) refl in
         let step : term-step m (suc d) s w ≡ apply-step s w =
         step-is s m d w i h
         ∙ rw (tag, apply-not-leaf, ne-eqb (literal-tag m + 1) (literal-tag m) (λ p. omega arith), eq-eqb (literal-tag m + 1) (literal-tag m + 1) refl) refl in
-        let made : apply-step s w ≡ record { walk = advanced w (w .at + 1 + 1); follow = 2 } = rw (next, code-zero o 11 lo hi (omega arith)) refl in
-        read-by s m d w z (record { walk = advanced w (w .at + 1 + 1); follow = 2 }) (step ∙ made)
+        let made : apply-step s w ≡ record { progress = advanced w (w .at + 1 + 1); follow = 2 } = rw (next, code-zero o 11 lo hi (omega arith)) refl in
+        read-by s m d w z (record { progress = advanced w (w .at + 1 + 1); follow = 2 }) (step ∙ made)
 
     apply-complete : Complete K s m Ready t → Complete K s m Ready u → Complete K s m Ready (apply o t u)
     unfolding advanced
     apply-complete ct cu zero w cs rest z tb r e room = absurd (omega (arith, room .shallow))
     apply-complete ct cu (suc d) w cs rest z tb r e room =
-        let w1 : Walk = advanced w (w .at + 1 + 1) in
+        let w1 : Progress = advanced w (w .at + 1 + 1) in
         let bytes2 = append-assoc (text t) (text u) rest in
         let e1 : drop (w .at + 1 + 1) s ≡ text t ++ (text u ++ rest) =
         ap (λ (i : ℕ). drop i s) (let p : w .at + 1 + 1 ≡ w .at + 2 = omega arith in p)
@@ -143,7 +143,7 @@ module _ {A : Type 0} (K : Leaves A) (s : List ℕ) (m : ℕ) (Ready : Walk → 
         omega (arith, room .paths, ap length grow, put-all-grows (put-all cs (term-paths K t)) (term-paths K u)) in
         let a = ct d w1 cs (text u ++ rest) z (table-advanced w cs (w .at + 1 + 1) tb) (on w (w .at + 1 + 1) r) e1
         (record { fine = f .2; shallow = omega (arith, room .shallow); terms = omega (arith, room .terms); paths = few; reductions = omega (arith, room .reductions) }) in
-        let w2 : Walk = read m d s w1 in
+        let w2 : Progress = read m d s w1 in
         let e2 : drop (w2 .at) s ≡ text u ++ rest =
         ap (λ (i : ℕ). drop i s) (a .at) ∙ drop-on s (w .at + 1 + 1) (length (text t)) (text t) (text u ++ rest) e1 refl in
         let b = cu d w2 (put-all cs (term-paths K t)) rest (a .code) (a .table) (past w1 w2 cs t (on w (w .at + 1 + 1) r) (table-advanced w cs (w .at + 1 + 1) tb) a) e2
@@ -154,7 +154,7 @@ module _ {A : Type 0} (K : Leaves A) (s : List ℕ) (m : ℕ) (Ready : Walk → 
           paths = omega (arith, room .paths, ap length grow);
           reductions = omega (arith, room .reductions, a .reductions);
         }) in
-        subst (λ (v : Walk). After K m w v cs (apply o t u)) (sym (apply-walk d w ((text t ++ text u) ++ rest) z (omega (arith, room .terms)) (f .0) (f .1) e))
+        subst (λ (v : Progress). After K m w v cs (apply o t u)) (sym (apply-read d w ((text t ++ text u) ++ rest) z (omega (arith, room .terms)) (f .0) (f .1) e))
         (record {
           code = b .code;
           at = omega (arith, b .at, a .at, length-append (text t) (text u));
@@ -170,12 +170,12 @@ module _ {A : Type 0} (K : Leaves A) (s : List ℕ) (m : ℕ) (Ready : Walk → 
   term-complete f (apply o t u) = apply-complete o t u (term-complete f t) (term-complete f u)
 
   -- a step that stops refuses
-  stops : (d : ℕ) (w : Walk) → w .code ≡ 0 → (k : ℕ) → (k ≡ 0 → ⊥) → term-step m (suc d) s w ≡ stopped k → read m (suc d) s w .code ≡ 0 → ⊥
+  stops : (d : ℕ) (w : Progress) → w .code ≡ 0 → (k : ℕ) → (k ≡ 0 → ⊥) → term-step m (suc d) s w ≡ stopped k → read m (suc d) s w .code ≡ 0 → ⊥
   unfolding blank
-  stops d w z k n p e = n (sym (ap (λ (v : Walk). v .code) (read-by s m d w z (stopped k) p)) ∙ e)
+  stops d w z k n p e = n (sym (ap (λ (v : Progress). v .code) (read-by s m d w z (stopped k) p)) ∙ e)
 
   module _ (bytes : Bytes s) where
-    module _ (d : ℕ) (w : Walk) (cs : List PathReduction) (z : w .code ≡ 0) (t : Table w cs) (h : w .at < length s) (k : w .terms < 64)
+    module _ (d : ℕ) (w : Progress) (cs : List PathReduction) (z : w .code ≡ 0) (t : Table w cs) (h : w .at < length s) (k : w .terms < 64)
         (e : read m (suc d) s w .code ≡ 0) where
       literal-found : getD s (w .at) 0 ≡ literal-tag m → Found K s m Ready (suc d) w cs
       unfolding literal-step
@@ -231,7 +231,7 @@ module _ {A : Type 0} (K : Leaves A) (s : List ℕ) (m : ℕ) (Ready : Walk → 
               let a = complete (f .0) d (advanced w (w .at + 1 + 1)) cs (f .1) z (table-advanced w cs (w .at + 1 + 1) t) (on w (w .at + 1 + 1) ready) (f .2) (f .3) in
               let w2 = read m d s (advanced w (w .at + 1 + 1)) in
               let g = ih w2 (put-all cs (term-paths K (f .0))) (a .code) (a .table)
-              (past (advanced w (w .at + 1 + 1)) w2 cs (f .0) (on w (w .at + 1 + 1) ready) (table-advanced w cs (w .at + 1 + 1) t) a) (sym (ap (λ (v : Walk). v .code) r) ∙ e) in
+              (past (advanced w (w .at + 1 + 1)) w2 cs (f .0) (on w (w .at + 1 + 1) ready) (table-advanced w cs (w .at + 1 + 1) t) a) (sym (ap (λ (v : Progress). v .code) r) ∙ e) in
               let grow = put-all-append cs (term-paths K (f .0)) (term-paths K (g .0)) in
               let rest : f .1 ≡ text (g .0) ++ g .1 =
               sym (ap (λ (i : ℕ). drop i s) (a .at) ∙ drop-on s (w .at + 1 + 1) (length (text (f .0))) (text (f .0)) (f .1) (f .2) refl) ∙ g .2 in
@@ -256,9 +256,9 @@ module _ {A : Type 0} (K : Leaves A) (s : List ℕ) (m : ℕ) (Ready : Walk → 
           go false p = absurd (stops d w z (code-of (getD s (w .at + 1) 256) 11) (eqb-false (code-of (getD s (w .at + 1) 256) 11) 0 p) (step ∙ rw p refl) e)
           go true p =
               let c = code-range (getD s (w .at + 1) 256) 11 (eqb-true (code-of (getD s (w .at + 1) 256) 11) 0 p) in
-              let r = read-by s m d w z (record { walk = advanced w (w .at + 1 + 1); follow = 2 }) (step ∙ rw p refl) in
+              let r = read-by s m d w z (record { progress = advanced w (w .at + 1 + 1); follow = 2 }) (step ∙ rw p refl) in
               both (c .1) (c .2) (present s (w .at + 1) (c .0)) r
-              (ih (advanced w (w .at + 1 + 1)) cs z (table-advanced w cs (w .at + 1 + 1) t) (on w (w .at + 1 + 1) ready) (read-accepted m d s (read m d s (advanced w (w .at + 1 + 1))) (sym (ap (λ (v : Walk). v .code) r) ∙ e)))
+              (ih (advanced w (w .at + 1 + 1)) cs z (table-advanced w cs (w .at + 1 + 1) t) (on w (w .at + 1 + 1) ready) (read-accepted m d s (read m d s (advanced w (w .at + 1 + 1))) (sym (ap (λ (v : Progress). v .code) r) ∙ e)))
 
     -- WHAT IS READ IS A LEGAL TERM
     pub term-sound : ((a : A) → Complete K s m Ready (leaf a)) → LeafSound K s m Ready → (d : ℕ) → Sound K s m Ready d

@@ -11,7 +11,7 @@ use lib.Seq.{drop-drop, drop-append-seam}
 use Rattle.meaning.specs.Query.{PathReduction}
 use Rattle.wire.specs.Wire.{le32}
 use Rattle.terms.specs.declared.Step.{Step}
-use Rattle.terms.specs.declared.Walk.{Walk}
+use Rattle.terms.specs.declared.Progress.{Progress}
 use Rattle.terms.specs.Terms.{advanced, apply-step, blank, leaf-step, leaf-tag, literal-step, literal-tag, read, stopped, term-step}
 use Rattle.terms.proofs.Laws.{read-next}
 use Rattle.term_text.proofs.Paths.{digits, nth, two-bytes}
@@ -31,44 +31,44 @@ drop-on s i n l m e h = sym (drop-drop n i s) ∙ ap (drop n) e ∙ drop-at′
     drop-at′ = ap (λ (k : ℕ). drop k (l ++ m)) (sym h) ∙ drop-append-seam l m
 
 -- the table is carried along
-pub table-advanced : (w : Walk) (cs : List PathReduction) (n : ℕ) → Table w cs → Table (advanced w n) cs
+pub table-advanced : (w : Progress) (cs : List PathReduction) (n : ℕ) → Table w cs → Table (advanced w n) cs
 unfolding advanced
 table-advanced w cs n t = record { legal = t .legal; count = t .count; few = t .few; rest = t .rest; holds = t .holds; size = t .size; few-reductions = t .few-reductions }
 
 module _ (s : List ℕ) (m : ℕ) where
   -- what the tag of a term says
-  abbrev tagged : ℕ → Walk → Step
+  abbrev tagged : ℕ → Progress → Step
   tagged tag w =
       cond (eqb tag (leaf-tag m)) (leaf-step m s w)
       (cond (eqb tag (literal-tag m)) (literal-step s w) (cond (eqb tag (literal-tag m + 1)) (apply-step s w) (stopped 9)))
 
   -- a step within the limits goes by the tag; and a term is read by its step
-  pub step-is : (d : ℕ) (w : Walk) → w .at < length s → w .terms < 64 → term-step m (suc d) s w ≡ tagged (getD s (w .at) 0) w
+  pub step-is : (d : ℕ) (w : Progress) → w .at < length s → w .terms < 64 → term-step m (suc d) s w ≡ tagged (getD s (w .at) 0) w
   unfolding term-step
   step-is d w h k = rw (lt-leb (length s) (w .at) h, lt-leb 64 (w .terms) k, ne-eqb (suc d) 0 (λ e. omega arith)) refl
 
-  pub read-by : (d : ℕ) (w : Walk) → w .code ≡ 0 → (h : Step) → term-step m (suc d) s w ≡ h
-      → read m (suc d) s w ≡ cond (eqb (h .follow) 0) (h .walk) (cond (eqb (h .follow) 1) (read 0 d s (h .walk)) (read m d s (read m d s (h .walk))))
+  pub read-by : (d : ℕ) (w : Progress) → w .code ≡ 0 → (h : Step) → term-step m (suc d) s w ≡ h
+      → read m (suc d) s w ≡ cond (eqb (h .follow) 0) (h .progress) (cond (eqb (h .follow) 1) (read 0 d s (h .progress)) (read m d s (read m d s (h .progress))))
   read-by d w z h e =
       let p : suc d - 1 ≡ d = omega arith in
       rw (read-next m (suc d) s w (λ n. omega arith), eq-eqb (w .code) 0 z, e, p) refl
 
   -- nothing is read without depth, past the end, or beyond 64 terms
-  pub read-flat : (w : Walk) → w .code ≡ 0 → read m zero s w .code ≡ 0 → ⊥
+  pub read-flat : (w : Progress) → w .code ≡ 0 → read m zero s w .code ≡ 0 → ⊥
   unfolding read term-step blank
   read-flat w z e = go (leb (length s) (w .at)) (leb 64 (w .terms)) (rw (eq-eqb (w .code) 0 z) at e)
     where
-      go : (a b : Bool) → _≡_ {A = ℕ} (cond a (stopped 1) (cond b (stopped 12) (stopped 11)) .walk .code) 0 → ⊥
+      go : (a b : Bool) → _≡_ {A = ℕ} (cond a (stopped 1) (cond b (stopped 12) (stopped 11)) .progress .code) 0 → ⊥
       go true b e = omega arith
       go false true e = omega arith
       go false false e = omega arith
 
-  pub read-starts : (d : ℕ) (w : Walk) → w .code ≡ 0 → read m (suc d) s w .code ≡ 0 → (w .at < length s) × (w .terms < 64)
+  pub read-starts : (d : ℕ) (w : Progress) → w .code ≡ 0 → read m (suc d) s w .code ≡ 0 → (w .at < length s) × (w .terms < 64)
   unfolding blank term-step
   read-starts d w z e = go (leb (length s) (w .at)) (leb 64 (w .terms)) refl refl
     where
       stops : (k : ℕ) → term-step m (suc d) s w ≡ stopped (suc k) → (w .at < length s) × (w .terms < 64)
-      stops k p = absurd (let y : suc k ≡ 0 = sym (ap (λ (v : Walk). v .code) (read-by d w z (stopped (suc k)) p)) ∙ e in omega arith)
+      stops k p = absurd (let y : suc k ≡ 0 = sym (ap (λ (v : Progress). v .code) (read-by d w z (stopped (suc k)) p)) ∙ e in omega arith)
 
       go : (a b : Bool) → leb (length s) (w .at) ≡ a → leb 64 (w .terms) ≡ b → (w .at < length s) × (w .terms < 64)
       go true b p q = stops 0 (rw p refl)

@@ -16,13 +16,13 @@ use Rattle.meaning.proofs.Lists.{all-append, map-append}
 use Rattle.meaning.proofs.Paths.{path-refl, path-same, position-at, position-below}
 use Rattle.walks.specs.Lists.{All}
 use Rattle.walks.proofs.Tests.{T-of}
-use Rattle.terms.specs.declared.Walk.{Walk}
+use Rattle.terms.specs.declared.Progress.{Progress}
 use Rattle.terms.specs.Terms.{blank, kept-path, slot-of}
 use Rattle.term_text.specs.Text.{path-number}
 use Rattle.term_text.proofs.Paths.{number-same}
 
 -- the state w holds the path reductions cs, and has met at most eight reductions
-pub record Table (w : Walk) (cs : List PathReduction) : Type 0 where
+pub record Table (w : Progress) (cs : List PathReduction) : Type 0 where
   pub legal : All (PathFits 256) cs
   pub count : w .paths ≡ length cs
   pub few : length cs ≤ 8
@@ -32,7 +32,7 @@ pub record Table (w : Walk) (cs : List PathReduction) : Type 0 where
   pub few-reductions : w .reductions ≤ 8
 
 -- w′ stands n bytes after w, not refused, with z terms and e reductions, and holds the path reductions cs
-pub record Further (w w′ : Walk) (cs : List PathReduction) (n z e : ℕ) : Type 0 where
+pub record Further (w w′ : Progress) (cs : List PathReduction) (n z e : ℕ) : Type 0 where
   pub code : w′ .code ≡ 0
   pub at : w′ .at ≡ w .at + n
   pub terms : w′ .terms ≡ z
@@ -89,14 +89,14 @@ position-none c (d ∷ cs) e = go (same-path c d) (position-none c cs) e
     go false f e = ap suc (f e)
 
 -- one path reduction more: the other fields stay
-pub record Put (w w′ : Walk) (cs : List PathReduction) : Type 0 where
+pub record Put (w w′ : Progress) (cs : List PathReduction) : Type 0 where
   pub code : w′ .code ≡ w .code
   pub at : w′ .at ≡ w .at
   pub terms : w′ .terms ≡ w .terms
   pub reductions : w′ .reductions ≡ w .reductions
   pub table : Table w′ cs
 
-module _ (w : Walk) (cs : List PathReduction) (t : Table w cs) (c : PathReduction) (f : PathFits 256 c) where
+module _ (w : Progress) (cs : List PathReduction) (t : Table w cs) (c : PathReduction) (f : PathFits 256 c) where
   slot-is : slot-of 8 (w .paths) (w .table) (path-number c) 0 ≡ position c cs
   slot-is =
       subst (λ (p : ℕ). slot-of 8 p (w .table) (path-number c) 0 ≡ 0 + position c cs) (zero-add (length cs) ∙ sym (t .count))
@@ -104,7 +104,7 @@ module _ (w : Walk) (cs : List PathReduction) (t : Table w cs) (c : PathReductio
       ∙ zero-add (position c cs)
 
   -- the state with the path reduction in slot i
-  abbrev stored : ℕ → Walk
+  abbrev stored : ℕ → Progress
   stored i = record { code = w .code; at = w .at; terms = w .terms; paths = max (w .paths) (i + 1); reductions = w .reductions; table = set (w .table) i (path-number c) }
 
   kept-is : kept-path w (path-number c) ≡ cond (leb 8 (position c cs)) (blank 14) (stored (position c cs))
@@ -157,7 +157,7 @@ module _ (w : Walk) (cs : List PathReduction) (t : Table w cs) (c : PathReductio
     where
       made : (ds : List PathReduction) → position c cs < 8 → Table (stored (position c cs)) ds → Put w (kept-path w (path-number c)) ds
       made ds h s =
-          subst (λ (v : Walk). Put w v ds) (sym (kept-is ∙ rw (lt-leb 8 (position c cs) h) refl))
+          subst (λ (v : Progress). Put w v ds) (sym (kept-is ∙ rw (lt-leb 8 (position c cs) h) refl))
           (record { code = refl; at = refl; terms = refl; reductions = refl; table = s })
 
       go : (b : Bool) → among c cs ≡ b → length (cond b cs (cs ++ (c ∷ []))) ≤ 8 → Put w (kept-path w (path-number c)) (cond b cs (cs ++ (c ∷ [])))
@@ -179,5 +179,5 @@ module _ (w : Walk) (cs : List PathReduction) (t : Table w cs) (c : PathReductio
       go false e = room (leb 8 (position c cs)) refl
         where
           room : (b : Bool) → leb 8 (position c cs) ≡ b → length (cs ++ (c ∷ [])) ≤ 8
-          room true p = absurd (let y : _≡_ {A = ℕ} 14 0 = sym (ap (λ (v : Walk). v .code) (full p)) ∙ z in omega arith)
+          room true p = absurd (let y : _≡_ {A = ℕ} 14 0 = sym (ap (λ (v : Progress). v .code) (full p)) ∙ z in omega arith)
           room false p = omega (arith, leb-false 8 (position c cs) p, position-none c cs e, length-append cs (c ∷ []))

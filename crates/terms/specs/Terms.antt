@@ -5,19 +5,19 @@ use mathlib.Core.List.{List}
 use lib.Dec.{leb, ltb, eqb}
 use lib.ListN.{length, getD, set, replicate}
 use Rattle.terms.specs.declared.Step.{Step}
-use Rattle.terms.specs.declared.Walk.{Walk}
+use Rattle.terms.specs.declared.Progress.{Progress}
 use Rattle.fields.specs.Fields.{code-of, path-code, path-word}
 
 -- the state after a refusal
-unfoldable pub blank : ℕ → Walk
+unfoldable pub blank : ℕ → Progress
 blank code = record { code = code; at = 0; terms = 0; paths = 0; reductions = 0; table = replicate 8 0 }
 
 -- the step of a refusal
 abbrev pub stopped : ℕ → Step
-stopped code = record { walk = blank code; follow = 0 }
+stopped code = record { progress = blank code; follow = 0 }
 
 -- one term more, up to `next`
-unfoldable pub advanced : Walk → ℕ → Walk
+unfoldable pub advanced : Progress → ℕ → Progress
 advanced w next = record { code = w .code; at = next; terms = w .terms + 1; paths = w .paths; reductions = w .reductions; table = w .table }
 
 -- the first of k slots of the table, from slot i on, that is free or holds the path reduction
@@ -26,49 +26,49 @@ slot-of zero paths table word i = i
 slot-of (suc k) paths table word i = cond (leb paths i) i (cond (eqb (getD table i 0) word) i (slot-of k paths table word (i + 1)))
 
 -- the path reduction put after those met, where it is not among them: "14 | full sheet | a ninth chain"
-unfoldable pub kept-path : Walk → ℕ → Walk
+unfoldable pub kept-path : Progress → ℕ → Progress
 kept-path w word =
     let i = slot-of 8 (w .paths) (w .table) word 0 in
     cond (leb 8 i) (blank 14)
     (record { code = w .code; at = w .at; terms = w .terms; paths = max (w .paths) (i + 1); reductions = w .reductions; table = set (w .table) i word })
 
 -- "0x10, key count 1 to 3, the keys, a 16-bit start"; "In a chain, 14 comes after 13."
-unfoldable pub path-step : List ℕ → Walk → Step
+unfoldable pub path-step : List ℕ → Progress → Step
 path-step s w =
     let at = w .at + 1 in
-    cond (eqb (path-code s at) 0) (record { walk = kept-path (advanced w (at + 3 + getD s at 256)) (path-word s at); follow = 0 }) (stopped (path-code s at))
+    cond (eqb (path-code s at) 0) (record { progress = kept-path (advanced w (at + 3 + getD s at 256)) (path-word s at); follow = 0 }) (stopped (path-code s at))
 
 -- "0x20, reduction, a place term"; "A reduction's 14 follows its byte."
-unfoldable pub reduce-step : List ℕ → Walk → Step
+unfoldable pub reduce-step : List ℕ → Progress → Step
 reduce-step s w =
     let c = code-of (getD s (w .at + 1) 256) 5 in
     let a = advanced w (w .at + 1 + 1) in
     cond (eqb c 0)
     (cond (leb 8 (w .reductions)) (stopped 14)
     (record {
-      walk = record { code = a .code; at = a .at; terms = a .terms; paths = a .paths; reductions = w .reductions + 1; table = a .table };
+      progress = record { code = a .code; at = a .at; terms = a .terms; paths = a .paths; reductions = w .reductions + 1; table = a .table };
       follow = 1;
     }))
     (stopped c)
 
 -- "0x30 and a chain's index for a chain, 0x31 and an entry's index for a reduction"; "16 | no such row | an index not below its count"
-unfoldable pub index-step : List ℕ → Walk → ℕ → Step
+unfoldable pub index-step : List ℕ → Progress → ℕ → Step
 index-step s w count =
     let b = getD s (w .at + 1) 256 in
-    cond (ltb 255 b) (stopped 1) (cond (leb count b) (stopped 16) (record { walk = advanced w (w .at + 1 + 1); follow = 0 }))
+    cond (ltb 255 b) (stopped 1) (cond (leb count b) (stopped 16) (record { progress = advanced w (w .at + 1 + 1); follow = 0 }))
 
 -- "0x11 and a 32-bit literal", "0x21 and a 32-bit literal"
-unfoldable pub literal-step : List ℕ → Walk → Step
-literal-step s w = cond (ltb 255 (getD s (w .at + 4) 256)) (stopped 1) (record { walk = advanced w (w .at + 4 + 1); follow = 0 })
+unfoldable pub literal-step : List ℕ → Progress → Step
+literal-step s w = cond (ltb 255 (getD s (w .at + 4) 256)) (stopped 1) (record { progress = advanced w (w .at + 4 + 1); follow = 0 })
 
 -- "0x12, operator, two place terms", "0x22, operator, two result terms"
-unfoldable pub apply-step : List ℕ → Walk → Step
+unfoldable pub apply-step : List ℕ → Progress → Step
 apply-step s w =
     let c = code-of (getD s (w .at + 1) 256) 11 in
-    cond (eqb c 0) (record { walk = advanced w (w .at + 1 + 1); follow = 2 }) (stopped c)
+    cond (eqb c 0) (record { progress = advanced w (w .at + 1 + 1); follow = 2 }) (stopped c)
 
 -- the four kinds of terms: 0 place terms, 1 result terms, 2 entries of a worksheet, 3 its final expression
-unfoldable pub leaf-step : ℕ → List ℕ → Walk → Step
+unfoldable pub leaf-step : ℕ → List ℕ → Progress → Step
 leaf-step mode s w =
     cond (eqb mode 0) (path-step s w)
     (cond (eqb mode 1) (reduce-step s w)
@@ -84,7 +84,7 @@ unfoldable pub literal-tag : ℕ → ℕ
 literal-tag mode = cond (eqb mode 0) 0x11 (cond (eqb mode 2) 0x11 0x21)
 
 -- a term without those that it contains, and how many follow: none, 1 place term, or 2 terms of the same kind
-unfoldable pub term-step : ℕ → ℕ → List ℕ → Walk → Step
+unfoldable pub term-step : ℕ → ℕ → List ℕ → Progress → Step
 term-step mode left s w =
     let tag = getD s (w .at) 0 in
     cond (leb (length s) (w .at)) (stopped 1)
@@ -95,22 +95,22 @@ term-step mode left s w =
     (cond (eqb tag (literal-tag mode + 1)) (apply-step s w) (stopped 9))))))
 
 -- a term and all that it contains, with so many levels of depth left; a refusal is handed on
-unfoldable pub read : ℕ → ℕ → List ℕ → Walk → Walk
-read mode zero s w = cond (eqb (w .code) 0) (term-step mode zero s w .walk) w
+unfoldable pub read : ℕ → ℕ → List ℕ → Progress → Progress
+read mode zero s w = cond (eqb (w .code) 0) (term-step mode zero s w .progress) w
 read mode (suc left) s w =
     let h = term-step mode (suc left) s w in
     elim (eqb (w .code) 0) [
       | true ↦ elim (eqb (h .follow) 0) [
-        | true ↦ h .walk
-        | false ↦ elim (eqb (h .follow) 1) [ true ↦ read 0 left s (h .walk) | false ↦ read mode left s (read mode left s (h .walk)) ]
+        | true ↦ h .progress
+        | false ↦ elim (eqb (h .follow) 1) [ true ↦ read 0 left s (h .progress) | false ↦ read mode left s (read mode left s (h .progress)) ]
       ]
       | false ↦ w
     ]
 
 -- the state before the first term, at byte `at`
-unfoldable pub started : ℕ → Walk
+unfoldable pub started : ℕ → Progress
 started at = record { code = 0; at = at; terms = 0; paths = 0; reductions = 0; table = replicate 8 0 }
 
 -- "Left-over bytes come last": 6
-unfoldable pub ended : List ℕ → Walk → Walk
+unfoldable pub ended : List ℕ → Progress → Progress
 ended s w = cond (eqb (w .code) 0) (cond (ltb (w .at) (length s)) (blank 6) w) w

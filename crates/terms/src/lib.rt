@@ -7,7 +7,7 @@ ghost use Rattle.terms.specs.Terms.{blank, stopped, slot-of, kept-path, 
 
 // How far a reading has come. `code` is 0, or the number of the refusal; `paths` and `reductions` count what has been met, or, in a
 // worksheet, what there is; `table` holds the different path reductions, each as its six worksheet bytes in one number.
-pub struct Walk {
+pub struct Progress {
     pub code: u8,
     pub at: usize,
     pub terms: usize,
@@ -18,7 +18,7 @@ pub struct Walk {
 
 // A term read without those that it contains, and how many follow.
 pub struct Step {
-    pub walk: Walk,
+    pub progress: Progress,
     pub follow: u8,
 }
 
@@ -49,11 +49,11 @@ fn slot(table: [u64; 8], paths: usize, word: u64) -> usize
 }
 
 // The state after a refusal: its number, and nothing read.
-pub fn blank_of(code: u8) -> Walk
+pub fn blank_of(code: u8) -> Progress
     ensures { λ r. ⌜ r ≡ blank code ⌝ }
 {
     let table = [0u64; 8];
-    Walk {
+    Progress {
         code,
         at: 0,
         terms: 0,
@@ -68,13 +68,13 @@ fn stop(code: u8) -> Step
     ensures { λ r. ⌜ r ≡ stopped code ⌝ }
 {
     Step {
-        walk: blank_of(code),
+        progress: blank_of(code),
         follow: 0,
     }
 }
 
 // One term more, up to `next`.
-fn advance(w: Walk, next: usize) -> Walk
+fn advance(w: Progress, next: usize) -> Progress
     requires { ⌜ w .terms < 64 ⌝ }
     ensures { λ r. ⌜ r ≡ advanced w next ⌝ }
 {
@@ -92,7 +92,7 @@ fn greater(a: usize, b: usize) -> usize
 }
 
 // The path reduction put into the table: 14 where it is a ninth.
-fn keep_path(w: Walk, word: u64) -> Walk
+fn keep_path(w: Progress, word: u64) -> Progress
     ensures { λ r. ⌜ r ≡ kept-path w word ⌝ }
 {
     let table = w.table;
@@ -107,7 +107,7 @@ fn keep_path(w: Walk, word: u64) -> Walk
 }
 
 // "0x10, key count 1 to 3, the keys, a 16-bit start"; "In a chain, 14 comes after 13."
-fn path_step_of(s: &[u8], w: Walk) -> Step
+fn path_step_of(s: &[u8], w: Progress) -> Step
     requires { ⌜ (w .at < length (now s)) × (w .terms < 64) ⌝ }
     ensures { λ r. ⌜ r ≡ path-step (now (s .entry)) w ⌝ }
 {
@@ -119,13 +119,13 @@ fn path_step_of(s: &[u8], w: Walk) -> Step
     let n = fields::byte(s, at);
     let word = fields::path_word(s, at);
     Step {
-        walk: keep_path(advance(w, at + 3 + (n as usize)), word),
+        progress: keep_path(advance(w, at + 3 + (n as usize)), word),
         follow: 0,
     }
 }
 
 // "0x20, reduction, a place term"; "A reduction's 14 follows its byte."
-fn reduce_step_of(s: &[u8], w: Walk) -> Step
+fn reduce_step_of(s: &[u8], w: Progress) -> Step
     requires { ⌜ (w .at < length (now s)) × (w .terms < 64) ⌝ }
     ensures { λ r. ⌜ r ≡ reduce-step (now (s .entry)) w ⌝ }
 {
@@ -141,13 +141,13 @@ fn reduce_step_of(s: &[u8], w: Walk) -> Step
     let mut next = advance(w, at + 1);
     next.reductions = n + 1;
     Step {
-        walk: next,
+        progress: next,
         follow: 1,
     }
 }
 
 // "0x30 and a chain's index for a chain, 0x31 and an entry's index for a reduction": 16 where it is not below `count`.
-fn index_step_of(s: &[u8], w: Walk, count: usize) -> Step
+fn index_step_of(s: &[u8], w: Progress, count: usize) -> Step
     requires { ⌜ (w .at < length (now s)) × (w .terms < 64) ⌝ }
     ensures { λ r. ⌜ r ≡ index-step (now (s .entry)) w count ⌝ }
 {
@@ -160,13 +160,13 @@ fn index_step_of(s: &[u8], w: Walk, count: usize) -> Step
         return stop(16);
     }
     Step {
-        walk: advance(w, at + 1),
+        progress: advance(w, at + 1),
         follow: 0,
     }
 }
 
 // "0x11 and a 32-bit literal", "0x21 and a 32-bit literal".
-fn literal_step_of(s: &[u8], w: Walk) -> Step
+fn literal_step_of(s: &[u8], w: Progress) -> Step
     requires { ⌜ (w .at < length (now s)) × (w .terms < 64) ⌝ }
     ensures { λ r. ⌜ r ≡ literal-step (now (s .entry)) w ⌝ }
 {
@@ -175,13 +175,13 @@ fn literal_step_of(s: &[u8], w: Walk) -> Step
         return stop(1);
     }
     Step {
-        walk: advance(w, last + 1),
+        progress: advance(w, last + 1),
         follow: 0,
     }
 }
 
 // "0x12, operator, two place terms", "0x22, operator, two result terms".
-fn apply_step_of(s: &[u8], w: Walk) -> Step
+fn apply_step_of(s: &[u8], w: Progress) -> Step
     requires { ⌜ (w .at < length (now s)) × (w .terms < 64) ⌝ }
     ensures { λ r. ⌜ r ≡ apply-step (now (s .entry)) w ⌝ }
 {
@@ -191,13 +191,13 @@ fn apply_step_of(s: &[u8], w: Walk) -> Step
         return stop(c);
     }
     Step {
-        walk: advance(w, at + 1),
+        progress: advance(w, at + 1),
         follow: 2,
     }
 }
 
 // A leaf of a term of the given kind.
-fn leaf_step_of(s: &[u8], w: Walk, mode: u8) -> Step
+fn leaf_step_of(s: &[u8], w: Progress, mode: u8) -> Step
     requires { ⌜ (w .at < length (now s)) × (w .terms < 64) ⌝ }
     ensures { λ r. ⌜ r ≡ leaf-step mode (now (s .entry)) w ⌝ }
 {
@@ -243,7 +243,7 @@ fn literal_tag_of(mode: u8) -> u8
 }
 
 // A term without those that it contains: "for a term 1, 12, 11, 9, then each field".
-fn term_step_of(s: &[u8], w: Walk, mode: u8, left: usize) -> Step
+fn term_step_of(s: &[u8], w: Progress, mode: u8, left: usize) -> Step
     ensures { λ r. ⌜ r ≡ term-step mode left (now (s .entry)) w ⌝ }
 {
     let at = w.at;
@@ -271,34 +271,34 @@ fn term_step_of(s: &[u8], w: Walk, mode: u8, left: usize) -> Step
 }
 
 // A term and all that it contains, from w on, with `left` levels of depth left. A refusal is handed on.
-pub fn read_term(s: &[u8], w: Walk, mode: u8, left: usize) -> Walk
+pub fn read_term(s: &[u8], w: Progress, mode: u8, left: usize) -> Progress
     ensures { λ r. ⌜ r ≡ read mode left (now (s .entry)) w ⌝ }
 {
     if w.code != 0 {
         return w;
     }
     let step = term_step_of(s, w, mode, left);
-    let walk = step.walk;
+    let next = step.progress;
     if left == 0 {
-        return walk;
+        return next;
     }
     let follow = step.follow;
     if follow == 0 {
-        return walk;
+        return next;
     }
     if follow == 1 {
-        return read_term(s, walk, VERTEX, left - 1);
+        return read_term(s, next, VERTEX, left - 1);
     }
-    let first = read_term(s, walk, mode, left - 1);
+    let first = read_term(s, next, mode, left - 1);
     read_term(s, first, mode, left - 1)
 }
 
 // The state before the first term, at byte `at`.
-pub fn start(at: usize) -> Walk
+pub fn start(at: usize) -> Progress
     ensures { λ r. ⌜ r ≡ started at ⌝ }
 {
     let table = [0u64; 8];
-    Walk {
+    Progress {
         code: 0,
         at,
         terms: 0,
@@ -309,7 +309,7 @@ pub fn start(at: usize) -> Walk
 }
 
 // The state after the last term: 6 where bytes are left over.
-pub fn finish(s: &[u8], w: Walk) -> Walk
+pub fn finish(s: &[u8], w: Progress) -> Progress
     ensures { λ r. ⌜ r ≡ ended (now (s .entry)) w ⌝ }
 {
     if w.code != 0 {

@@ -1,7 +1,7 @@
 -- `plan::judge` meets its contract. Assumes nothing.
 use borrow.Author.Needs.{needs}
 use mathlib.Core.Path.{ap}
-use Rattle.terms.specs.declared.Walk.{Walk}
+use Rattle.terms.specs.declared.Progress.{Progress}
 use Rattle.plan.proofs.judge.Statement.{statement}
 use Rattle.plan.proofs.judge.Tie as tie
 
@@ -9,7 +9,7 @@ scan-requires : tie.Need-scan-requires
 scan-requires c κs = search needs
 
 returns : tie.Need-returns
-returns c = ap (λ (w : Walk). w .code) (c .scan .ensures)
+returns c = ap (λ (w : Progress). w .code) (c .scan .ensures)
 
 pub judge-spec : {M : Type 1} → statement M
 judge-spec = tie.close (tie.spec scan-requires returns)

@@ -1,4 +1,4 @@
--- To fuse in one pass, as the program does, is to fuse. Assumes nothing.
+-- To fuse in one pass is to fuse; nothing else uses it. Assumes nothing.
 use Prim.Native.Nat.{ℕ, _+_}
 use mathlib.Core.Path.{_≡_, refl, sym, ap, ap₂, _∙_}
 use mathlib.Core.List.{List, [], _∷_, _++_, map, append-assoc, append-nil}

@@ -1,4 +1,4 @@
--- Fusing in one pass, as a program fuses: each path reduction is put after those of the terms before it, and its index is written at once. Nothing to believe:
+-- Fusing in one pass, as a program may fuse: each path reduction is put after those of the terms before it, and its index is written at once. Nothing to believe:
 -- `fuse-once-same` (proofs/Once) says that it is `fuse`.
 use Prim.Native.Nat.{ℕ}
 use mathlib.Core.List.{List, [], _∷_, _++_}

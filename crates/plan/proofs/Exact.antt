@@ -16,7 +16,7 @@ use Rattle.terms.specs.declared.Progress.{Progress}
 use Rattle.terms.specs.Terms.{blank, ended, leaf-step, leaf-tag, literal-tag, read, started}
 use Rattle.term_text.specs.Text.{expression-bytes}
 use Rattle.term_text.proofs.Ends.{ended-code, ended-whole, no-rest, started-table}
-use Rattle.terms.proofs.Laws.{read-accepted}
+use Rattle.terms.proofs.Laws.{accepted-as, read-accepted}
 use Rattle.term_text.proofs.Paths.{drop-at, nth, present}
 use Rattle.term_text.proofs.Steps.{drop-on, there}
 use Rattle.term_text.proofs.Table.{Further, Table}
@@ -136,12 +136,13 @@ rows-accepted kind s w e = go (eqb (w .code) 0) refl
   where
     go : (b : Bool) → eqb (w .code) 0 ≡ b → w .code ≡ 0
     go true p = eqb-true (w .code) 0 p
-    go false p = let n = eqb-false (w .code) 0 p in sym (ap (λ (v : Progress). v .code) (body-handed kind s w n)) ∙ e
+    go false p = let n = eqb-false (w .code) 0 p in accepted-as (body-handed kind s w n) e
 
 -- the entry count and what follows it, of an accepted text
 module _ (s : List ℕ) (bytes : Bytes s) where
-  abbrev Body-found : ℕ → Progress → List PathReduction → Type 0
-  Body-found kind w cs = (b : Body) × (rest : List ℕ) × (kind-of b ≡ kind) × (drop (w .at) s ≡ body-bytes b ++ rest) × BodyLegal (length cs) b × (plan-terms b ≤ 64)
+  -- a legal body whose bytes stand next
+  abbrev BodyFound : ℕ → Progress → List PathReduction → Type 0
+  BodyFound kind w cs = (b : Body) × (rest : List ℕ) × (kind-of b ≡ kind) × (drop (w .at) s ≡ body-bytes b ++ rest) × BodyLegal (length cs) b × (plan-terms b ≤ 64)
 
   body-starts : (kind : ℕ) (w : Progress) → w .code ≡ 0 → body-scan kind s w .code ≡ 0
       → (w .at < length s) × (count-code kind (getD s (w .at) 256) ≡ 0) × (final-scan kind s (entries-scan (getD s (w .at) 256) kind s (moved w (w .at + 1) (getD s (w .at) 256))) .code ≡ 0)
@@ -172,7 +173,7 @@ module _ (s : List ℕ) (bytes : Bytes s) where
       go false true p z = absurd (omega arith)
       go false false p z = ltb-false 8 b p
 
-  body-sound : (kind : ℕ) (w : Progress) (cs : List PathReduction) → kind ≤ 1 → w .code ≡ 0 → Table w cs → w .terms ≡ 0 → body-scan kind s w .code ≡ 0 → Body-found kind w cs
+  body-sound : (kind : ℕ) (w : Progress) (cs : List PathReduction) → kind ≤ 1 → w .code ≡ 0 → Table w cs → w .terms ≡ 0 → body-scan kind s w .code ≡ 0 → BodyFound kind w cs
   unfolding moved final-scan entries-scan leaf-step literal-tag leaf-tag
   body-sound zero w cs k z tb n e =
       let p = body-starts 0 w z e in

@@ -12,6 +12,7 @@ use Rattle.meaning.specs.Plan.{put-all}
 use Rattle.meaning.specs.Query.{PathReduction, Term, VertexReduction}
 use Rattle.terms.specs.declared.Progress.{Progress}
 use Rattle.terms.specs.Terms.{blank, index-step, leaf-step, leaf-tag, literal-tag, read}
+use Rattle.terms.proofs.Laws.{accepted-as}
 use Rattle.term_text.specs.Text.{expression-bytes}
 use Rattle.term_text.proofs.Exact.{expression-complete, expression-sound, index-count, index-leaves, index-paths}
 use Rattle.term_text.proofs.Paths.{code-range, code-zero, drop-at, nth}
@@ -164,7 +165,7 @@ module _ (s : List ℕ) where
           → ((w : Progress) (cs : List PathReduction) → w .code ≡ 0 → Table w cs → w .terms ≤ 64 → entries-scan k 1 s w .code ≡ 0 → Entries k w cs) → Entries (suc k) w cs
       first false p ih =
           let n = eqb-false (entry-scan 1 s w .code) 0 p in
-          absurd (n (sym (ap (λ (v : Progress). v .code) (entries-refused k 1 (entry-scan 1 s w) n)) ∙ on))
+          absurd (n (accepted-as (entries-refused k 1 (entry-scan 1 s w) n) on))
       first true p ih =
           let f = entry-sound bytes 1 w cs z tb (eqb-true (entry-scan 1 s w .code) 0 p) in
           let range = code-range (f .0) 5 (f .3) in

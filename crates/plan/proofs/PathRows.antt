@@ -15,6 +15,7 @@ use Rattle.meaning.proofs.Lists.{all-append, map-append}
 use Rattle.terms.specs.declared.Progress.{Progress}
 use Rattle.fields.specs.Fields.{code-of, source-code}
 use Rattle.terms.specs.Terms.{blank}
+use Rattle.terms.proofs.Laws.{accepted-as}
 use Rattle.term_text.specs.Text.{path-number}
 use Rattle.wire.proofs.Past.{getD-any}
 use Rattle.term_text.proofs.Paths.{code-range, code-zero, drop-at, key-known, key-zero, legal-parts, nth, present, source-range, source-small, source-zero, two-bytes}
@@ -231,7 +232,7 @@ module _ (s : List ℕ) where
       on = rw (eq-eqb (w .code) 0 z) at e
 
       stops : (n : ℕ) → (n ≡ 0 → ⊥) → row-step s w ≡ blank n → ⊥
-      stops n f p = f (sym (ap (λ (v : Progress). v .code) (ap (rows-scan k s) p ∙ rows-refused k (blank n) f)) ∙ on)
+      stops n f p = f (accepted-as (ap (rows-scan k s) p ∙ rows-refused k (blank n) f) on)
 
       go : (a b : Bool) → leb (length s) (w .at) ≡ a → eqb (row-code s (w .at)) 0 ≡ b
           → ((w : Progress) (cs : List PathReduction) → w .code ≡ 0 → Table w cs → length cs + k ≤ 8 → rows-scan k s w .code ≡ 0

@@ -15,12 +15,13 @@ use Rattle.meaning.proofs.Lists.{bodies-append}
 use Rattle.wire.specs.Wire.{Bytes, le16}
 use Rattle.terms.specs.declared.Progress.{Progress}
 use Rattle.fields.specs.Fields.{code-of, path-code}
-use Rattle.terms.specs.Terms.{advanced, blank, index-step, kept-path, leaf-step, leaf-tag, literal-tag, path-step, read, reduce-step, stopped, term-step}
+use Rattle.terms.specs.Terms.{advanced, blank, index-step, kept-path, leaf-step, leaf-tag, literal-tag, path-step, read, reduce-step, term-step}
+use Rattle.terms.proofs.Laws.{accepted-as}
 use Rattle.term_text.specs.Text.{path-bytes, path-number, vertex-bytes}
 use Rattle.wire.proofs.Past.{getD-any}
 use Rattle.term_text.proofs.Paths.{code-range, code-zero, drop-at, nth, path-accepted, path-count, path-found, path-numbered, present}
 use Rattle.term_text.proofs.Shape.{After, Complete, LeafSound, Leaves, Room, Sound, term-complete, term-count, term-paths, term-sound}
-use Rattle.term_text.proofs.Steps.{drop-on, read-by, step-is, table-advanced, tag-there, there}
+use Rattle.term_text.proofs.Steps.{drop-on, read-by, step-is, stops, table-advanced, tag-there, there}
 use Rattle.term_text.proofs.Table.{Table, kept-few, kept-room}
 
 -- vertex terms: the leaves are path reductions
@@ -86,7 +87,7 @@ module _ (s : List ℕ) where
           → (c : PathReduction) × (rest : List ℕ) × (drop (w .at) s ≡ (0x10 ∷ path-bytes c) ++ rest) × Room vertex-leaves (suc d) w cs (leaf c)
       go false p q =
           let reads : read 0 (suc d) s w ≡ blank (path-code s (w .at + 1)) = q ∙ rw p refl in
-          absurd (eqb-false (path-code s (w .at + 1)) 0 p (sym (ap (λ (v : Progress). v .code) reads) ∙ e))
+          absurd (eqb-false (path-code s (w .at + 1)) 0 p (accepted-as reads e))
       go true p q =
           let ok = eqb-true (path-code s (w .at + 1)) 0 p in
           let f = path-found s bytes (w .at + 1) ok in
@@ -95,7 +96,7 @@ module _ (s : List ℕ) where
           let number = path-numbered s c (f .1) (w .at + 1) _ (f .3) in
           let w1 : Progress = advanced w (w .at + 1 + 3 + length (f .0 .keys)) in
           let reads : read 0 (suc d) s w ≡ kept-path w1 (path-number (f .0)) = q ∙ rw (p, n, number) refl in
-          let few = kept-few w1 cs (table-advanced w cs (w .at + 1 + 3 + length (f .0 .keys)) t) c (f .1) (sym (ap (λ (v : Progress). v .code) reads) ∙ e) in (
+          let few = kept-few w1 cs (table-advanced w cs (w .at + 1 + 3 + length (f .0 .keys)) t) c (f .1) (accepted-as reads e) in (
             c,
             drop (w .at + 1 + 3 + getD s (w .at + 1) 256) s,
             drop-at s (w .at) h ∙ ap₂ (λ (x : ℕ) (l : List ℕ). x ∷ l) (getD-any s (w .at) 256 0 h ∙ tag) (f .3),
@@ -187,23 +188,20 @@ module _ (s : List ℕ) where
       })
 
   reduce-sound : Bytes s → LeafSound result-leaves s 1 Always
-  unfolding leaf-tag reduce-step blank under
+  unfolding leaf-tag reduce-step under
   reduce-sound bytes d w cs z t r h k tag e = go (eqb (code-of (getD s (w .at + 1) 256) 5) 0) (leb 8 (w .reductions)) refl refl
     where
-      stops : (n : ℕ) → (n ≡ 0 → ⊥) → term-step 1 (suc d) s w ≡ stopped n → ⊥
-      stops n f p = f (sym (ap (λ (v : Progress). v .code) (read-by s 1 d w z (stopped n) p)) ∙ e)
-
       go : (x y : Bool) → eqb (code-of (getD s (w .at + 1) 256) 5) 0 ≡ x → leb 8 (w .reductions) ≡ y
           → (a : VertexReduction PathReduction) × (rest : List ℕ) × (drop (w .at) s ≡ (0x20 ∷ a .reduction ∷ vertex-bytes (a .body)) ++ rest) × Room result-leaves (suc d) w cs (leaf a)
       go false y p q =
-          absurd (stops (code-of (getD s (w .at + 1) 256) 5) (eqb-false (code-of (getD s (w .at + 1) 256) 5) 0 p) (reduce-is d w h k tag ∙ rw p refl))
-      go true true p q = absurd (stops 14 (λ n. omega arith) (reduce-is d w h k tag ∙ rw (p, q) refl))
+          absurd (stops s 1 d w z (code-of (getD s (w .at + 1) 256) 5) (eqb-false (code-of (getD s (w .at + 1) 256) 5) 0 p) (reduce-is d w h k tag ∙ rw p refl) e)
+      go true true p q = absurd (stops s 1 d w z 14 (λ n. omega arith) (reduce-is d w h k tag ∙ rw (p, q) refl) e)
       go true false p q =
           let c = eqb-true (code-of (getD s (w .at + 1) 256) 5) 0 p in
           let range = code-range (getD s (w .at + 1) 256) 5 c in
           let fewer = leb-false 8 (w .reductions) q in
           let reads = reduce-read d w z h k tag c fewer in
-          let f = vertex-sound s bytes d (under w) cs z (table-under w cs t fewer) tt (sym (ap (λ (v : Progress). v .code) reads) ∙ e) in
+          let f = vertex-sound s bytes d (under w) cs z (table-under w cs t fewer) tt (accepted-as reads e) in
           let b = f .0 in
           let room = f .3 in
           let paths = ap (put-all cs) (vertex-paths b) in (
@@ -281,16 +279,13 @@ module _ (s : List ℕ) (m count : ℕ) (few : count ≤ 256) (held : Progress �
       (record { code = z; at = omega arith; terms = refl; reductions = omega arith; table = table-advanced w cs (w .at + 1 + 1) t })
 
   index-sound : LeafSound (index-leaves m count) s m Counts
-  unfolding index-step blank
+  unfolding index-step
   index-sound d w cs z t r h k tag e = go (ltb 255 (getD s (w .at + 1) 256)) (leb (held w) (getD s (w .at + 1) 256)) refl refl
     where
-      stops : (n : ℕ) → (n ≡ 0 → ⊥) → term-step m (suc d) s w ≡ stopped n → ⊥
-      stops n f p = f (sym (ap (λ (v : Progress). v .code) (read-by s m d w z (stopped n) p)) ∙ e)
-
       go : (x y : Bool) → ltb 255 (getD s (w .at + 1) 256) ≡ x → leb (held w) (getD s (w .at + 1) 256) ≡ y
           → (i : ℕ) × (rest : List ℕ) × (drop (w .at) s ≡ (leaf-tag m ∷ i ∷ []) ++ rest) × Room (index-leaves m count) (suc d) w cs (leaf i)
-      go true y p q = absurd (stops 1 (λ n. omega arith) (index-is d w h k tag ∙ rw p refl))
-      go false true p q = absurd (stops 16 (λ n. omega arith) (index-is d w h k tag ∙ rw (p, q) refl))
+      go true y p q = absurd (stops s m d w z 1 (λ n. omega arith) (index-is d w h k tag ∙ rw p refl) e)
+      go false true p q = absurd (stops s m d w z 16 (λ n. omega arith) (index-is d w h k tag ∙ rw (p, q) refl) e)
       go false false p q =
           let here = present s (w .at + 1) (ltb-false 255 (getD s (w .at + 1) 256) p) in (
             getD s (w .at + 1) 256,

@@ -15,12 +15,12 @@ use Rattle.meaning.proofs.Paths.{put-all-append}
 use Rattle.wire.specs.Wire.{Bytes, le32}
 use Rattle.terms.specs.declared.Progress.{Progress}
 use Rattle.fields.specs.Fields.{code-of}
-use Rattle.terms.specs.Terms.{advanced, apply-step, blank, leaf-tag, literal-step, literal-tag, read, stopped, term-step}
+use Rattle.terms.specs.Terms.{advanced, apply-step, leaf-tag, literal-step, literal-tag, read, term-step}
 use Rattle.term_text.specs.Text.{term-bytes}
 use Rattle.wire.proofs.Past.{getD-any}
-use Rattle.terms.proofs.Laws.{read-accepted}
+use Rattle.terms.proofs.Laws.{accepted-as, read-accepted}
 use Rattle.term_text.proofs.Paths.{code-range, code-zero, drop-at, nth, present}
-use Rattle.term_text.proofs.Steps.{drop-on, four-bytes, read-by, read-flat, read-starts, step-is, table-advanced, tag-there, there}
+use Rattle.term_text.proofs.Steps.{drop-on, four-bytes, read-by, read-flat, read-starts, step-is, stops, table-advanced, tag-there, there}
 use Rattle.term_text.proofs.Table.{Further, Table}
 
 -- a kind of leaf: its bytes, how many terms it is, how deep, the path reductions and reductions in it, and what is legal
@@ -169,11 +169,6 @@ module _ {A : Type 0} (K : Leaves A) (s : List ℕ) (m : ℕ) (Ready : Progress 
   term-complete f (literal k) = literal-complete k
   term-complete f (apply o t u) = apply-complete o t u (term-complete f t) (term-complete f u)
 
-  -- a step that stops refuses
-  stops : (d : ℕ) (w : Progress) → w .code ≡ 0 → (k : ℕ) → (k ≡ 0 → ⊥) → term-step m (suc d) s w ≡ stopped k → read m (suc d) s w .code ≡ 0 → ⊥
-  unfolding blank
-  stops d w z k n p e = n (sym (ap (λ (v : Progress). v .code) (read-by s m d w z (stopped k) p)) ∙ e)
-
   module _ (bytes : Bytes s) where
     module _ (d : ℕ) (w : Progress) (cs : List PathReduction) (z : w .code ≡ 0) (t : Table w cs) (h : w .at < length s) (k : w .terms < 64)
         (e : read m (suc d) s w .code ≡ 0) where
@@ -185,7 +180,7 @@ module _ {A : Type 0} (K : Leaves A) (s : List ℕ) (m : ℕ) (Ready : Progress 
           step = step-is s m d w h k ∙ rw (tag, literal-not-leaf, eq-eqb (literal-tag m) (literal-tag m) refl) refl
 
           go : (b : Bool) → ltb 255 (getD s (w .at + 4) 256) ≡ b → Found K s m Ready (suc d) w cs
-          go true p = absurd (stops d w z 1 (λ q. omega arith) (step ∙ rw p refl) e)
+          go true p = absurd (stops s m d w z 1 (λ q. omega arith) (step ∙ rw p refl) e)
           go false p = there-is (present s (w .at + 4) (ltb-false 255 (getD s (w .at + 4) 256) p))
             where
               small : (i : ℕ) → w .at + i < length s → getD s (w .at + i) 256 < 256
@@ -231,7 +226,7 @@ module _ {A : Type 0} (K : Leaves A) (s : List ℕ) (m : ℕ) (Ready : Progress 
               let a = complete (f .0) d (advanced w (w .at + 1 + 1)) cs (f .1) z (table-advanced w cs (w .at + 1 + 1) t) (on w (w .at + 1 + 1) ready) (f .2) (f .3) in
               let w2 = read m d s (advanced w (w .at + 1 + 1)) in
               let g = ih w2 (put-all cs (term-paths K (f .0))) (a .code) (a .table)
-              (past (advanced w (w .at + 1 + 1)) w2 cs (f .0) (on w (w .at + 1 + 1) ready) (table-advanced w cs (w .at + 1 + 1) t) a) (sym (ap (λ (v : Progress). v .code) r) ∙ e) in
+              (past (advanced w (w .at + 1 + 1)) w2 cs (f .0) (on w (w .at + 1 + 1) ready) (table-advanced w cs (w .at + 1 + 1) t) a) (accepted-as r e) in
               let grow = put-all-append cs (term-paths K (f .0)) (term-paths K (g .0)) in
               let rest : f .1 ≡ text (g .0) ++ g .1 =
               sym (ap (λ (i : ℕ). drop i s) (a .at) ∙ drop-on s (w .at + 1 + 1) (length (text (f .0))) (text (f .0)) (f .1) (f .2) refl) ∙ g .2 in
@@ -253,12 +248,12 @@ module _ {A : Type 0} (K : Leaves A) (s : List ℕ) (m : ℕ) (Ready : Progress 
               )
 
           go : (b : Bool) → eqb (code-of (getD s (w .at + 1) 256) 11) 0 ≡ b → Found K s m Ready (suc d) w cs
-          go false p = absurd (stops d w z (code-of (getD s (w .at + 1) 256) 11) (eqb-false (code-of (getD s (w .at + 1) 256) 11) 0 p) (step ∙ rw p refl) e)
+          go false p = absurd (stops s m d w z (code-of (getD s (w .at + 1) 256) 11) (eqb-false (code-of (getD s (w .at + 1) 256) 11) 0 p) (step ∙ rw p refl) e)
           go true p =
               let c = code-range (getD s (w .at + 1) 256) 11 (eqb-true (code-of (getD s (w .at + 1) 256) 11) 0 p) in
               let r = read-by s m d w z (record { progress = advanced w (w .at + 1 + 1); follow = 2 }) (step ∙ rw p refl) in
               both (c .1) (c .2) (present s (w .at + 1) (c .0)) r
-              (ih (advanced w (w .at + 1 + 1)) cs z (table-advanced w cs (w .at + 1 + 1) t) (on w (w .at + 1 + 1) ready) (read-accepted m d s (read m d s (advanced w (w .at + 1 + 1))) (sym (ap (λ (v : Progress). v .code) r) ∙ e)))
+              (ih (advanced w (w .at + 1 + 1)) cs z (table-advanced w cs (w .at + 1 + 1) t) (on w (w .at + 1 + 1) ready) (read-accepted m d s (read m d s (advanced w (w .at + 1 + 1))) (accepted-as r e)))
 
     -- WHAT IS READ IS A LEGAL TERM
     pub term-sound : ((a : A) → Complete K s m Ready (leaf a)) → LeafSound K s m Ready → (d : ℕ) → Sound K s m Ready d
@@ -272,4 +267,4 @@ module _ {A : Type 0} (K : Leaves A) (s : List ℕ) (m : ℕ) (Ready : Progress 
         go ih h k true y v p q o = let l = g d w cs z t r h k (eqb-true (getD s (w .at) 0) (leaf-tag m) p) e in (leaf (l .0), l .1, l .2, l .3)
         go ih h k false true v p q o = literal-found d w cs z t h k e (eqb-true (getD s (w .at) 0) (literal-tag m) q)
         go ih h k false false true p q o = apply-found d w cs z t h k e (term-complete f) ih r (eqb-true (getD s (w .at) 0) (literal-tag m + 1) o)
-        go ih h k false false false p q o = absurd (stops d w z 9 (λ x. omega arith) (step-is s m d w h k ∙ rw (p, q, o) refl) e)
+        go ih h k false false false p q o = absurd (stops s m d w z 9 (λ x. omega arith) (step-is s m d w h k ∙ rw (p, q, o) refl) e)

@@ -13,7 +13,7 @@ use Rattle.wire.specs.Wire.{le32}
 use Rattle.terms.specs.declared.Step.{Step}
 use Rattle.terms.specs.declared.Progress.{Progress}
 use Rattle.terms.specs.Terms.{advanced, apply-step, blank, leaf-step, leaf-tag, literal-step, literal-tag, read, stopped, term-step}
-use Rattle.terms.proofs.Laws.{read-next}
+use Rattle.terms.proofs.Laws.{accepted-as, read-next}
 use Rattle.term_text.proofs.Paths.{digits, nth, two-bytes}
 use Rattle.term_text.proofs.Table.{Table}
 
@@ -53,6 +53,11 @@ module _ (s : List ℕ) (m : ℕ) where
       let p : suc d - 1 ≡ d = omega arith in
       rw (read-next m (suc d) s w (λ n. omega arith), eq-eqb (w .code) 0 z, e, p) refl
 
+  -- a step that stops refuses
+  pub stops : (d : ℕ) (w : Progress) → w .code ≡ 0 → (k : ℕ) → (k ≡ 0 → ⊥) → term-step m (suc d) s w ≡ stopped k → read m (suc d) s w .code ≡ 0 → ⊥
+  unfolding blank
+  stops d w z k n p e = n (accepted-as (read-by d w z (stopped k) p) e)
+
   -- nothing is read without depth, past the end, or beyond 64 terms
   pub read-flat : (w : Progress) → w .code ≡ 0 → read m zero s w .code ≡ 0 → ⊥
   unfolding read term-step blank
@@ -64,15 +69,12 @@ module _ (s : List ℕ) (m : ℕ) where
       go false false e = omega arith
 
   pub read-starts : (d : ℕ) (w : Progress) → w .code ≡ 0 → read m (suc d) s w .code ≡ 0 → (w .at < length s) × (w .terms < 64)
-  unfolding blank term-step
+  unfolding term-step
   read-starts d w z e = go (leb (length s) (w .at)) (leb 64 (w .terms)) refl refl
     where
-      stops : (k : ℕ) → term-step m (suc d) s w ≡ stopped (suc k) → (w .at < length s) × (w .terms < 64)
-      stops k p = absurd (let y : suc k ≡ 0 = sym (ap (λ (v : Progress). v .code) (read-by d w z (stopped (suc k)) p)) ∙ e in omega arith)
-
       go : (a b : Bool) → leb (length s) (w .at) ≡ a → leb 64 (w .terms) ≡ b → (w .at < length s) × (w .terms < 64)
-      go true b p q = stops 0 (rw p refl)
-      go false true p q = stops 11 (rw (p, q) refl)
+      go true b p q = absurd (stops d w z 1 (λ x. omega arith) (rw p refl) e)
+      go false true p q = absurd (stops d w z 12 (λ x. omega arith) (rw (p, q) refl) e)
       go false false p q = (leb-false (length s) (w .at) p, leb-false 64 (w .terms) q)
 
 -- four bytes make a 32-bit number

@@ -18,6 +18,7 @@ use Rattle.walks.specs.Lists.{All}
 use Rattle.walks.proofs.Tests.{T-of}
 use Rattle.terms.specs.declared.Progress.{Progress}
 use Rattle.terms.specs.Terms.{blank, kept-path, slot-of}
+use Rattle.terms.proofs.Laws.{accepted-as}
 use Rattle.term_text.specs.Text.{path-number}
 use Rattle.term_text.proofs.Paths.{number-same}
 
@@ -179,5 +180,5 @@ module _ (w : Progress) (cs : List PathReduction) (t : Table w cs) (c : PathRedu
       go false e = room (leb 8 (position c cs)) refl
         where
           room : (b : Bool) → leb 8 (position c cs) ≡ b → length (cs ++ (c ∷ [])) ≤ 8
-          room true p = absurd (let y : _≡_ {A = ℕ} 14 0 = sym (ap (λ (v : Progress). v .code) (full p)) ∙ z in omega arith)
+          room true p = absurd (let y : _≡_ {A = ℕ} 14 0 = accepted-as (full p) z in omega arith)
           room false p = omega (arith, leb-false 8 (position c cs) p, position-none c cs e, length-append cs (c ∷ []))

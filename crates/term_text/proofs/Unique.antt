@@ -69,7 +69,7 @@ module _ {A : Type 0} (m : ℕ) (L : A → List ℕ) (fine : A → Type 0) (tail
   no-apply e = eqb-false (literal-tag m + 1) (leaf-tag m) apply-not-leaf (sym e)
 
   -- a term, and where it ends
-  term-split : (t u : Term A) (x y : List ℕ) → Every fine t → Every fine u → text t ++ x ≡ text u ++ y → (t ≡ u) × (x ≡ y)
+  pub term-split : (t u : Term A) (x y : List ℕ) → Every fine t → Every fine u → text t ++ x ≡ text u ++ y → (t ≡ u) × (x ≡ y)
   term-split (leaf a) (leaf b) x y f g e = let r = leaf-split a b x y f g e in (ap leaf (r .0), r .1)
   term-split (leaf a) (literal k) x y f g e = absurd (no-literal (leaf-first a (literal-tag m) x _ e))
   term-split (leaf a) (apply o t u) x y f g e = absurd (no-apply (leaf-first a (literal-tag m + 1) x _ e))

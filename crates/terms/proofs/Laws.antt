@@ -57,10 +57,14 @@ unfolding read
 handed-on mode zero s w n = rw (ne-eqb (w .code) 0 n) refl
 handed-on mode (suc left) s w n = rw (ne-eqb (w .code) 0 n, read) refl
 
+-- a state that is another is accepted where that is
+pub accepted-as : {v w : Progress} → v ≡ w → v .code ≡ 0 → w .code ≡ 0
+accepted-as p e = sym (ap (λ (x : Progress). x .code) p) ∙ e
+
 -- so what is read to its end was not refused before
 pub read-accepted : (mode left : ℕ) (s : List ℕ) (w : Progress) → read mode left s w .code ≡ 0 → w .code ≡ 0
 read-accepted mode left s w e = go (eqb (w .code) 0) refl
   where
     go : (b : Bool) → eqb (w .code) 0 ≡ b → w .code ≡ 0
     go true p = eqb-true (w .code) 0 p
-    go false p = sym (ap (λ (v : Progress). v .code) (handed-on mode left s w (eqb-false (w .code) 0 p))) ∙ e
+    go false p = accepted-as (handed-on mode left s w (eqb-false (w .code) 0 p)) e

@@ -7,7 +7,7 @@ ghost use lib.ListN.{length, take, set};
 ghost use lib.Seq.{sets};
 ghost use Rattle.value.specs.Value.{values};
 ghost use Rattle.wire.specs.Wire.{le64, reply-number, reply-buffer};
-ghost use Rattle.answer.specs.Answer.{row-bytes, rows-bytes, letters, head-bytes, row-count, fields-code, answer-size, answer-code, answer-reply};
+ghost use Rattle.answer.specs.Answer.{row-bytes, rows-bytes, head-bytes, row-count, fields-code, answer-size, answer-code, answer-reply};
 
 // "n rows for kind 0 or one row for kind 1"
 fn row_count(n: u16, kind: u8) -> usize
@@ -92,22 +92,14 @@ fn put_row(out: &mut [u8], at: usize, row: Row)
     put64(out, at + 1, x);
 }
 
-// The three letters.
-fn put_letters(out: &mut [u8])
-    requires { ⌜ 3 ≤ length (now out) ⌝ }
-    ensures { λ _. ⌜ now (out .exit) ≡ sets (now (out .entry)) 0 letters ⌝ }
-{
-    out[0] = 0x4c;
-    out[1] = 0x50;
-    out[2] = 0x41;
-}
-
 // The ten bytes before the rows.
 fn put_head(out: &mut [u8], n: u16, rounds: u16, kind: u8)
     requires { ⌜ 10 ≤ length (now out) ⌝ }
     ensures { λ _. ⌜ now (out .exit) ≡ sets (now (out .entry)) 0 (head-bytes n rounds kind) ⌝ }
 {
-    put_letters(out);
+    out[0] = 0x4c;
+    out[1] = 0x50;
+    out[2] = 0x41;
     put16(out, 3, 1);
     put16(out, 5, n as u64);
     put16(out, 7, rounds as u64);

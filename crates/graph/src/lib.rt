@@ -4,7 +4,6 @@ ghost use mathlib.Core.List.{map};
 ghost use Prim.Native.Nat.{_+_, _*_, _/_, _%_, _<_, _≤_};
 ghost use lib.ListN.{length, take, set};
 ghost use lib.Seq.{sets};
-ghost use Rattle.wire.specs.Header.{header-bytes};
 ghost use Rattle.wire.specs.Wire.{at16, reply-number, reply-buffer};
 ghost use Rattle.graph.specs.Graph.{edge-in, edges-in, edge-code, edges-code, counts-code, graph-code, graph-of, row-of, table-of, blank-table, graph-reading};
 ghost use Rattle.graph.specs.Encode.{row-edge, edge-bytes, edges-bytes, head-bytes, write-reply};
@@ -243,24 +242,16 @@ fn put_edge(out: &mut [u8], at: usize, row: EdgeRow)
     put16(out, at + 6, row.capacity);
 }
 
-// The three letters and the version.
-fn put_header(out: &mut [u8])
-    requires { ⌜ 5 ≤ length (now out) ⌝ }
-    ensures { λ _. ⌜ now (out .exit) ≡ sets (now (out .entry)) 0 (header-bytes 0x4d) ⌝ }
+// The nine bytes before the rows.
+fn put_head(out: &mut [u8], n: u16, m: u16)
+    requires { ⌜ 9 ≤ length (now out) ⌝ }
+    ensures { λ _. ⌜ now (out .exit) ≡ sets (now (out .entry)) 0 (head-bytes n m) ⌝ }
 {
     out[0] = 0x4c;
     out[1] = 0x50;
     out[2] = 0x4d;
     out[3] = 1;
     out[4] = 0;
-}
-
-// The nine bytes before the rows.
-fn put_head(out: &mut [u8], n: u16, m: u16)
-    requires { ⌜ 9 ≤ length (now out) ⌝ }
-    ensures { λ _. ⌜ now (out .exit) ≡ sets (now (out .entry)) 0 (head-bytes n m) ⌝ }
-{
-    put_header(out);
     put16(out, 5, n);
     put16(out, 7, m);
 }

@@ -1,25 +1,39 @@
 -- `graph::put_head` meets its contract. Assumes nothing.
+use mathlib.Core.Path.{_∙_}
+use native.Mathlib.Omega.{arith}
 use borrow.Author.Needs.{needs}
+use lib.ListN.{length-set}
 use Rattle.graph.proofs.put_head.Statement.{statement}
 use Rattle.graph.proofs.put_head.Tie as tie
 
-put-header-requires : tie.Need-put-header-requires
-put-header-requires c κs = search needs
+slice-write-out : tie.Need-slice-write-out
+slice-write-out c = search needs
+
+slice-write-out-2 : tie.Need-slice-write-out-2
+slice-write-out-2 c = simp length-set (omega arith)
+
+slice-write-out-3 : tie.Need-slice-write-out-3
+slice-write-out-3 c = simp length-set (omega arith)
+
+slice-write-out-4 : tie.Need-slice-write-out-4
+slice-write-out-4 c = simp length-set (omega arith)
+
+slice-write-out-5 : tie.Need-slice-write-out-5
+slice-write-out-5 c = simp length-set (omega arith)
 
 put16-requires : tie.Need-put16-requires
-put16-requires c κs = search needs
+put16-requires c κs = simp length-set (omega arith)
 
 put16-requires-2 : tie.Need-put16-requires-2
-put16-requires-2 c κs = search needs
+put16-requires-2 c κs = let e = c .before .before .before .put16 .kept .0 in omega (arith, simp length-set at e)
 
 same-length : tie.Need-same-length
-same-length c = search needs
+same-length c = c .before .before .put162 .kept .0 ∙ c .before .before .before .before .before .before .put16 .kept .0 ∙ simp length-set
 
 returns : tie.Need-returns
-returns c =
-    rw (c .before .before .put162 .ensures, c .before .before .before .before .before .before .put16 .ensures, c .before .before .before .before .before .before .before .before .before .before .put-header .ensures)
+returns c = rw (c .before .before .put162 .ensures, c .before .before .before .before .before .before .put16 .ensures)
 
 pub put-head-spec : {M : Type 1} → statement M
 put-head-spec =
     tie.close
-    (tie.spec put-header-requires put16-requires put16-requires-2 same-length returns)
+    (tie.spec slice-write-out slice-write-out-2 slice-write-out-3 slice-write-out-4 slice-write-out-5 put16-requires put16-requires-2 same-length returns)

@@ -1,4 +1,4 @@
--- One path reduction's part of the table, as the program goes: start values, and a round edge by edge. Nothing to believe: rounds_laws says that it is the theory's.
+-- One path reduction's part of the table, as the program goes: initial values, and a round edge by edge. Nothing to believe: rounds_laws says that it is the theory's.
 use Prim.Native.Nat.{ℕ, zero, suc, _+_, _*_, _/_, _%_, min}
 use mathlib.Core.Bool.{Bool, true, false, cond, _||_}
 use mathlib.Core.List.{List, [], _∷_}
@@ -19,22 +19,25 @@ abbrev pub ahead : Extreme → ℕ → ℕ → Bool
 ahead Least x y = ltb x y
 ahead Greatest x y = ltb y x
 
--- the three keys in the number of a path reduction (`path-number`), the last one again where there are fewer; and their rows
-abbrev pub used : ℕ → ℕ → ℕ → ℕ → ℕ
-used count at key before = cond (ltb count at) before key
+-- a key of a path reduction that has `count` of them, or the key before where it has fewer than `at`
+abbrev pub key-or-before : ℕ → ℕ → ℕ → ℕ → ℕ
+key-or-before count at key before = cond (ltb count at) before key
 
+-- the three keys in the number of a path reduction (`path-number`), the last one again where there are fewer
 abbrev pub key1 : ℕ → ℕ
 key1 word = word / 256 % 256
 
 abbrev pub key2 : ℕ → ℕ
-key2 word = used (word % 256) 2 (word / 65536 % 256) (key1 word)
+key2 word = key-or-before (word % 256) 2 (word / 65536 % 256) (key1 word)
 
 abbrev pub key3 : ℕ → ℕ
-key3 word = used (word % 256) 3 (word / 16777216 % 256) (key2 word)
+key3 word = key-or-before (word % 256) 3 (word / 16777216 % 256) (key2 word)
 
+-- their rows in the table of keys
 unfoldable pub keys-of : ℕ → PathKeys
 keys-of word = record { first = row (key1 word); second = row (key2 word); third = row (key3 word) }
 
+-- the source in the number, above the keys
 abbrev pub source-of : ℕ → ℕ
 source-of word = word / 4294967296
 
@@ -46,23 +49,23 @@ numbers c = c .first ∷ c .second ∷ c .third ∷ c .stamp ∷ []
 abbrev pub starts-here : ℕ → ℕ → Bool
 starts-here source v = cond (eqb source 65535) true (eqb source v)
 
--- the start value of a vertex
-unfoldable pub start-cell : PathKeys → ℕ → ℕ → Cell
-start-cell ks source v =
+-- the initial value of a vertex: "start values are round 0"
+unfoldable pub initial-cell : PathKeys → ℕ → ℕ → Cell
+initial-cell ks source v =
     cond (starts-here source v)
     (record { first = base (ks .first .measure) v; second = base (ks .second .measure) v; third = base (ks .third .measure) v; stamp = 1 })
     (record { first = 0; second = 0; third = 0; stamp = 0 })
 
--- the first v vertices have their start values
-unfoldable pub started : PathKeys → ℕ → List ℕ → ℕ → List ℕ
-started ks source l zero = l
-started ks source l (suc v) = sets (started ks source l v) (4 * v) (numbers (start-cell ks source v))
+-- the first v vertices have their initial values
+unfoldable pub initialized : PathKeys → ℕ → List ℕ → ℕ → List ℕ
+initialized ks source l zero = l
+initialized ks source l (suc v) = sets (initialized ks source l v) (4 * v) (numbers (initial-cell ks source v))
 
 -- a figure with one more edge after the walk
 abbrev pub onward : KeyRow → ℕ → ℕ → ℕ → ℕ
 onward k weight capacity x = extend (k .measure) (edge 0 0 weight capacity) x
 
--- what an edge brings from the cell at f of `old`, and whether it beats the cell at t of `new`: "the best first key, of these the best second key, and so on"
+-- what an edge brings from the cell at f of `old`
 unfoldable pub through : PathKeys → ℕ → ℕ → List ℕ → ℕ → ℕ → Cell
 through ks weight capacity old f stamp = record {
   first = min (onward (ks .first) weight capacity (getD old f 0)) 4294967295;
@@ -71,6 +74,7 @@ through ks weight capacity old f stamp = record {
   stamp = stamp;
 }
 
+-- whether that beats the cell at t of `new`: "the best first key, of these the best second key, and so on"
 unfoldable pub displaces : PathKeys → ℕ → ℕ → List ℕ → ℕ → List ℕ → ℕ → Bool
 displaces ks weight capacity old f new t =
     cond (eqb (getD new (t + 3) 0) 0) true
@@ -80,20 +84,22 @@ displaces ks weight capacity old f new t =
     (ahead (ks .second .kept) (onward (ks .second) weight capacity (getD old (f + 1) 0)) (getD new (t + 1) 0)))
     (ahead (ks .first .kept) (onward (ks .first) weight capacity (getD old f 0)) (getD new t 0)))
 
--- is what the edge brings taken? What is left at its end
+-- is what the edge brings taken? Not from a cell stamped before `since`
 unfoldable pub taken : PathKeys → Edge → ℕ → List ℕ → List ℕ → Bool
 taken ks e since old new =
     cond (ltb (getD old (4 * e .from + 3) 0) since) false (displaces ks (e .weight) (e .capacity) old (4 * e .from) new (4 * e .to))
 
+-- the cells with it at the end of the edge, where it is taken
 unfoldable pub relaxed : PathKeys → Edge → ℕ → ℕ → List ℕ → List ℕ → List ℕ
 relaxed ks e since stamp old new =
     cond (taken ks e since old new) (sets new (4 * e .to) (numbers (through ks (e .weight) (e .capacity) old (4 * e .from) stamp))) new
 
--- the first i edges of the map s in turn, on the figures `old` of the round before; whether any was taken
+-- the first i edges of the graph s in turn, from the figures `old` of the round before
 unfoldable pub relaxed-upto : PathKeys → List ℕ → ℕ → ℕ → List ℕ → ℕ → List ℕ
 relaxed-upto ks s since stamp old zero = old
 relaxed-upto ks s since stamp old (suc i) = relaxed ks (edge-in s i) since stamp old (relaxed-upto ks s since stamp old i)
 
+-- was any of them taken?
 unfoldable pub taken-upto : PathKeys → List ℕ → ℕ → ℕ → List ℕ → ℕ → Bool
 taken-upto ks s since stamp old zero = false
 taken-upto ks s since stamp old (suc i) =

@@ -1,4 +1,4 @@
-// One path reduction's part of the table of figures: its start values, and one round of it edge by edge.
+// One path reduction's part of the table of figures: its initial values (document 01: start values), and one round of it edge by edge.
 //
 // A vertex has four numbers there, a cell: the figures of three keys, and a stamp. A path reduction of fewer keys has its last key again, so the third figure
 // is its value. The stamp is 0 where the vertex is absent, else one more than the last round that changed it: so one test leaves out the edges that bring
@@ -7,14 +7,13 @@ use walks::Extreme;
 use walks::KeyRow;
 use walks::Measure;
 ghost use mathlib.Core.Path.{_≡_};
-ghost use mathlib.Core.Bool.{_||_};
 ghost use Prim.Native.Nat.{_+_, _*_, _<_, _≤_, min};
-ghost use lib.ListN.{length};
+ghost use lib.ListN.{length, getD};
 ghost use lib.Seq.{sets};
-ghost use Rattle.walks.specs.Walks.{base, extend, edge};
+ghost use Rattle.walks.specs.Walks.{base};
 ghost use Rattle.wire.specs.Wire.{at16};
 ghost use Rattle.graph.specs.Graph.{graph-code, edge-in};
-ghost use Rattle.cells.specs.Cells.{ahead, used, keys-of, source-of, starts-here, start-cell, numbers, started, through, displaces, taken, relaxed, relaxed-upto, taken-upto};
+ghost use Rattle.cells.specs.Cells.{ahead, key-or-before, keys-of, source-of, starts-here, initial-cell, numbers, initialized, onward, through, displaces, taken, relaxed, relaxed-upto, taken-upto};
 
 // The keys of a path reduction by their rows.
 pub struct PathKeys {
@@ -31,12 +30,14 @@ pub struct Cell {
     pub stamp: u32,
 }
 
+// A byte as an index.
 fn byte_wide(b: u8) -> usize
     ensures { λ r. ⌜ (r ≡ b) × (r ≤ 255) ⌝ }
 {
     b as usize
 }
 
+// A number of the table, in 64 bits.
 fn wide(x: u32) -> u64
     ensures { λ r. ⌜ (r ≡ x) × (r < 4294967296) ⌝ }
 {
@@ -49,14 +50,6 @@ fn read16(s: &[u8], i: usize) -> usize
     ensures { λ r. ⌜ (r ≡ at16 (now (s .entry)) i) × (r < 65536) ⌝ }
 {
     byte_wide(s[i]) + 256 * byte_wide(s[i + 1])
-}
-
-// How many edges an accepted map has.
-fn edges(graph: &[u8]) -> usize
-    requires { ⌜ graph-code (now graph) ≡ 0 ⌝ }
-    ensures { λ r. ⌜ (r ≡ at16 (now (graph .entry)) 7) × (r ≤ 1024) ⌝ }
-{
-    read16(graph, 7)
 }
 
 // A field of edge i: at 0 where it begins, at 2 where it ends, at 4 its weight, at 6 its capacity.
@@ -83,8 +76,8 @@ fn to_at(graph: &[u8], i: usize) -> usize
 }
 
 // A key, or the one before it where there are fewer keys.
-fn used_key(count: u64, at: u64, key: u8, before: u8) -> u8
-    ensures { λ r. ⌜ r ≡ used count at key before ⌝ }
+fn key_or_before(count: u64, at: u64, key: u8, before: u8) -> u8
+    ensures { λ r. ⌜ r ≡ key-or-before count at key before ⌝ }
 {
     if count < at {
         return before;
@@ -98,8 +91,8 @@ fn path_keys(word: u64) -> PathKeys
 {
     let count = word % 256;
     let a = (word / 256 % 256) as u8;
-    let b = used_key(count, 2, (word / 65536 % 256) as u8, a);
-    let c = used_key(count, 3, (word / 16777216 % 256) as u8, b);
+    let b = key_or_before(count, 2, (word / 65536 % 256) as u8, a);
+    let c = key_or_before(count, 3, (word / 16777216 % 256) as u8, b);
     PathKeys {
         first: walks::key_row(a),
         second: walks::key_row(b),
@@ -107,7 +100,7 @@ fn path_keys(word: u64) -> PathKeys
     }
 }
 
-// ---- start values
+// ---- initial values
 
 // The figure of the empty walk.
 fn base_of(m: Measure, v: u32) -> u32
@@ -122,7 +115,7 @@ fn base_of(m: Measure, v: u32) -> u32
 }
 
 // Does a walk start at v? 65,535 is anywhere.
-fn starts_at(source: u64, v: u64) -> bool
+fn starts_here(source: u64, v: u64) -> bool
     ensures { λ r. ⌜ r ≡ starts-here source v ⌝ }
 {
     if source == 65535 {
@@ -131,10 +124,11 @@ fn starts_at(source: u64, v: u64) -> bool
     source == v
 }
 
-fn first_cell(keys: PathKeys, source: u64, v: u32) -> Cell
-    ensures { λ r. ⌜ r ≡ start-cell keys source v ⌝ }
+// The initial value of the vertex v.
+fn initial_cell(keys: PathKeys, source: u64, v: u32) -> Cell
+    ensures { λ r. ⌜ r ≡ initial-cell keys source v ⌝ }
 {
-    if !starts_at(source, wide(v)) {
+    if !starts_here(source, wide(v)) {
         return Cell {
             first: 0,
             second: 0,
@@ -156,6 +150,7 @@ fn first_cell(keys: PathKeys, source: u64, v: u32) -> Cell
     }
 }
 
+// The four numbers of a cell, stored from `at` on.
 fn put_cell(part: &mut [u32], at: usize, cell: Cell)
     requires { ⌜ at + 4 ≤ length (now part) ⌝ }
     ensures { λ _. ⌜ now (part .exit) ≡ sets (now (part .entry)) at (numbers cell) ⌝ }
@@ -166,16 +161,16 @@ fn put_cell(part: &mut [u32], at: usize, cell: Cell)
     part[at + 3] = cell.stamp;
 }
 
-// The start values of the path reduction of this number, on n vertices.
-pub fn start(word: u64, n: usize, part: &mut [u32])
+// The initial values of the path reduction of this number, on n vertices.
+pub fn initialize(word: u64, n: usize, part: &mut [u32])
     requires { ⌜ (n ≤ 256) × (length (now part) ≡ 4 * n) ⌝ }
-    ensures { λ _. ⌜ now (part .exit) ≡ started (keys-of word) (source-of word) (now (part .entry)) n ⌝ }
+    ensures { λ _. ⌜ now (part .exit) ≡ initialized (keys-of word) (source-of word) (now (part .entry)) n ⌝ }
 {
     let keys = path_keys(word);
     let source = word / 4294967296;
     let mut v: usize = 0;
     while v < n {
-        let cell = first_cell(keys, source, v as u32);
+        let cell = initial_cell(keys, source, v as u32);
         put_cell(part, 4 * v, cell);
         v += 1;
     }
@@ -183,6 +178,15 @@ pub fn start(word: u64, n: usize, part: &mut [u32])
 
 // ---- a round of one path reduction
 
+// The number at i.
+fn figure_at(part: &[u32], i: usize) -> u64
+    requires { ⌜ i < length (now part) ⌝ }
+    ensures { λ r. ⌜ (r ≡ getD (now (part .entry)) i 0) × (r < 4294967296) ⌝ }
+{
+    wide(part[i])
+}
+
+// The lesser of two.
 fn least(x: u64, y: u64) -> u64
     ensures { λ r. ⌜ r ≡ min x y ⌝ }
 {
@@ -192,12 +196,12 @@ fn least(x: u64, y: u64) -> u64
     y
 }
 
-// A figure after one more edge.
-fn extended(key: KeyRow, weight: u64, capacity: u64, figure: u32) -> u64
-    requires { ⌜ weight < 65536 ⌝ }
-    ensures { λ r. ⌜ r ≡ extend (key .measure) (edge 0 0 weight capacity) figure ⌝ }
+// The figure at i after one more edge.
+fn extended(key: KeyRow, weight: u64, capacity: u64, part: &[u32], i: usize) -> u64
+    requires { ⌜ (weight < 65536) × (i < length (now part)) ⌝ }
+    ensures { λ r. ⌜ r ≡ onward key weight capacity (getD (now (part .entry)) i 0) ⌝ }
 {
-    let x = wide(figure);
+    let x = figure_at(part, i);
     let m = key.measure;
     match m {
         Measure::Edges => x + 1,
@@ -245,22 +249,22 @@ fn beats(
         return true;
     }
     let first = keys.first;
-    let a = extended(first, weight, capacity, old[f]);
-    let x = wide(new[t]);
+    let a = extended(first, weight, capacity, old, f);
+    let x = figure_at(new, t);
     if a != x {
         return is_ahead(first, a, x);
     }
     let second = keys.second;
-    let b = extended(second, weight, capacity, old[f + 1]);
-    let y = wide(new[t + 1]);
+    let b = extended(second, weight, capacity, old, f + 1);
+    let y = figure_at(new, t + 1);
     if b != y {
         return is_ahead(second, b, y);
     }
     let third = keys.third;
     is_ahead(
         third,
-        extended(third, weight, capacity, old[f + 2]),
-        wide(new[t + 2]),
+        extended(third, weight, capacity, old, f + 2),
+        figure_at(new, t + 2),
     )
 }
 
@@ -273,9 +277,9 @@ fn brought(keys: PathKeys, weight: u64, capacity: u64, old: &[u32], f: usize, st
     let second = keys.second;
     let third = keys.third;
     Cell {
-        first: narrow(extended(first, weight, capacity, old[f])),
-        second: narrow(extended(second, weight, capacity, old[f + 1])),
-        third: narrow(extended(third, weight, capacity, old[f + 2])),
+        first: narrow(extended(first, weight, capacity, old, f)),
+        second: narrow(extended(second, weight, capacity, old, f + 1)),
+        third: narrow(extended(third, weight, capacity, old, f + 2)),
         stamp,
     }
 }
@@ -308,15 +312,6 @@ fn relax(
     true
 }
 
-fn either(a: bool, b: bool) -> bool
-    ensures { λ r. ⌜ r ≡ a || b ⌝ }
-{
-    if a {
-        return true;
-    }
-    b
-}
-
 // All edges in turn, from the figures of the round before. Whether a vertex changed.
 fn relax_all(
     keys: PathKeys,
@@ -329,17 +324,18 @@ fn relax_all(
     requires { ⌜ (graph-code (now graph) ≡ 0) × (length (now old) ≡ 4 * at16 (now graph) 5) × (now new ≡ now old) ⌝ }
     ensures { λ r. ⌜ (r ≡ taken-upto keys (now (graph .entry)) since stamp (now (old .entry)) (at16 (now (graph .entry)) 7)) × (now (new .exit) ≡ relaxed-upto keys (now (graph .entry)) since stamp (now (old .entry)) (at16 (now (graph .entry)) 7)) ⌝ }
 {
-    let m = edges(graph);
+    let m = read16(graph, 7);
     let mut changed = false;
     let mut i: usize = 0;
     while i < m {
         let one = relax(keys, graph, i, since, stamp, old, new);
-        changed = either(changed, one);
+        changed = changed | one;
         i += 1;
     }
     changed
 }
 
+// The numbers of one slice into another.
 fn copy(src: &[u32], dst: &mut [u32])
     requires { ⌜ length (now src) ≡ length (now dst) ⌝ }
     ensures { λ _. ⌜ now (dst .exit) ≡ now (src .entry) ⌝ }

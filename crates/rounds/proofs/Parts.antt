@@ -7,8 +7,8 @@ use native.Mathlib.Omega.{arith}
 use borrow.Rule.Slice.PartMut.{post-is, putMid}
 use lib.ListN.{take, drop}
 use Rattle.wire.specs.Wire.{at16}
-use Rattle.cells.specs.Cells.{keys-of, relaxed-upto, source-of, started, taken-upto}
-use Rattle.rounds.specs.Run.{part, started-at, step-takes, stepped, with-part}
+use Rattle.cells.specs.Cells.{keys-of, relaxed-upto, source-of, initialized, taken-upto}
+use Rattle.rounds.specs.Run.{part, initialized-at, step-takes, stepped, with-part}
 
 size : (a w : ℕ) → a + w - a ≡ w
 size a w = omega arith
@@ -24,16 +24,19 @@ module _ (s xs ys : List ℕ) (j n : ℕ) (e : n ≡ at16 s 5) where
   unfolding part
   mid-part = ap (λ (k : ℕ). take k (drop (1024 * j) xs)) (size (1024 * j) (4 * n)) ∙ ap (λ (k : ℕ). take (4 * k) (drop (1024 * j) xs)) e
 
-  pub start-put : (word : ℕ) → ys ≡ started (keys-of word) (source-of word) (take (1024 * j + 4 * n - 1024 * j) (drop (1024 * j) xs)) n
-      → putMid (1024 * j) (1024 * j + 4 * n - 1024 * j) xs ys ≡ started-at s word j xs
-  unfolding started-at
-  start-put word p = put-part ∙ ap (with-part s j xs) (rw (mid-part, e) at p)
+  -- the initial values in a part lent are the table's
+  pub initialize-put : (word : ℕ) → ys ≡ initialized (keys-of word) (source-of word) (take (1024 * j + 4 * n - 1024 * j) (drop (1024 * j) xs)) n
+      → putMid (1024 * j) (1024 * j + 4 * n - 1024 * j) xs ys ≡ initialized-at s word j xs
+  unfolding initialized-at
+  initialize-put word p = put-part ∙ ap (with-part s j xs) (rw (mid-part, e) at p)
 
+  -- a round of a part lent is the table's, by what it leaves
   pub step-put : (word since stamp : ℕ) → ys ≡ relaxed-upto (keys-of word) s since stamp (take (1024 * j + 4 * n - 1024 * j) (drop (1024 * j) xs)) (at16 s 7)
       → putMid (1024 * j) (1024 * j + 4 * n - 1024 * j) xs ys ≡ stepped s word j since stamp xs
   unfolding stepped
   step-put word since stamp p = put-part ∙ ap (with-part s j xs) (rw mid-part at p)
 
+  -- and by what it says
   pub step-said : (word since stamp : ℕ) (b : Bool) → b ≡ taken-upto (keys-of word) s since stamp (take (1024 * j + 4 * n - 1024 * j) (drop (1024 * j) xs)) (at16 s 7)
       → b ≡ step-takes s word j since stamp xs
   unfolding step-takes

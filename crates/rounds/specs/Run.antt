@@ -7,30 +7,33 @@ use lib.ListN.{length, getD, set, take, drop, replicate}
 use Rattle.value.specs.declared.Value.{Value}
 use Rattle.value.specs.declared.Value.the-variants.{Absent, Number}
 use Rattle.wire.specs.Wire.{at16}
-use Rattle.cells.specs.Cells.{keys-of, relaxed-upto, source-of, started, taken-upto}
+use Rattle.cells.specs.Cells.{keys-of, relaxed-upto, source-of, initialized, taken-upto}
 
--- path reduction j has the numbers from 1,024 * j on, four for each of the map's vertices; the table with other numbers there
+-- how many numbers a path reduction has: four for each of the graph's vertices
 abbrev pub width : List ℕ → ℕ
 width s = 4 * at16 s 5
 
+-- those of path reduction j, from 1,024 * j on
 unfoldable pub part : List ℕ → ℕ → List ℕ → List ℕ
 part s j l = take (width s) (drop (1024 * j) l)
 
+-- the table with other numbers there
 unfoldable pub with-part : List ℕ → ℕ → List ℕ → List ℕ → List ℕ
 with-part s j l p = take (1024 * j) l ++ (p ++ drop (1024 * j + width s) l)
 
--- start values
-unfoldable pub started-at : List ℕ → ℕ → ℕ → List ℕ → List ℕ
-started-at s word j l = with-part s j l (started (keys-of word) (source-of word) (part s j l) (at16 s 5))
+-- the initial values of path reduction j ("start values are round 0"), and of the first j of a table of path reductions
+unfoldable pub initialized-at : List ℕ → ℕ → ℕ → List ℕ → List ℕ
+initialized-at s word j l = with-part s j l (initialized (keys-of word) (source-of word) (part s j l) (at16 s 5))
 
-unfoldable pub started-upto : List ℕ → List ℕ → List ℕ → ℕ → List ℕ
-started-upto s table l zero = l
-started-upto s table l (suc j) = started-at s (getD table j 0) j (started-upto s table l j)
+unfoldable pub initialized-upto : List ℕ → List ℕ → List ℕ → ℕ → List ℕ
+initialized-upto s table l zero = l
+initialized-upto s table l (suc j) = initialized-at s (getD table j 0) j (initialized-upto s table l j)
 
--- a round of path reduction j alone: whether it changes, and the table after it
+-- a round of path reduction j alone: does any vertex change?
 unfoldable pub step-takes : List ℕ → ℕ → ℕ → ℕ → ℕ → List ℕ → Bool
 step-takes s word j since stamp l = taken-upto (keys-of word) s since stamp (part s j l) (at16 s 7)
 
+-- the table after it
 unfoldable pub stepped : List ℕ → ℕ → ℕ → ℕ → ℕ → List ℕ → List ℕ
 stepped s word j since stamp l = with-part s j l (relaxed-upto (keys-of word) s since stamp (part s j l) (at16 s 7))
 
@@ -51,9 +54,11 @@ turned s word j since stamp rest l =
     (turn (stepped s word j since stamp l) rest true)
     (turn (stepped s word j since stamp l) (set rest j 1) false))
 
+-- one turn after another
 abbrev pub and-then : Turn → Turn → Turn
 and-then a b = turn (b .figures) (b .rest) (a .changed || b .changed)
 
+-- the turns of the first j path reductions
 unfoldable pub turned-upto : List ℕ → List ℕ → ℕ → ℕ → List ℕ → List ℕ → ℕ → Turn
 turned-upto s table since stamp rest l zero = turn l rest false
 turned-upto s table since stamp rest l (suc j) =
@@ -82,9 +87,9 @@ rounds-from push s paths table (suc d) r rest l =
     (rounds-from push s paths table d (r + 1) (round-after push s paths table r rest l .rest) (round-after push s paths table r rest l .figures))
     (record { count = r + 1; figures = round-after push s paths table r rest l .figures })
 
--- a run: start values, none at rest, rounds
+-- a run: initial values, none at rest, rounds
 unfoldable pub ran : Bool → List ℕ → ℕ → List ℕ → ℕ → List ℕ → Ran
-ran push s paths table limit l = rounds-from push s paths table limit 0 (replicate 8 0) (started-upto s table l paths)
+ran push s paths table limit l = rounds-from push s paths table limit 0 (replicate 8 0) (initialized-upto s table l paths)
 
 -- the value of path reduction j at vertex v: the last key's figure; absent where the stamp is 0, and outside the table
 unfoldable pub value-in : List ℕ → ℕ → ℕ → Value

@@ -1,21 +1,11 @@
 // Rounds of all path reductions of a plan on one flat table (document 01: pull run, push run). Path reduction j has the numbers from 1,024 * j on (crate cells).
 use value::Value;
 ghost use mathlib.Core.Path.{_≡_};
-ghost use mathlib.Core.Bool.{_||_, true, false};
-ghost use Prim.Native.Nat.{_+_, _*_, _<_, _≤_};
+ghost use Prim.Native.Nat.{_*_, _<_, _≤_};
 ghost use lib.ListN.{length};
 ghost use Rattle.wire.specs.Wire.{at16};
 ghost use Rattle.graph.specs.Graph.{graph-code};
-ghost use Rattle.rounds.specs.Run.{started-at, started-upto, stepped, step-takes, turned, turned-upto, since-of, rounds-from, ran, value-in};
-
-fn either(a: bool, b: bool) -> bool
-    ensures { λ r. ⌜ r ≡ a || b ⌝ }
-{
-    if a {
-        return true;
-    }
-    b
-}
+ghost use Rattle.rounds.specs.Run.{initialized-at, initialized-upto, stepped, step-takes, turned, turned-upto, since-of, rounds-from, ran, value-in};
 
 // A figure as a value's number.
 fn wide(x: u32) -> u64
@@ -24,7 +14,7 @@ fn wide(x: u32) -> u64
     x as u64
 }
 
-// How many vertices an accepted map has.
+// How many vertices an accepted graph has.
 fn vertices(graph: &[u8]) -> usize
     requires { ⌜ graph-code (now graph) ≡ 0 ⌝ }
     ensures { λ r. ⌜ (r ≡ at16 (now (graph .entry)) 5) × (r ≤ 256) ⌝ }
@@ -32,29 +22,31 @@ fn vertices(graph: &[u8]) -> usize
     wire::half(graph, 5) as usize
 }
 
-// Path reduction j has the numbers from 1,024 * j on, four for each vertex.
-fn start_at(word: u64, graph: &[u8], j: usize, figures: &mut [u32])
+// The initial values of path reduction j, which has the numbers from 1,024 * j on, four for each vertex.
+fn initialize_at(word: u64, graph: &[u8], j: usize, figures: &mut [u32])
     requires { ⌜ (graph-code (now graph) ≡ 0) × (j < 8) × (length (now figures) ≡ 8192) ⌝ }
-    ensures { λ _. ⌜ now (figures .exit) ≡ started-at (now (graph .entry)) word j (now (figures .entry)) ⌝ }
+    ensures { λ _. ⌜ now (figures .exit) ≡ initialized-at (now (graph .entry)) word j (now (figures .entry)) ⌝ }
 {
     let n = vertices(graph);
-    let a = 1024 * j;
-    let e = a + 4 * n;
-    cells::start(word, n, &mut figures[a..e])
+    let first = 1024 * j;
+    let end = first + 4 * n;
+    cells::initialize(word, n, &mut figures[first..end])
 }
 
-fn start_all(graph: &[u8], paths: usize, table: [u64; 8], figures: &mut [u32])
+// The initial values of all path reductions.
+fn initialize_all(graph: &[u8], paths: usize, table: [u64; 8], figures: &mut [u32])
     requires { ⌜ (graph-code (now graph) ≡ 0) × (paths ≤ 8) × (length (now figures) ≡ 8192) ⌝ }
-    ensures { λ _. ⌜ now (figures .exit) ≡ started-upto (now (graph .entry)) table (now (figures .entry)) paths ⌝ }
+    ensures { λ _. ⌜ now (figures .exit) ≡ initialized-upto (now (graph .entry)) table (now (figures .entry)) paths ⌝ }
 {
     let mut j: usize = 0;
     while j < paths {
         let word = table[j];
-        start_at(word, graph, j, figures);
+        initialize_at(word, graph, j, figures);
         j += 1;
     }
 }
 
+// A round of path reduction j alone. Whether a vertex changed.
 fn step_at(
     word: u64,
     graph: &[u8],
@@ -73,7 +65,7 @@ fn step_at(
     cells::step(word, graph, since, stamp, &mut figures[from..end], work)
 }
 
-// A round of path reduction j; one that is quiet rests: it stays as it is.
+// The turn of path reduction j in a round: one that is quiet rests, and stays as it is. Whether it changed.
 fn turn(
     word: u64,
     graph: &[u8],
@@ -116,7 +108,7 @@ fn round(
     while j < paths {
         let word = table[j];
         let moved = turn(word, graph, j, since, stamp, rest, figures, work);
-        changed = either(changed, moved);
+        changed = changed | moved;
         j += 1;
     }
     changed
@@ -130,12 +122,6 @@ fn least_stamp(push: bool, r: u16) -> u32
         return r as u32 + 1;
     }
     1
-}
-
-fn stamp_of(r: u16) -> u32
-    ensures { λ s. ⌜ s ≡ r + 2 ⌝ }
-{
-    r as u32 + 2
 }
 
 // Rounds until one changes nothing, at most `limit`. How many.
@@ -154,16 +140,9 @@ fn rounds(
 {
     let mut r: u16 = 0;
     while r < limit {
-        let changed = round(
-            graph,
-            paths,
-            table,
-            least_stamp(push, r),
-            stamp_of(r),
-            rest,
-            figures,
-            work,
-        );
+        let since = least_stamp(push, r);
+        let stamp = r as u32 + 2;
+        let changed = round(graph, paths, table, since, stamp, rest, figures, work);
         r += 1;
         if !changed {
             return r;
@@ -188,7 +167,7 @@ pub fn run(
     let mut rest = [0u8; 8];
     let mut buffer = [0u32; 1024];
     let w = 4 * vertices(graph);
-    start_all(graph, paths, table, figures);
+    initialize_all(graph, paths, table, figures);
     rounds(
         push,
         graph,

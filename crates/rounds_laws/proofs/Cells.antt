@@ -70,6 +70,7 @@ module _ (l : List ℕ) (i a b c d : ℕ) where
 -- ---- a cell stored at vertex t
 
 module _ (l : List ℕ) (t : ℕ) (c : Cell) where
+  -- the other vertices keep their four numbers, and so their figures
   pub put-other : (v k : ℕ) → (v ≡ t → ⊥) → k < 4 → getD (sets l (4 * t) (numbers c)) (4 * v + k) 0 ≡ getD l (4 * v + k) 0
   put-other v k n h =
       let m : ¬ (v ≡ t) = n in
@@ -84,6 +85,7 @@ module _ (l : List ℕ) (t : ℕ) (c : Cell) where
       cc (e, put-other v 1 n (omega arith), put-other v 2 n (omega arith), put-other v 3 n (omega arith))
 
   module _ (n : ℕ) (long : length l ≡ 4 * n) (h : t < n) where
+    -- t has the cell's stamp, and its figures
     pub stamp-here : stamp-at (sets l (4 * t) (numbers c)) t ≡ c .stamp
     stamp-here =
         ap (λ (x : ℕ). getD (sets l (4 * t) (numbers c)) x 0) (let e : 4 * t + 3 ≡ suc (suc (suc (4 * t))) = omega arith in e)
@@ -105,6 +107,7 @@ module _ (l : List ℕ) (t : ℕ) (c : Cell) where
     unfolding figures-at
     figures-here = cc (stamp-here, numbers-here)
 
+-- a vertex with a stamp has its three figures, one without has none
 pub present : (l : List ℕ) (v : ℕ) → 1 ≤ stamp-at l v → figures-at l v ≡ some (numbers-at l v)
 unfolding figures-at
 present l v h = rw (ne-eqb (stamp-at l v) 0 (λ e. omega arith))
@@ -115,6 +118,7 @@ absent l v h = rw (eq-eqb (stamp-at l v) 0 h)
 
 -- ---- the test of an edge
 
+-- a figure is extended by the edge's weight and capacity alone
 pub onward-is : (m : Measure) (e : Edge) (x : ℕ) → extend m (edge 0 0 (e .weight) (e .capacity)) x ≡ extend m e x
 onward-is Edges e x = refl
 onward-is Weight e x = refl
@@ -146,13 +150,15 @@ three-tests h j k a b c x y z = rw (eqb-swap a x, eqb-swap b y, ahead-is h a x, 
     go false q = refl
 
 module _ (k1 k2 k3 : ℕ) where
+  -- three keys, and their rows
   abbrev pub Keys3 : List ℕ
   Keys3 = k1 ∷ k2 ∷ k3 ∷ []
 
   abbrev pub rows3 : PathKeys
   rows3 = record { first = row k1; second = row k2; third = row k3 }
 
-  pub displaces-is : (e : Edge) (old new : List ℕ) →
+  -- what the code compares is the theory's order
+  displaces-is : (e : Edge) (old new : List ℕ) →
       displaces rows3 (e .weight) (e .capacity) old (4 * e .from) new (4 * e .to) ≡ beaten Keys3 (figures-at new (e .to)) (extend-all Keys3 e (numbers-at old (e .from)))
   unfolding displaces figures-at
   displaces-is e old new =
@@ -172,6 +178,7 @@ module _ (k1 k2 k3 : ℕ) where
           three-tests (kept k1) (kept k2) (kept k3) (extend (measure k1) e (getD old (4 * e .from) 0)) (extend (measure k2) e (getD old (4 * e .from + 1) 0))
           (extend (measure k3) e (getD old (4 * e .from + 2) 0)) (getD new (4 * e .to) 0) (getD new (4 * e .to + 1) 0) (getD new (4 * e .to + 2) 0)
 
+  -- AN EDGE IS TAKEN where it is walked and what it brings is better
   pub taken-is : (e : Edge) (since : ℕ) (old new : List ℕ) →
       taken rows3 e since old new ≡ (leb since (stamp-at old (e .from)) && beaten Keys3 (figures-at new (e .to)) (extend-all Keys3 e (numbers-at old (e .from))))
   unfolding taken

@@ -79,7 +79,7 @@ module _ (s : List ℕ) (cs : List PathReduction) (r : ℕ) where
       all-at (λ c. T (unchanged (pull (graph-of s) c) r (at16 s 5))) cs j blank
       (all-unmapped (λ S. T (unchanged S r (at16 s 5))) (pull (graph-of s)) cs (quiet-yes (at16 s 5) (map (pull (graph-of s)) cs) r t)) h))
 
--- the path reductions cs of a table on the accepted map s
+-- the path reductions cs of a table on the accepted graph s
 pub record Plans (s : List ℕ) (cs : List PathReduction) (table : List ℕ) : Type 0 where
   pub few : length cs ≤ 8
   pub named : (j : ℕ) → j < length cs → getD table j 0 ≡ path-number (nth cs j)
@@ -139,38 +139,42 @@ module _ (push : Bool) (s : List ℕ) (cs : List PathReduction) (table : List �
     upto zero b = record { done = λ j l. absurd (not-suc-le-zero l); waits = λ j l i. held .parts j i; flags = held .flags; long = held .long; says = refl }
     upto (suc k) b = more k b (upto k (omega arith))
 
-    -- A ROUND OF ALL: each shows its next state, and the round says whether any vertex changed for any
+    -- A ROUND OF ALL: each shows its next state
     pub round-held : AllHeld s cs (suc r) (round-after push s (length cs) table r rest l .rest) (round-after push s (length cs) table r rest l .figures)
     round-held = let u = upto (length cs) (omega arith) in record { parts = u .done; flags = u .flags; long = u .long }
 
+    -- and the round says whether any vertex changed for any
     pub round-changed : round-after push s (length cs) table r rest l .changed ≡ not (quiet (at16 s 5) (map (pull (graph-of s)) cs) r)
     round-changed = upto (length cs) (omega arith) .says ∙ ap not (calm-quiet s cs r)
 
   -- ---- rounds until one is quiet, at most d more
 
-  abbrev pub Q : ℕ → Bool
-  Q = quiet (at16 s 5) (map (pull (graph-of s)) cs)
+  -- does the round after r change nothing?
+  abbrev pub Quiet : ℕ → Bool
+  Quiet = quiet (at16 s 5) (map (pull (graph-of s)) cs)
 
   -- no round up to the given number was quiet, or the last one was the first quiet one
   abbrev pub Ended : ℕ → ℕ → Type 0
   Ended limit count =
-      ((count ≡ limit) × ((j : ℕ) → j < limit → T (Q j) → ⊥))
-      ⊎ ((q : ℕ) × (count ≡ suc q) × T (Q q) × ((j : ℕ) → j < q → T (Q j) → ⊥))
+      ((count ≡ limit) × ((j : ℕ) → j < limit → T (Quiet j) → ⊥))
+      ⊎ ((q : ℕ) × (count ≡ suc q) × T (Quiet q) × ((j : ℕ) → j < q → T (Quiet j) → ⊥))
 
+  -- what a run leaves: the figures of the state after as many rounds as it says
   pub record Shown (limit : ℕ) (x : Ran) : Type 0 where
     pub figures : (j : ℕ) → j < length cs → (v : ℕ) → v < at16 s 5 → figures-at (part s j (x .figures)) v ≡ padded (pull (graph-of s) (nth cs j) (x .count) v)
     pub long : length (x .figures) ≡ 8192
     pub ended : Ended limit (x .count)
     pub within : x .count ≤ limit
 
-  none-more : (r : ℕ) → ((j : ℕ) → j < r → T (Q j) → ⊥) → (T (Q r) → ⊥) → (j : ℕ) → j < r + 1 → T (Q j) → ⊥
+  none-more : (r : ℕ) → ((j : ℕ) → j < r → T (Quiet j) → ⊥) → (T (Quiet r) → ⊥) → (j : ℕ) → j < r + 1 → T (Quiet j) → ⊥
   none-more r f n j h t = go (ℕ-discrete j r)
     where
       go : Dec (j ≡ r) → ⊥
-      go (yes e) = n (subst (λ (i : ℕ). T (Q i)) e t)
+      go (yes e) = n (subst (λ (i : ℕ). T (Quiet i)) e t)
       go (no d) = f j (omega arith) t
 
-  pub rounds-shown : (d r : ℕ) → r + d ≤ 65535 → (rest l : List ℕ) → AllHeld s cs r rest l → ((j : ℕ) → j < r → T (Q j) → ⊥)
+  -- ROUNDS UNTIL ONE IS QUIET, from the state after r
+  pub rounds-shown : (d r : ℕ) → r + d ≤ 65535 → (rest l : List ℕ) → AllHeld s cs r rest l → ((j : ℕ) → j < r → T (Quiet j) → ⊥)
       → Shown (r + d) (rounds-from push s (length cs) table d r rest l)
   unfolding rounds-from
   rounds-shown zero r h rest l held none = record {
@@ -188,22 +192,22 @@ module _ (push : Bool) (s : List ℕ) (cs : List PathReduction) (table : List �
       next : AllHeld s cs (suc r) (round-after push s (length cs) table r rest l .rest) (round-after push s (length cs) table r rest l .figures)
       next = round-held r (omega arith) rest l held
 
-      said : round-after push s (length cs) table r rest l .changed ≡ not (Q r)
+      said : round-after push s (length cs) table r rest l .changed ≡ not (Quiet r)
       said = round-changed r (omega arith) rest l held
 
       go : (b : Bool) → round-after push s (length cs) table r rest l .changed ≡ b
-          → (((j : ℕ) → j < r + 1 → T (Q j) → ⊥)
+          → (((j : ℕ) → j < r + 1 → T (Quiet j) → ⊥)
           → Shown (r + 1 + d) (rounds-from push s (length cs) table d (r + 1) (round-after push s (length cs) table r rest l .rest) (round-after push s (length cs) table r rest l .figures)))
           → Shown (r + suc d)
           (cond b
           (rounds-from push s (length cs) table d (r + 1) (round-after push s (length cs) table r rest l .rest) (round-after push s (length cs) table r rest l .figures))
           (record { count = r + 1; figures = round-after push s (length cs) table r rest l .figures }))
       go true e f =
-          let n : T (Q r) → ⊥ = λ t. never (sym (ap not (T-true (Q r) t)) ∙ sym said ∙ e) in
+          let n : T (Quiet r) → ⊥ = λ t. never (sym (ap not (T-true (Quiet r) t)) ∙ sym said ∙ e) in
           subst (λ (k : ℕ). Shown k (rounds-from push s (length cs) table d (r + 1) (round-after push s (length cs) table r rest l .rest) (round-after push s (length cs) table r rest l .figures)))
           (let q : r + 1 + d ≡ r + suc d = omega arith in q) (f (none-more r none n))
       go false e f =
-          let y : T (Q r) = T-of (not-false (Q r) (sym said ∙ e)) in
+          let y : T (Quiet r) = T-of (not-false (Quiet r) (sym said ∙ e)) in
           record {
             figures = λ j b v k. next .parts j b .figures v k ∙ ap (λ (i : ℕ). padded (pull (graph-of s) (nth cs j) i v)) (sym (add-one r));
             long = next .long;

@@ -4,7 +4,7 @@ pub mod Cells
 pub mod Edges
 pub mod Words
 pub mod Path
-pub mod Start
+pub mod Initial
 pub mod Parts
 pub mod Turn
 pub mod Joint

@@ -45,7 +45,7 @@ map-at f [] j d e h = absurd (not-suc-le-zero h)
 map-at f (x ∷ l) zero d e h = refl
 map-at f (x ∷ l) (suc j) d e h = map-at f l j d e (le-of-suc-le-suc h)
 
--- A PLAN IN CODE: an accepted map, and path reductions legal on it with their numbers in the first `paths` of a table of eight
+-- A PLAN IN CODE: an accepted graph, and path reductions legal on it with their numbers in the first `paths` of a table of eight
 pub record Ready (s : List ℕ) (p : Plan) (paths : ℕ) (table : List ℕ) : Type 0 where
   pub bytes : Bytes s
   pub accepted-graph : graph-code s ≡ 0
@@ -61,7 +61,7 @@ module _ (s : List ℕ) (p : Plan) (paths : ℕ) (table : List ℕ) (ready : Rea
   fits : GraphFits g
   fits = read-sound s (ready .bytes) (ready .accepted-graph) .0 .fits
 
-  pub paths-count : paths ≡ length (p .paths)
+  paths-count : paths ≡ length (p .paths)
   paths-count = sym (length-take-le paths table (omega (arith, ready .few, ready .eight))) ∙ ap length (ready .named) ∙ length-map (p .paths) path-number
 
   given : (j : ℕ) → j < length (p .paths) → Given s (nth (p .paths) j)
@@ -77,7 +77,7 @@ module _ (s : List ℕ) (p : Plan) (paths : ℕ) (table : List ℕ) (ready : Rea
     given = given;
   }
 
-  -- pull and push are the same states
+  -- pull and push are the same states, and so have the same rounds and values
   ways : (b : Bool) → All (λ c. way b g c ≡ pull g c) (p .paths)
   ways true = all-weaken (p .paths) (λ c f. push-state (network-of g c) (c .keys) (path-in-order (at16 s 5) c f)) (ready .legal)
   ways false = all-weaken (p .paths) (λ c f. refl) (ready .legal)
@@ -147,6 +147,7 @@ module _ (s : List ℕ) (p : Plan) (paths : ℕ) (table : List ℕ) (ready : Rea
         value-in (ran by-push s paths table limit l .figures) j v ≡ getD (values-at (way by-push (graph-of s)) (p .paths) limit v) j Absent
     given-values j h v k = value-of j h v k limit (figures-limit j h v k)
 
+    -- and those of the rounds done
     pub done-values : (j : ℕ) → j < length (p .paths) → (v : ℕ) → v < at16 s 5 →
         value-in (ran by-push s paths table limit l .figures) j v
         ≡ getD (values-at (way by-push (graph-of s)) (p .paths) (ran by-push s paths table limit l .count) v) j Absent
@@ -174,13 +175,15 @@ module _ (s : List ℕ) (p : Plan) (paths : ℕ) (table : List ℕ) (ready : Rea
           ≡ getD (values-at (way by-push (graph-of s)) (p .paths) (run-rounds (way by-push (graph-of s)) (at16 s 5) p) v) j Absent
       quiet-values j h v k = done-values j h v k ∙ ap (λ (r : ℕ). getD (values-at (way by-push g) (p .paths) r v) j Absent) quiet-rounds
 
-      -- the least count, one or more, whose last round changed nothing; at most 2n; the figures then are those over all walks
+      -- the least count, one or more, whose last round changed nothing
       pub quiet-smallest : Smallest (graph-of s) (p .paths) (ran by-push s paths table limit l .count)
       quiet-smallest = subst (Smallest g (p .paths)) (sym (count-pull (shown .ended))) (rounds-smallest g fits (p .paths) (ready .legal))
 
+      -- never more than 2n
       pub quiet-bound : ran by-push s paths table limit l .count ≤ 2 * at16 s 5
       quiet-bound = omega (arith, count-pull (shown .ended), rounds-at-most g fits (p .paths) (ready .legal))
 
+      -- the figures then are those over all walks
       pub quiet-final : (j : ℕ) → j < length (p .paths) → (v : ℕ) → v < at16 s 5 →
           (o : Option (List ℕ))
           × Figures (network-of (graph-of s) (nth (p .paths) j)) (nth (p .paths) j .keys) (AllTo (network-of (graph-of s) (nth (p .paths) j)) v) o

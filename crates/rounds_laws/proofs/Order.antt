@@ -12,10 +12,11 @@ use Rattle.walks.specs.declared.Extreme.{Extreme}
 use Rattle.walks.specs.declared.Extreme.the-variants.{Greatest, Least}
 use Rattle.cells.specs.Cells.{ahead}
 
+-- anything, of tests that contradict each other
 pub never : {A : Type 0} → _≡_ {A = Bool} false true → A
 never e = let z : _≡_ {A = ℕ} 0 1 = cc in let q : ⊥ = omega arith in absurd q
 
--- better is: the other is not at least as good
+-- less is: the other is not at most that
 pub less-is : (x y : ℕ) → ltb x y ≡ not (leb y x)
 less-is x y = go (ltb x y) refl
   where
@@ -23,6 +24,7 @@ less-is x y = go (ltb x y) refl
     go true e = rw (lt-leb y x (ltb-true x y e))
     go false e = rw (le-leb y x (ltb-false x y e))
 
+-- better is: the other is not at least as good
 pub ahead-is : (k : Extreme) (x y : ℕ) → ahead k x y ≡ not (good? k y x)
 ahead-is Least x y = less-is x y
 ahead-is Greatest x y = less-is y x
@@ -31,6 +33,7 @@ good-refl : (k : Extreme) (x : ℕ) → good? k x x ≡ true
 good-refl Least x = le-leb x x (omega arith)
 good-refl Greatest x = le-leb x x (omega arith)
 
+-- nothing is better than itself
 pub ahead-self : (k : Extreme) (x : ℕ) → ahead k x x ≡ false
 ahead-self k x = rw (ahead-is k x x, good-refl k x)
 
@@ -39,6 +42,7 @@ good-step : (k : Extreme) (x z y : ℕ) → good? k x z ≡ false → good? k x 
 good-step Least x z y e f = let a = leb-false x z e in let b = leb-true x y f in (ne-eqb z y (λ q. omega arith), le-leb z y (omega arith))
 good-step Greatest x z y e f = let a = leb-false z x e in let b = leb-true y x f in (ne-eqb z y (λ q. omega arith), le-leb y z (omega arith))
 
+-- equality as a test goes both ways
 pub eqb-swap : (x y : ℕ) → eqb x y ≡ eqb y x
 eqb-swap x y = go (eqb y x) refl
   where

@@ -12,6 +12,7 @@ use Rattle.walks.specs.Meaning.{value}
 use Rattle.walks.specs.Rounds.{State, best, brings, extend-all, gather, initial, precedes, through}
 use Rattle.walks.specs.Walks.{Edge, Network}
 
+-- keys or figures with the last one again, up to three; of figures, where there are any
 abbrev pub pad : List ℕ → List ℕ
 pad [] = []
 pad (x ∷ []) = x ∷ x ∷ x ∷ []
@@ -22,7 +23,7 @@ abbrev pub padded : Option (List ℕ) → Option (List ℕ)
 padded none = none
 padded (some xs) = some (pad xs)
 
--- one to three keys; figures for each key
+-- one to three keys
 abbrev pub Few : List ℕ → Type 0
 Few [] = ⊥
 Few (x ∷ []) = Unit {0}
@@ -30,6 +31,7 @@ Few (x ∷ (y ∷ [])) = Unit {0}
 Few (x ∷ (y ∷ (z ∷ []))) = Unit {0}
 Few (x ∷ (y ∷ (z ∷ (t ∷ l)))) = ⊥
 
+-- a figure for each key
 abbrev pub Sized : List ℕ → Option (List ℕ) → Type 0
 Sized ks none = Unit {0}
 Sized ks (some xs) = length xs ≡ length ks
@@ -51,7 +53,7 @@ three : (xs : List ℕ) → length xs ≡ 3 → xs ≡ getD xs 0 0 ∷ getD xs 1
 three [] e = absurd (omega arith)
 three (x ∷ xs) e = ap (λ (l : List ℕ). x ∷ l) (two xs (omega arith))
 
--- the order
+-- the order of padded figures is that of the figures
 twice : (b g : Bool) → cond b (cond b true g) g ≡ cond b true g
 twice true g = refl
 twice false g = refl
@@ -60,7 +62,7 @@ thrice : (b g : Bool) → cond b (cond b (cond b true g) g) g ≡ cond b true g
 thrice true g = refl
 thrice false g = refl
 
-pub precedes-pad : (ks xs ys : List ℕ) → Few ks → length xs ≡ length ks → length ys ≡ length ks → precedes (pad ks) (pad xs) (pad ys) ≡ precedes ks xs ys
+precedes-pad : (ks xs ys : List ℕ) → Few ks → length xs ≡ length ks → length ys ≡ length ks → precedes (pad ks) (pad xs) (pad ys) ≡ precedes ks xs ys
 precedes-pad [] xs ys f e g = absurd f
 precedes-pad (k ∷ []) xs ys f e g = rw (one xs e, one ys g) (thrice (eqb (getD xs 0 0) (getD ys 0 0)) (good? (kept k) (getD xs 0 0) (getD ys 0 0)))
 precedes-pad (k ∷ (j ∷ [])) xs ys f e g =
@@ -70,7 +72,8 @@ precedes-pad (k ∷ (j ∷ [])) xs ys f e g =
 precedes-pad (k ∷ (j ∷ (i ∷ []))) xs ys f e g = rw (three xs e, three ys g)
 precedes-pad (k ∷ (j ∷ (i ∷ (h ∷ ks)))) xs ys f e g = absurd f
 
-pub best-pad : (ks : List ℕ) → Few ks → (a b : Option (List ℕ)) → Sized ks a → Sized ks b → padded (best ks a b) ≡ best (pad ks) (padded a) (padded b)
+-- and so is the better of two
+best-pad : (ks : List ℕ) → Few ks → (a b : Option (List ℕ)) → Sized ks a → Sized ks b → padded (best ks a b) ≡ best (pad ks) (padded a) (padded b)
 unfolding best
 best-pad ks f none b s t = refl
 best-pad ks f (some xs) none s t = refl
@@ -80,7 +83,7 @@ best-pad ks f (some xs) (some ys) s t = rw (precedes-pad ks xs ys f s t) (go (pr
     go true = refl
     go false = refl
 
-pub best-sized : (ks : List ℕ) (a b : Option (List ℕ)) → Sized ks a → Sized ks b → Sized ks (best ks a b)
+best-sized : (ks : List ℕ) (a b : Option (List ℕ)) → Sized ks a → Sized ks b → Sized ks (best ks a b)
 unfolding best
 best-sized ks none b s t = t
 best-sized ks (some xs) none s t = s
@@ -103,15 +106,15 @@ extend-length [] e xs s = refl
 extend-length (k ∷ ks) e [] s = absurd (omega arith)
 extend-length (k ∷ ks) e (x ∷ xs) s = ap suc (extend-length ks e xs (omega arith))
 
-pub through-pad : (ks : List ℕ) → Few ks → (e : Edge) (o : Option (List ℕ)) → Sized ks o → padded (through ks e o) ≡ through (pad ks) e (padded o)
+through-pad : (ks : List ℕ) → Few ks → (e : Edge) (o : Option (List ℕ)) → Sized ks o → padded (through ks e o) ≡ through (pad ks) e (padded o)
 through-pad ks f e none s = refl
 through-pad ks f e (some xs) s = ap some (extend-pad ks e xs f s)
 
-pub through-sized : (ks : List ℕ) (e : Edge) (o : Option (List ℕ)) → Sized ks o → Sized ks (through ks e o)
+through-sized : (ks : List ℕ) (e : Edge) (o : Option (List ℕ)) → Sized ks o → Sized ks (through ks e o)
 through-sized ks e none s = tt
 through-sized ks e (some xs) s = extend-length ks e xs s
 
--- start values
+-- initial values
 pub initial-pad : (b : Bool) (ks : List ℕ) → Few ks → (v : ℕ) → padded (initial b ks v) ≡ initial b (pad ks) v
 initial-pad false ks f v = refl
 initial-pad true [] f v = absurd f
@@ -134,6 +137,7 @@ pad-same (k ∷ (j ∷ [])) xs ys f e g p = two xs e ∙ heads (rw (two xs e, tw
 pad-same (k ∷ (j ∷ (i ∷ []))) xs ys f e g p = three xs e ∙ (rw (three xs e, three ys g) at p) ∙ sym (three ys g)
 pad-same (k ∷ (j ∷ (i ∷ (h ∷ ks)))) xs ys f e g p = absurd f
 
+-- THE SAME PADDED, THE SAME
 pub padded-same : (ks : List ℕ) → Few ks → (a b : Option (List ℕ)) → Sized ks a → Sized ks b → padded a ≡ padded b → a ≡ b
 padded-same ks f none none s t p = refl
 padded-same ks f none (some ys) s t p = absurd (let z : _≡_ {A = ℕ} 0 1 = cc in omega arith)
@@ -159,11 +163,12 @@ module _ (N : Network) (ks : List ℕ) (f : Few ks) (live : ℕ → Bool) (S : S
   brings-sized true e = through-sized ks e (S (e .from)) (sized (e .from))
   brings-sized false e = tt
 
-  pub gather-sized : (v i : ℕ) → Sized ks (gather N ks live S v i)
+  gather-sized : (v i : ℕ) → Sized ks (gather N ks live S v i)
   unfolding gather
   gather-sized v zero = sized v
   gather-sized v (suc i) = best-sized ks (gather N ks live S v i) _ (gather-sized v i) (brings-sized (live i && eqb (N .edge i .to) v) (N .edge i))
 
+  -- WHAT IS GATHERED WITH PADDED KEYS IS WHAT IS GATHERED, PADDED
   pub gather-pad : (v i : ℕ) → padded (gather N ks live S v i) ≡ gather N (pad ks) live (λ u. padded (S u)) v i
   unfolding gather
   gather-pad v zero = refl

@@ -8,6 +8,7 @@ use lib.ListN.{length, getD, take, drop, length-append, length-take, length-drop
 use lib.Seq.{drop-at, drop-drop, getD-drop, getD-take, length-take-le, take-at, take-take}
 use Rattle.rounds.specs.Run.{part, width, with-part}
 
+-- numbers of a list that lie in its front, and those that lie behind it
 prefix : (m n a : ℕ) (l : List ℕ) → m + n ≤ a → take n (drop m (take a l)) ≡ take n (drop m l)
 prefix zero n a l h = take-take n a l (omega arith)
 prefix (suc m) n zero l h = absurd (let z : ⊥ = omega arith in z)
@@ -18,6 +19,7 @@ suffix : (m e : ℕ) (l : List ℕ) → e ≤ m → drop m l ≡ drop (m - e) (d
 suffix m e l h = ap (λ (n : ℕ). drop n l) (let q : m ≡ e + (m - e) = omega arith in q) ∙ sym (drop-drop (m - e) e l)
 
 module _ (s l : List ℕ) (j : ℕ) (h : j < 8) (room : width s ≤ 1024) (long : length l ≡ 8192) where
+  -- a part has four numbers for each vertex, and they are the table's from 1,024 * j on
   pub part-length : length (part s j l) ≡ width s
   unfolding part
   part-length = simp (length-take, length-drop) (omega arith)
@@ -30,10 +32,12 @@ module _ (s l : List ℕ) (j : ℕ) (h : j < 8) (room : width s ≤ 1024) (long 
     front : length (take (1024 * j) l) ≡ 1024 * j
     front = length-take-le (1024 * j) l (omega arith)
 
+    -- with another part the table keeps its length
     pub with-length : length (with-part s j l p) ≡ 8192
     unfolding with-part
     with-length = simp (length-append, length-drop) (omega (arith, front))
 
+    -- the part put back is there
     pub part-here : part s j (with-part s j l p) ≡ p
     unfolding part with-part
     part-here =
@@ -51,6 +55,7 @@ module _ (s l : List ℕ) (j : ℕ) (h : j < 8) (room : width s ≤ 1024) (long 
         ∙ drop-at (take (1024 * j) l ++ p) (drop (1024 * j + width s) l) (1024 * j + width s)
         (length-append (take (1024 * j) l) p ∙ omega (arith, front))
 
+    -- and the others are as they were
     pub part-other : (i : ℕ) → (i ≡ j → ⊥) → part s i (with-part s j l p) ≡ part s i l
     unfolding part
     part-other i n = go (decLt i j)

@@ -28,16 +28,18 @@ use Rattle.graph.specs.Graph.{edge-in, graph-code, graph-of}
 use Rattle.graph.proofs.Exact.{read-sound}
 use Rattle.graph.proofs.Rows.{edge-there, edges-count}
 use Rattle.term_text.specs.Text.{path-number}
+use Rattle.cells.proofs.Rows.{ends}
 use Rattle.cells.specs.Cells.{key1, key2, key3, keys-of, relaxed-upto, taken-upto}
 use Rattle.rounds.specs.Run.{since-of}
 use Rattle.rounds_laws.specs.Cells.{figures-at, numbers-at, stamp-at}
 use Rattle.rounds_laws.proofs.Cells.{absent, present, rows3}
-use Rattle.rounds_laws.proofs.Edges.{G, Live, Mark, Setting, holds, long-after, marks, moved, still}
+use Rattle.rounds_laws.proofs.Edges.{Gathered, Live, Mark, Setting, holds, long-upto, marks, moved, still}
 use Rattle.rounds_laws.proofs.Pad.{Few, Sized, gather-pad, pad, padded, padded-same}
 use Rattle.rounds_laws.proofs.Words.{few-keys, word-keys, word-rows}
 
 -- ---- tests
 
+-- a test that holds is true, and one that does not is false
 pub T-true : (b : Bool) → T b → b ≡ true
 T-true true t = refl
 T-true false t = absurd t
@@ -46,6 +48,7 @@ pub not-T : (b : Bool) → (T b → ⊥) → b ≡ false
 not-T true f = absurd (f tt)
 not-T false f = refl
 
+-- what holds of figures holds of padded ones
 all-pad : (P : ℕ → Type 0) (xs : List ℕ) → All P xs → All P (pad xs)
 all-pad P [] h = tt
 all-pad P (x ∷ []) h = (h .0, (h .0, (h .0, tt)))
@@ -79,8 +82,9 @@ gather-reached N ks live S v (suc i) f =
     let e = brings-reached ks (N .edge i) S (eqb (N .edge i .to) v) (live i) (f i (omega arith)) in
     rw (h, e)
 
--- ---- a path reduction on an accepted map
+-- ---- a path reduction on an accepted graph
 
+-- the graph's bytes are accepted, and the path reduction is legal on it
 pub record Given (s : List ℕ) (c : PathReduction) : Type 0 where
   pub bytes : Bytes s
   pub accepted : graph-code s ≡ 0
@@ -107,6 +111,7 @@ module _ (s : List ℕ) (c : PathReduction) where
     legal : GraphLegal (graph-of s)
     legal = read-sound s (g .bytes) (g .accepted) .0
 
+    -- its network is one of the theory, its keys are in order, one to three, and it has a figure for each
     pub path-network : Fits (network-of (graph-of s) c)
     path-network = network-fits (graph-of s) (legal .fits) c (g .fits)
 
@@ -125,9 +130,6 @@ module _ (s : List ℕ) (c : PathReduction) where
 
     edge-is : (i : ℕ) → i < m → N .edge i ≡ edge-in s i
     edge-is i h = edge-there s i h
-
-    ends : (i : ℕ) → i < m → (edge-in s i .from < n) × (edge-in s i .to < n)
-    ends i h = rw (edge-there s i h) at (legal .fits .ends-fit i (omega (arith, edges-count s)))
 
     light : (i : ℕ) → i < m → edge-in s i .weight ≤ 65535
     light i h = rw (edge-there s i h) at (legal .weights i (omega (arith, edges-count s)))
@@ -168,7 +170,7 @@ module _ (s : List ℕ) (c : PathReduction) where
       setting : Setting N s n m since (r + 2) l
       setting = record {
         edge-is = edge-is;
-        ends = ends;
+        ends = ends s (g .bytes) (g .accepted);
         light = light;
         room = room r h l w;
         long = w .long;
@@ -198,29 +200,26 @@ module _ (s : List ℕ) (c : PathReduction) where
           ∙ pull-steps N (c .keys) path-network r (pull (graph-of s) c r) (λ u k. refl) v k
         where
           there : (u : ℕ) → u < n → (b : Bool) → leb 1 (stamp-at l u) ≡ b → b ≡ reached (pull (graph-of s) c r u)
-          there u k true p = sym (sym (reached-padded (pull (graph-of s) c r u)) ∙ ap reached (sym (w .figures u k) ∙ present l u (leb-yes p)))
-            where
-              leb-yes : leb 1 (stamp-at l u) ≡ true → 1 ≤ stamp-at l u
-              leb-yes p = leb-true 1 (stamp-at l u) p
+          there u k true p = sym (sym (reached-padded (pull (graph-of s) c r u)) ∙ ap reached (sym (w .figures u k) ∙ present l u (leb-true 1 (stamp-at l u) p)))
           there u k false p =
               sym (sym (reached-padded (pull (graph-of s) c r u)) ∙ ap reached (sym (w .figures u k) ∙ absent l u (let q = leb-false 1 (stamp-at l u) p in let z : stamp-at l u ≡ 0 = omega arith in z)))
 
           reaches : (i : ℕ) → i < m → leb 1 (stamp-at l (N .edge i .from)) ≡ reached (pull (graph-of s) c r (N .edge i .from))
           reaches i k = there (N .edge i .from) (path-network .from-fits i (omega (arith, edges-count s)) tt) (leb 1 (stamp-at l (N .edge i .from))) refl
 
-      next : (v : ℕ) → v < n → G N s n m since (r + 2) l k1 k2 k3 v m ≡ padded (pull (graph-of s) c (suc r) v)
+      next : (v : ℕ) → v < n → Gathered N s n m since (r + 2) l k1 k2 k3 v m ≡ padded (pull (graph-of s) c (suc r) v)
       next v k =
           ap (λ (ks : List ℕ). gather N ks (Live N s n m since (r + 2) l k1 k2 k3) (figures-at l) v m) (word-keys c (g .fits .0))
           ∙ gather-same N (pad (c .keys)) (Live N s n m since (r + 2) l k1 k2 k3) (figures-at l) (λ u. padded (pull (graph-of s) c r u)) (w .figures) v k m from-fits
           ∙ sym (gather-pad N (c .keys) path-few (Live N s n m since (r + 2) l k1 k2 k3) (pull (graph-of s) c r) (path-sized r) v m)
           ∙ ap padded (theory push refl v k)
 
-      same-again : (v : ℕ) → v < n → G N s n m since (r + 2) l k1 k2 k3 v m ≡ figures-at l v → pull (graph-of s) c (suc r) v ≡ pull (graph-of s) c r v
+      same-again : (v : ℕ) → v < n → Gathered N s n m since (r + 2) l k1 k2 k3 v m ≡ figures-at l v → pull (graph-of s) c (suc r) v ≡ pull (graph-of s) c r v
       same-again v k e =
           padded-same (c .keys) path-few (pull (graph-of s) c (suc r) v) (pull (graph-of s) c r v) (path-sized (suc r) v) (path-sized r v)
           (sym (next v k) ∙ e ∙ w .figures v k)
 
-      differs : (v : ℕ) → v < n → (G N s n m since (r + 2) l k1 k2 k3 v m ≡ figures-at l v → ⊥) → pull (graph-of s) c (suc r) v ≡ pull (graph-of s) c r v → ⊥
+      differs : (v : ℕ) → v < n → (Gathered N s n m since (r + 2) l k1 k2 k3 v m ≡ figures-at l v → ⊥) → pull (graph-of s) c (suc r) v ≡ pull (graph-of s) c r v → ⊥
       differs v k d e = d (next v k ∙ ap padded e ∙ sym (w .figures v k))
 
       abbrev After : List ℕ
@@ -235,7 +234,7 @@ module _ (s : List ℕ) (c : PathReduction) where
       shows-after : Shows s c (suc r) After
       unfolding fresh
       shows-after = record {
-        long = long-after N s n m since (r + 2) l k1 k2 k3 setting m;
+        long = long-upto N s n m since (r + 2) l k1 k2 k3 setting m;
         figures = λ v k. holds N s n m since (r + 2) l k1 k2 k3 setting m (omega arith) v k ∙ next v k;
         low = λ v k. low v k (mark v k);
         recent = λ v k. recent v k (mark v k);
@@ -270,9 +269,10 @@ module _ (s : List ℕ) (c : PathReduction) where
               sym (ap not (T-true (unchanged (pull (graph-of s) c) r n) (unchanged-of (pull (graph-of s) c) r n
               (λ v k. same-again v k (sym (holds N s n m since (r + 2) l k1 k2 k3 setting m (omega arith) v k) ∙ ap (λ (t : List ℕ). figures-at t v) same-table)))))
 
-      -- A ROUND IN CODE, BY PULL AND BY PUSH: the part shows the next state, and the code says whether a vertex changed
+      -- A ROUND IN CODE, BY PULL AND BY PUSH: the part shows the next state
       pub round-shows : Shows s c (suc r) (relaxed-upto (keys-of (path-number c)) s (since-of push r) (r + 2) l (at16 s 7))
       round-shows = rw (word-rows c (g .fits .0)) shows-after
 
+      -- and the code says whether a vertex changed
       pub round-says : taken-upto (keys-of (path-number c)) s (since-of push r) (r + 2) l (at16 s 7) ≡ not (unchanged (pull (graph-of s) c) r (at16 s 5))
       round-says = rw (word-rows c (g .fits .0)) changed-says

@@ -31,8 +31,9 @@ pub record Held (s : List ℕ) (c : PathReduction) (r flag : ℕ) (l : List ℕ)
   pub awake : (flag ≡ 1 → ⊥) → Shows s c r l
   pub rests : flag ≡ 1 → T (unchanged (pull (graph-of s) c) r (at16 s 5))
 
-pub held-start : (s : List ℕ) (c : PathReduction) (flag : ℕ) (l : List ℕ) → (flag ≡ 1 → ⊥) → Shows s c 0 l → Held s c 0 flag l
-held-start s c flag l n w = record { figures = w .figures; awake = λ m. w; rests = λ e. absurd (n e) }
+-- before any round it is awake
+pub held-initial : (s : List ℕ) (c : PathReduction) (flag : ℕ) (l : List ℕ) → (flag ≡ 1 → ⊥) → Shows s c 0 l → Held s c 0 flag l
+held-initial s c flag l n w = record { figures = w .figures; awake = λ m. w; rests = λ e. absurd (n e) }
 
 module _ (push : Bool) (s : List ℕ) (c : PathReduction) (g : Given s c) (r : ℕ) (h : r < 65535) (j : ℕ) (below : j < 8) (rest l : List ℕ)
     (flags : length rest ≡ 8) (long : length l ≡ 8192) (held : Held s c r (getD rest j 0) (part s j l)) where

@@ -6,12 +6,14 @@ use mathlib.Core.Option.{Option, none, some}
 use lib.Dec.{eqb}
 use lib.ListN.{getD}
 
--- of a vertex's four numbers in the table (DECISIONS 34): its stamp, and its figures
+-- the last of a vertex's four numbers in the table (DECISIONS 34), its stamp
 abbrev pub stamp-at : List ℕ → ℕ → ℕ
 stamp-at l v = getD l (4 * v + 3) 0
 
+-- the others, the figures of its three keys
 abbrev pub numbers-at : List ℕ → ℕ → List ℕ
 numbers-at l v = getD l (4 * v) 0 ∷ getD l (4 * v + 1) 0 ∷ getD l (4 * v + 2) 0 ∷ []
 
+-- "A key's figure is .. absent with no walk"
 unfoldable pub figures-at : List ℕ → ℕ → Option (List ℕ)
 figures-at l v = cond (eqb (stamp-at l v) 0) none (some (numbers-at l v))

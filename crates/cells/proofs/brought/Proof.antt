@@ -4,12 +4,6 @@ use borrow.Author.Needs.{needs}
 use Rattle.cells.proofs.brought.Statement.{statement}
 use Rattle.cells.proofs.brought.Tie as tie
 
-mul-extended : tie.Need-mul-extended
-mul-extended c = search needs
-
-shared-slice-read-extended : tie.Need-shared-slice-read-extended
-shared-slice-read-extended c = search needs
-
 extended-requires : tie.Need-extended-requires
 extended-requires c κs = search needs
 
@@ -18,12 +12,6 @@ narrow-requires c κs = search needs
 
 add-extended : tie.Need-add-extended
 add-extended c = search needs
-
-mul-extended-2 : tie.Need-mul-extended-2
-mul-extended-2 c = search needs
-
-shared-slice-read-extended-2 : tie.Need-shared-slice-read-extended-2
-shared-slice-read-extended-2 c = search needs
 
 extended-requires-2 : tie.Need-extended-requires-2
 extended-requires-2 c κs = search needs
@@ -34,12 +22,6 @@ narrow-requires-2 c κs = search needs
 add-extended-2 : tie.Need-add-extended-2
 add-extended-2 c = search needs
 
-mul-extended-3 : tie.Need-mul-extended-3
-mul-extended-3 c = search needs
-
-shared-slice-read-extended-3 : tie.Need-shared-slice-read-extended-3
-shared-slice-read-extended-3 c = search needs
-
 extended-requires-3 : tie.Need-extended-requires-3
 extended-requires-3 c κs = search needs
 
@@ -48,24 +30,18 @@ narrow-requires-3 c κs = search needs
 
 returns : tie.Need-returns
 unfolding through
-returns c = rw (c .narrow3 .ensures, c .before .extended3 .ensures, c .before .before .before .narrow2 .ensures, c .before .before .before .before .extended2 .ensures, c .before .before .before .before .before .before .narrow .ensures, c .before .before .before .before .before .before .before .extended .ensures)
+returns c = rw (c .narrow3 .ensures, c .before .extended3 .ensures, c .before .before .narrow2 .ensures, c .before .before .before .extended2 .ensures, c .before .before .before .before .narrow .ensures, c .before .before .before .before .before .extended .ensures)
 
 pub brought-spec : {M : Type 1} → statement M
 brought-spec =
     tie.close
     (tie.spec
-    mul-extended
-    shared-slice-read-extended
     extended-requires
     narrow-requires
     add-extended
-    mul-extended-2
-    shared-slice-read-extended-2
     extended-requires-2
     narrow-requires-2
     add-extended-2
-    mul-extended-3
-    shared-slice-read-extended-3
     extended-requires-3
     narrow-requires-3
     returns)

@@ -1,11 +1,10 @@
 -- `cells::extended` meets its contract. Assumes nothing.
-use native.Mathlib.Omega.{arith}
 use borrow.Author.Needs.{needs}
 use Rattle.cells.proofs.extended.Statement.{statement}
 use Rattle.cells.proofs.extended.Tie as tie
 
-wide-requires : tie.Need-wide-requires
-wide-requires c κs = search needs
+figure-at-requires : tie.Need-figure-at-requires
+figure-at-requires c κs = search needs
 
 enum-told : tie.Need-enum-told
 enum-told c = search needs
@@ -29,22 +28,22 @@ least-requires : tie.Need-least-requires
 least-requires c κs = search needs
 
 returns : tie.Need-returns
-returns c = rw (c .enum-told .given .1) (omega (arith, c .before .before .wide .ensures .0))
+returns c = rw (c .enum-told .given .1, c .before .before .figure-at .ensures .0)
 
 returns-2 : tie.Need-returns-2
-returns-2 c = rw (c .enum-told2 .given .1) (omega (arith, c .before .before .wide .ensures .0))
+returns-2 c = rw (c .enum-told2 .given .1, c .before .before .figure-at .ensures .0)
 
 returns-3 : tie.Need-returns-3
-returns-3 c = search needs
+returns-3 c = rw (c .enum-told3 .given .1, c .before .before .figure-at .ensures .0)
 
 returns-4 : tie.Need-returns-4
-returns-4 c = rw (c .before .enum-told4 .given .1, c .least .ensures, c .before .before .before .wide .ensures .0)
+returns-4 c = rw (c .before .enum-told4 .given .1, c .least .ensures, c .before .before .before .figure-at .ensures .0)
 
 pub extended-spec : {M : Type 1} → statement M
 extended-spec =
     tie.close
     (tie.spec
-    wide-requires
+    figure-at-requires
     enum-told
     add-result
     enum-told-2

@@ -7,17 +7,17 @@ use Rattle.cells.proofs.path_keys.Tie as tie
 cast-a : tie.Need-cast-a
 cast-a c = search needs
 
-cast-used-key : tie.Need-cast-used-key
-cast-used-key c = search needs
+cast-key-or-before : tie.Need-cast-key-or-before
+cast-key-or-before c = search needs
 
-used-key-requires : tie.Need-used-key-requires
-used-key-requires c κs = search needs
+key-or-before-requires : tie.Need-key-or-before-requires
+key-or-before-requires c κs = search needs
 
-cast-used-key-2 : tie.Need-cast-used-key-2
-cast-used-key-2 c = search needs
+cast-key-or-before-2 : tie.Need-cast-key-or-before-2
+cast-key-or-before-2 c = search needs
 
-used-key-requires-2 : tie.Need-used-key-requires-2
-used-key-requires-2 c κs = search needs
+key-or-before-requires-2 : tie.Need-key-or-before-requires-2
+key-or-before-requires-2 c κs = search needs
 
 key-row-requires : tie.Need-key-row-requires
 key-row-requires c κs = search needs
@@ -30,17 +30,17 @@ key-row-requires-3 c κs = search needs
 
 returns : tie.Need-returns
 unfolding keys-of
-returns c = rw (c .key-row3 .ensures, c .before .key-row2 .ensures, c .before .before .key-row .ensures, c .before .before .before .used-key2 .ensures, c .before .before .before .before .used-key .ensures)
+returns c = rw (c .key-row3 .ensures, c .before .key-row2 .ensures, c .before .before .key-row .ensures, c .before .before .before .key-or-before2 .ensures, c .before .before .before .before .key-or-before .ensures)
 
 pub path-keys-spec : {M : Type 1} → statement M
 path-keys-spec =
     tie.close
     (tie.spec
     cast-a
-    cast-used-key
-    used-key-requires
-    cast-used-key-2
-    used-key-requires-2
+    cast-key-or-before
+    key-or-before-requires
+    cast-key-or-before-2
+    key-or-before-requires-2
     key-row-requires
     key-row-requires-2
     key-row-requires-3

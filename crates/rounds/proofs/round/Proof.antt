@@ -2,7 +2,6 @@
 use native.Mathlib.Omega.{arith}
 use Prim.Native.Nat.{_≤_, _-_, _*_}
 use mathlib.Core.Path.{_≡_, sym, refl, _∙_}
-use mathlib.Core.Bool.{_||_}
 use native.Mathlib.Numerals.{add-one}
 use lib.ListN.{length}
 use Rattle.wire.specs.Wire.{at16}
@@ -33,9 +32,6 @@ array-read-word c = omega arith
 turn-requires : tie.Need-turn-requires Inv-loop μ-loop
 turn-requires c κs = let s = c .before .before .before .before .before .before .before .before .before in let l = c .before .before .before .before .loop in (s .pre .0, omega arith, l .inv .1, l .inv .2, l .inv .3)
 
-either-requires : tie.Need-either-requires Inv-loop μ-loop
-either-requires c κs = tt
-
 add-j : tie.Need-add-j Inv-loop μ-loop
 add-j c = omega arith
 
@@ -45,16 +41,15 @@ loop-less c = omega arith
 loop-again : tie.Need-loop-again Inv-loop μ-loop
 unfolding turned-upto
 loop-again c =
-    let l = c .before .before .before .before .before .before .before .before .before .before .before .before .loop in
-    let t = c .before .before .before .before .before .before .before .turn in
-    let e : c .either .result ≡ (l .changed || t .result) = c .either .ensures in (
+    let l = c .before .before .before .before .before .before .before .before .before .before .before .loop in
+    let t = c .before .before .before .before .before .before .turn in (
       omega arith,
       t .kept .1 .1 .1 .1 .1 .0 ∙ l .inv .1,
       t .kept .1 .1 .1 .1 .1 .1 .0 ∙ l .inv .2,
       t .kept .1 .1 .1 .1 .1 .1 .1 .0 ∙ l .inv .3,
       t .ensures .1 ∙ rw (add-one (l .j), l .inv .4, l .inv .5),
       t .ensures .2 ∙ rw (add-one (l .j), l .inv .4, l .inv .5),
-      e ∙ rw (add-one (l .j), t .ensures .0, l .inv .4, l .inv .5, l .inv .6),
+      rw (add-one (l .j), t .ensures .0, l .inv .4, l .inv .5, l .inv .6),
     )
 
 same-length : tie.Need-same-length Inv-loop μ-loop
@@ -82,7 +77,6 @@ round-spec =
     mul-word
     array-read-word
     turn-requires
-    either-requires
     add-j
     loop-less
     loop-again

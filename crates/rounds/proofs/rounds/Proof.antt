@@ -29,49 +29,54 @@ loop-holds c =
 least-stamp-requires : tie.Need-least-stamp-requires Inv-loop μ-loop
 least-stamp-requires c κs = tt
 
-stamp-of-requires : tie.Need-stamp-of-requires Inv-loop μ-loop
-stamp-of-requires c κs = tt
+cast-stamp : tie.Need-cast-stamp Inv-loop μ-loop
+cast-stamp c = omega arith
+
+add-stamp : tie.Need-add-stamp Inv-loop μ-loop
+add-stamp c = omega arith
 
 round-requires : tie.Need-round-requires Inv-loop μ-loop
-round-requires c κs = let s = c .before .before .before .before .before .before .before .before .before .before .before in let l = c .before .before .before .before .before .before .loop in (s .pre .0, s .pre .1, l .inv .1, l .inv .2, l .inv .3)
+round-requires c κs = let s = c .before .before .before .before .before .before .before .before .before .before in let l = c .before .before .before .before .before .loop in (s .pre .0, s .pre .1, l .inv .1, l .inv .2, l .inv .3)
 
 add-r : tie.Need-add-r Inv-loop μ-loop
 add-r c = omega arith
 
 same-length : tie.Need-same-length Inv-loop μ-loop
-same-length c = let t = c .before .before .before .before .before .before .before .round in t .kept .1 .1 .1 .1 .1 .0 ∙ c .before .before .before .before .before .before .before .before .before .before .before .before .before .before .loop .inv .1 ∙ sym (c .before .before .before .before .before .before .before .before .before .before .before .before .before .before .before .before .before .before .before .pre .2)
+same-length c = c .before .before .before .before .before .before .before .round .kept .1 .1 .1 .1 .1 .0 ∙ c .before .before .before .before .before .before .before .before .before .before .before .before .before .loop .inv .1 ∙ sym (c .before .before .before .before .before .before .before .before .before .before .before .before .before .before .before .before .before .before .pre .2)
 
 same-length-2 : tie.Need-same-length-2 Inv-loop μ-loop
-same-length-2 c = let t = c .before .before .before .before .before .before .before .round in t .kept .1 .1 .1 .1 .1 .1 .0 ∙ c .before .before .before .before .before .before .before .before .before .before .before .before .before .before .loop .inv .2 ∙ sym (c .before .before .before .before .before .before .before .before .before .before .before .before .before .before .before .before .before .before .before .pre .3)
+same-length-2 c = c .before .before .before .before .before .before .before .round .kept .1 .1 .1 .1 .1 .1 .0 ∙ c .before .before .before .before .before .before .before .before .before .before .before .before .before .loop .inv .2 ∙ sym (c .before .before .before .before .before .before .before .before .before .before .before .before .before .before .before .before .before .before .pre .3)
 
 same-length-3 : tie.Need-same-length-3 Inv-loop μ-loop
-same-length-3 c = let t = c .before .before .before .before .before .before .before .round in t .kept .1 .1 .1 .1 .1 .1 .1 .0 ∙ c .before .before .before .before .before .before .before .before .before .before .before .before .before .before .loop .inv .3 ∙ sym (c .before .before .before .before .before .before .before .before .before .before .before .before .before .before .before .before .before .before .before .pre .4)
+same-length-3 c = c .before .before .before .before .before .before .before .round .kept .1 .1 .1 .1 .1 .1 .1 .0 ∙ c .before .before .before .before .before .before .before .before .before .before .before .before .before .loop .inv .3 ∙ sym (c .before .before .before .before .before .before .before .before .before .before .before .before .before .before .before .before .before .before .pre .4)
 
 returns : tie.Need-returns Inv-loop μ-loop
 returns c =
-    let a = c .before .before .before .before .before .before .before .before .before .before .before .before .before .before .before .before .before .before .before .args in
-    let l = c .before .before .before .before .before .before .before .before .before .before .before .before .before .before .loop in
+    let a = c .before .before .before .before .before .before .before .before .before .before .before .before .before .before .before .before .before .before .args in
+    let l = c .before .before .before .before .before .before .before .before .before .before .before .before .before .loop in
     let t = c .before .before .before .before .before .before .before .round in
+    let since = c .before .before .before .before .before .before .before .before .before .before .before .least-stamp .ensures .0 in
     let q : round-after (a .push) (a .graph .now) (a .paths) (a .table) (l .r) (l .rest) (l .figures) .changed ≡ false =
-    sym (t .ensures .0 ∙ rw (c .before .before .before .before .before .before .before .before .before .before .before .before .least-stamp .ensures .0, c .before .before .before .before .before .before .before .before .before .before .before .stamp-of .ensures)) ∙ not-true (t .result) (c .if1 .taken) in
+    sym (t .ensures .0 ∙ rw since) ∙ not-true (t .result) (c .if1 .taken) in
     let e = sym (stops (a .push) (a .graph .now) (a .paths) (a .table) (l .r) (a .limit) (l .rest) (l .figures) (omega arith) q) ∙ l .inv .4 in
-    (ap (λ (x : Ran). x .count) e, t .ensures .2 ∙ rw (c .before .before .before .before .before .before .before .before .before .before .before .before .least-stamp .ensures .0, c .before .before .before .before .before .before .before .before .before .before .before .stamp-of .ensures) (ap (λ (x : Ran). x .figures) e))
+    (ap (λ (x : Ran). x .count) e, t .ensures .2 ∙ rw since (ap (λ (x : Ran). x .figures) e))
 
 loop-less : tie.Need-loop-less Inv-loop μ-loop
 loop-less c = omega arith
 
 loop-again : tie.Need-loop-again Inv-loop μ-loop
 loop-again c =
-    let a = c .before .before .before .before .before .before .before .before .before .before .before .before .before .before .before .before .before .before .before .args in
-    let l = c .before .before .before .before .before .before .before .before .before .before .before .before .before .before .loop in
+    let a = c .before .before .before .before .before .before .before .before .before .before .before .before .before .before .before .before .before .before .args in
+    let l = c .before .before .before .before .before .before .before .before .before .before .before .before .before .loop in
     let t = c .before .before .before .before .before .before .before .round in
+    let since = c .before .before .before .before .before .before .before .before .before .before .before .least-stamp .ensures .0 in
     let q : round-after (a .push) (a .graph .now) (a .paths) (a .table) (l .r) (l .rest) (l .figures) .changed ≡ true =
-    sym (t .ensures .0 ∙ rw (c .before .before .before .before .before .before .before .before .before .before .before .before .least-stamp .ensures .0, c .before .before .before .before .before .before .before .before .before .before .before .stamp-of .ensures)) ∙ not-false (t .result) (c .if1 .left) in (
+    sym (t .ensures .0 ∙ rw since) ∙ not-false (t .result) (c .if1 .left) in (
       omega arith,
       t .kept .1 .1 .1 .1 .1 .0 ∙ l .inv .1,
       t .kept .1 .1 .1 .1 .1 .1 .0 ∙ l .inv .2,
       t .kept .1 .1 .1 .1 .1 .1 .1 .0 ∙ l .inv .3,
-      rw (t .ensures .1, t .ensures .2, c .before .before .before .before .before .before .before .before .before .before .before .before .least-stamp .ensures .0, c .before .before .before .before .before .before .before .before .before .before .before .stamp-of .ensures)
+      rw (t .ensures .1, t .ensures .2, since)
           (sym (goes-on (a .push) (a .graph .now) (a .paths) (a .table) (l .r) (a .limit) (l .rest) (l .figures) (omega arith) q) ∙ l .inv .4),
     )
 
@@ -99,7 +104,8 @@ rounds-spec =
     μ-loop
     loop-holds
     least-stamp-requires
-    stamp-of-requires
+    cast-stamp
+    add-stamp
     round-requires
     add-r
     same-length

@@ -15,8 +15,8 @@ vertices-requires c κs = search needs
 mul-w : tie.Need-mul-w
 mul-w c = search needs
 
-start-all-requires : tie.Need-start-all-requires
-start-all-requires c κs = search needs
+initialize-all-requires : tie.Need-initialize-all-requires
+initialize-all-requires c κs = search needs
 
 slice-aggregate-rounds : tie.Need-slice-aggregate-rounds
 slice-aggregate-rounds c = search needs
@@ -32,7 +32,7 @@ rounds-requires c κs =
     let s = c .before .before .before .before .before .before .before .before .before .before in
     let v = c .before .before .before .before .before .before .before .vertices in
     let t : 4 * v .result ≤ 1024 = omega (arith, v .ensures .1) in
-    (s .pre .0, s .pre .1, refl, c .before .before .before .before .before .start-all .kept .1 .1 .1 .0 ∙ s .pre .2, length-take-le (4 * v .result) (replicate 1024 0) t ∙ rw (v .ensures .0))
+    (s .pre .0, s .pre .1, refl, c .before .before .before .before .before .initialize-all .kept .1 .1 .1 .0 ∙ s .pre .2, length-take-le (4 * v .result) (replicate 1024 0) t ∙ rw (v .ensures .0))
 
 same-length : tie.Need-same-length
 same-length c = search needs
@@ -41,7 +41,7 @@ returns : tie.Need-returns
 unfolding ran
 returns c =
     let t = c .before .before .before .before .rounds in
-    let e = c .before .before .before .before .before .before .before .before .before .before .start-all .ensures in
+    let e = c .before .before .before .before .before .before .before .before .before .before .initialize-all .ensures in
     (t .ensures .0 ∙ rw e, t .ensures .1 ∙ rw e)
 
 pub run-spec : {M : Type 1} → statement M
@@ -50,7 +50,7 @@ run-spec =
     (tie.spec
     vertices-requires
     mul-w
-    start-all-requires
+    initialize-all-requires
     slice-aggregate-rounds
     array-borrow-prefix-buffer
     slice-aggregate-rounds-2

@@ -1,16 +1,16 @@
--- `cells::start` meets its contract: the first v vertices have their start values. Assumes nothing.
+-- `cells::initialize` meets its contract: the first v vertices have their initial values. Assumes nothing.
 use Prim.Native.Nat.{_≤_, _-_, _*_}
 use mathlib.Core.Path.{_≡_, sym, refl, _∙_, ap}
 use native.Mathlib.Numerals.{add-one}
 use lib.ListN.{length}
 use lib.Seq.{length-sets}
-use Rattle.cells.specs.Cells.{keys-of, numbers, source-of, started}
+use Rattle.cells.specs.Cells.{keys-of, numbers, source-of, initialized}
 use native.Mathlib.Omega.{arith}
-use Rattle.cells.proofs.start.Statement.{statement}
-use Rattle.cells.proofs.start.Tie as tie
+use Rattle.cells.proofs.initialize.Statement.{statement}
+use Rattle.cells.proofs.initialize.Tie as tie
 
 abbrev Inv-loop : tie.InvT-loop
-Inv-loop word n part₀ keys source v₀ part v = (v ≤ n) × (length part ≡ 4 * n) × (part ≡ started (keys-of word) (source-of word) part₀ v)
+Inv-loop word n part₀ keys source v₀ part v = (v ≤ n) × (length part ≡ 4 * n) × (part ≡ initialized (keys-of word) (source-of word) part₀ v)
 
 abbrev μ-loop : tie.MeasureT-loop
 μ-loop word n part₀ keys source v₀ part v = n - v
@@ -19,14 +19,14 @@ path-keys-requires : tie.Need-path-keys-requires Inv-loop μ-loop
 path-keys-requires c κs = tt
 
 loop-holds : tie.Need-loop-holds Inv-loop μ-loop
-unfolding started
+unfolding initialized
 loop-holds c = (omega arith, c .before .before .pre .1, refl)
 
-cast-first-cell : tie.Need-cast-first-cell Inv-loop μ-loop
-cast-first-cell c = omega arith
+cast-initial-cell : tie.Need-cast-initial-cell Inv-loop μ-loop
+cast-initial-cell c = omega arith
 
-first-cell-requires : tie.Need-first-cell-requires Inv-loop μ-loop
-first-cell-requires c κs = tt
+initial-cell-requires : tie.Need-initial-cell-requires Inv-loop μ-loop
+initial-cell-requires c κs = tt
 
 mul-put-cell : tie.Need-mul-put-cell Inv-loop μ-loop
 mul-put-cell c = omega arith
@@ -41,13 +41,13 @@ loop-less : tie.Need-loop-less Inv-loop μ-loop
 loop-less c = omega arith
 
 loop-again : tie.Need-loop-again Inv-loop μ-loop
-unfolding started
+unfolding initialized
 loop-again c =
     let l = c .before .before .before .before .before .before .loop in
     let e = c .before .before .put-cell .ensures in (
       omega arith,
-      ap length e ∙ length-sets (l .part) (4 * l .v) (numbers (c .before .before .before .before .first-cell .result)) ∙ l .inv .1,
-      e ∙ rw (add-one (l .v), c .before .before .before .before .first-cell .ensures, c .before .before .before .before .before .before .before .path-keys .ensures, l .inv .2),
+      ap length e ∙ length-sets (l .part) (4 * l .v) (numbers (c .before .before .before .before .initial-cell .result)) ∙ l .inv .1,
+      e ∙ rw (add-one (l .v), c .before .before .before .before .initial-cell .ensures, c .before .before .before .before .before .before .before .path-keys .ensures, l .inv .2),
     )
 
 same-length : tie.Need-same-length Inv-loop μ-loop
@@ -56,16 +56,16 @@ same-length c = c .before .loop .inv .1 ∙ sym (c .before .before .before .befo
 returns : tie.Need-returns Inv-loop μ-loop
 returns c = let e : c .before .loop .v ≡ c .before .before .before .before .args .n = omega arith in rw (← e) (c .before .loop .inv .2)
 
-pub start-spec : {M : Type 1} → statement M
-start-spec =
+pub initialize-spec : {M : Type 1} → statement M
+initialize-spec =
     tie.close
     (tie.spec
     Inv-loop
     μ-loop
     path-keys-requires
     loop-holds
-    cast-first-cell
-    first-cell-requires
+    cast-initial-cell
+    initial-cell-requires
     mul-put-cell
     put-cell-requires
     add-v

@@ -1,4 +1,4 @@
--- Start values in code are the state before any round. Assumes nothing.
+-- Initial values in code are the state before any round ("start values are round 0"). Assumes nothing.
 use Prim.Native.Nat.{ℕ, zero, suc, _*_, _≤_, _<_}
 use mathlib.Core.Path.{_≡_, refl, sym, ap, _∙_, subst}
 use mathlib.Core.Bool.{Bool, true, false, cond}
@@ -20,7 +20,7 @@ use Rattle.meaning.specs.Run.{pull}
 use Rattle.wire.specs.Wire.{at16}
 use Rattle.graph.specs.Graph.{graph-of}
 use Rattle.term_text.specs.Text.{path-number}
-use Rattle.cells.specs.Cells.{key1, key2, key3, keys-of, numbers, source-of, start-cell, started, starts-here}
+use Rattle.cells.specs.Cells.{key1, key2, key3, keys-of, numbers, source-of, initial-cell, initialized, starts-here}
 use Rattle.cells.specs.declared.Cell.{Cell}
 use Rattle.cells.specs.declared.PathKeys.{PathKeys}
 use Rattle.rounds_laws.specs.Cells.{figures-at, stamp-at}
@@ -33,37 +33,37 @@ use Rattle.rounds_laws.proofs.Words.{word-keys, word-rows, word-source}
 abbrev cell-figures : Cell → Option (List ℕ)
 cell-figures c = cond (eqb (c .stamp) 0) none (some (c .first ∷ c .second ∷ c .third ∷ []))
 
--- each vertex passed has its start cell
+-- each vertex passed has its initial cell
 module _ (P : PathKeys) (source : ℕ) (l : List ℕ) (n : ℕ) (long : length l ≡ 4 * n) where
-  started-long : (i : ℕ) → length (started P source l i) ≡ 4 * n
-  unfolding started
-  started-long zero = long
-  started-long (suc i) = length-sets (started P source l i) (4 * i) (numbers (start-cell P source i)) ∙ started-long i
+  initialized-long : (i : ℕ) → length (initialized P source l i) ≡ 4 * n
+  unfolding initialized
+  initialized-long zero = long
+  initialized-long (suc i) = length-sets (initialized P source l i) (4 * i) (numbers (initial-cell P source i)) ∙ initialized-long i
 
   abbrev Right : ℕ → ℕ → Type 0
-  Right i v = (figures-at (started P source l i) v ≡ cell-figures (start-cell P source v)) × (stamp-at (started P source l i) v ≡ start-cell P source v .stamp)
+  Right i v = (figures-at (initialized P source l i) v ≡ cell-figures (initial-cell P source v)) × (stamp-at (initialized P source l i) v ≡ initial-cell P source v .stamp)
 
-  started-right : (i : ℕ) → i ≤ n → (v : ℕ) → v < i → Right i v
-  unfolding started
-  started-right zero h v k = absurd (not-suc-le-zero k)
-  started-right (suc i) h v k = go (ℕ-discrete v i) (started-right i (omega arith) v)
+  initialized-right : (i : ℕ) → i ≤ n → (v : ℕ) → v < i → Right i v
+  unfolding initialized
+  initialized-right zero h v k = absurd (not-suc-le-zero k)
+  initialized-right (suc i) h v k = go (ℕ-discrete v i) (initialized-right i (omega arith) v)
     where
       go : Dec (v ≡ i) → (v < i → Right i v) → Right (suc i) v
       go (yes e) f =
           subst (Right (suc i)) (sym e) (
-            figures-here (started P source l i) i (start-cell P source i) n (started-long i) (omega arith),
-            stamp-here (started P source l i) i (start-cell P source i) n (started-long i) (omega arith),
+            figures-here (initialized P source l i) i (initial-cell P source i) n (initialized-long i) (omega arith),
+            stamp-here (initialized P source l i) i (initial-cell P source i) n (initialized-long i) (omega arith),
           )
       go (no e) f =
           let b = f (omega arith) in (
-            figures-other (started P source l i) i (start-cell P source i) v e ∙ b .0,
-            put-other (started P source l i) i (start-cell P source i) v 3 e (omega arith) ∙ b .1,
+            figures-other (initialized P source l i) i (initial-cell P source i) v e ∙ b .0,
+            put-other (initialized P source l i) i (initial-cell P source i) v 3 e (omega arith) ∙ b .1,
           )
 
--- a start cell
+-- an initial cell
 module _ (k1 k2 k3 source v : ℕ) where
-  cell-initial : cell-figures (start-cell (rows3 k1 k2 k3) source v) ≡ initial (starts-here source v) (Keys3 k1 k2 k3) v
-  unfolding start-cell
+  cell-initial : cell-figures (initial-cell (rows3 k1 k2 k3) source v) ≡ initial (starts-here source v) (Keys3 k1 k2 k3) v
+  unfolding initial-cell
   cell-initial = go (starts-here source v)
     where
       go : (b : Bool) → cell-figures (cond b
@@ -72,8 +72,8 @@ module _ (k1 k2 k3 source v : ℕ) where
       go true = refl
       go false = refl
 
-  cell-stamp : start-cell (rows3 k1 k2 k3) source v .stamp ≡ cond (starts-here source v) 1 0
-  unfolding start-cell
+  cell-stamp : initial-cell (rows3 k1 k2 k3) source v .stamp ≡ cond (starts-here source v) 1 0
+  unfolding initial-cell
   cell-stamp = go (starts-here source v)
     where
       go : (b : Bool) → cond {A = Cell} b
@@ -97,37 +97,38 @@ stamp-reached : (b : Bool) (ks : List ℕ) (v : ℕ) → leb 1 (cond b 1 0) ≡ 
 stamp-reached true ks v = refl
 stamp-reached false ks v = refl
 
--- THE START VALUES OF A PATH REDUCTION, a source or anywhere
+-- of a path reduction
 module _ (s : List ℕ) (c : PathReduction) (g : Given s c) (l : List ℕ) (long : length l ≡ 4 * at16 s 5) where
   abbrev w : ℕ
   w = path-number c
 
   right : (v : ℕ) → v < at16 s 5 → Right (rows3 (key1 w) (key2 w) (key3 w)) (c .source) l (at16 s 5) long (at16 s 5) v
-  right v h = started-right (rows3 (key1 w) (key2 w) (key3 w)) (c .source) l (at16 s 5) long (at16 s 5) (omega arith) v h
+  right v h = initialized-right (rows3 (key1 w) (key2 w) (key3 w)) (c .source) l (at16 s 5) long (at16 s 5) (omega arith) v h
 
-  start-figures : (v : ℕ) → v < at16 s 5 → figures-at (started (rows3 (key1 w) (key2 w) (key3 w)) (c .source) l (at16 s 5)) v ≡ padded (pull (graph-of s) c 0 v)
+  initial-figures : (v : ℕ) → v < at16 s 5 → figures-at (initialized (rows3 (key1 w) (key2 w) (key3 w)) (c .source) l (at16 s 5)) v ≡ padded (pull (graph-of s) c 0 v)
   unfolding state
-  start-figures v h =
+  initial-figures v h =
       right v h .0
       ∙ cell-initial (key1 w) (key2 w) (key3 w) (c .source) v
       ∙ ap (λ (b : Bool). initial b (Keys3 (key1 w) (key2 w) (key3 w)) v) (starts-is (at16 s 5) (c .source) v h)
       ∙ ap (λ (ks : List ℕ). initial (starts (at16 s 5) (c .source) v) ks v) (word-keys c (g .fits .0))
       ∙ sym (initial-pad (starts (at16 s 5) (c .source) v) (c .keys) (path-few s c g) v)
 
-  start-stamp : (v : ℕ) → v < at16 s 5 → stamp-at (started (rows3 (key1 w) (key2 w) (key3 w)) (c .source) l (at16 s 5)) v ≡ cond (starts (at16 s 5) (c .source) v) 1 0
-  start-stamp v h =
+  initial-stamp : (v : ℕ) → v < at16 s 5 → stamp-at (initialized (rows3 (key1 w) (key2 w) (key3 w)) (c .source) l (at16 s 5)) v ≡ cond (starts (at16 s 5) (c .source) v) 1 0
+  initial-stamp v h =
       right v h .1
       ∙ cell-stamp (key1 w) (key2 w) (key3 w) (c .source) v
       ∙ ap (λ (b : Bool). cond {A = ℕ} b 1 0) (starts-is (at16 s 5) (c .source) v h)
 
-  here : Shows s c 0 (started (rows3 (key1 w) (key2 w) (key3 w)) (c .source) l (at16 s 5))
+  here : Shows s c 0 (initialized (rows3 (key1 w) (key2 w) (key3 w)) (c .source) l (at16 s 5))
   unfolding fresh state
   here = record {
-    long = started-long (rows3 (key1 w) (key2 w) (key3 w)) (c .source) l (at16 s 5) long (at16 s 5);
-    figures = start-figures;
-    low = λ v h. omega (arith, start-stamp v h, stamp-low (starts (at16 s 5) (c .source) v));
-    recent = λ v h. ap (leb 1) (start-stamp v h) ∙ stamp-reached (starts (at16 s 5) (c .source) v) (c .keys) v;
+    long = initialized-long (rows3 (key1 w) (key2 w) (key3 w)) (c .source) l (at16 s 5) long (at16 s 5);
+    figures = initial-figures;
+    low = λ v h. omega (arith, initial-stamp v h, stamp-low (starts (at16 s 5) (c .source) v));
+    recent = λ v h. ap (leb 1) (initial-stamp v h) ∙ stamp-reached (starts (at16 s 5) (c .source) v) (c .keys) v;
   }
 
-  pub start-shows : Shows s c 0 (started (keys-of (path-number c)) (source-of (path-number c)) l (at16 s 5))
-  start-shows = rw (word-rows c (g .fits .0), word-source c (g .fits .0)) here
+  -- THE INITIAL VALUES OF A PATH REDUCTION, from a source or from anywhere, show the state of round 0
+  pub initial-shows : Shows s c 0 (initialized (keys-of (path-number c)) (source-of (path-number c)) l (at16 s 5))
+  initial-shows = rw (word-rows c (g .fits .0), word-source c (g .fits .0)) here

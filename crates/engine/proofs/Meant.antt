@@ -29,7 +29,7 @@ use Rattle.plan.specs.Text.{encode, kind-of}
 use Rattle.plan.proofs.Exact.{read-complete, read-sound}
 use Rattle.rounds_laws.proofs.Main.{Ready, given-values, quiet-rounds, quiet-values, rounds-way, values-way}
 use Rattle.rounds_laws.specs.Ways.{way}
-use Rattle.rows.specs.Rows.{body-read, final-found, many, row-count, rows-at}
+use Rattle.rows.specs.Rows.{body-read, final-found, many, body-count, rows-at}
 use Rattle.rows.proofs.Exact.{Holds, answer-rows, rows-length}
 use Rattle.term_text.proofs.Table.{Table}
 use Rattle.terms.specs.declared.Progress.{Progress}
@@ -119,7 +119,7 @@ module _ (p : Plan) (legal : PlanLegal 256 p) (m : List ℕ) (bytes : Bytes m) (
 
   -- the rows after r rounds are as many as the kind has
   rows-counted : (r : ℕ) → length (body-rows (p .body) (values-at (pull (graph-of m)) (p .paths) r) (at16 m 5)) ≡ answer.row-count (at16 m 5) (getD (encode p) 5 0)
-  unfolding row-count
+  unfolding body-count
   rows-counted r = rows-length p (G r) n
 
   -- THE ANSWER OF THE DEFINITION IS THE ENCODING OF THE OUTCOME
@@ -177,7 +177,7 @@ module _ (p : Plan) (legal : PlanLegal 256 p) (m : List ℕ) (bytes : Bytes m) (
 
     pub finished-encodes : (given : Bool) (limit room : ℕ) → limit < 65536
         → finished push given limit (encode p) (plan-scan (encode p)) m room ≡ fitted (answer.encode (at16 m 5) (kind-of (p .body)) (outcome (meant given limit) (graph-of m) p)) room
-    unfolding finished stopped row-count
+    unfolding finished stopped body-count
     finished-encodes given limit room h =
         let r = rounds-done (meant given limit) g (p .paths) in
         let o : Outcome = record { count = r; rows = body-rows (p .body) (G r) n } in

@@ -22,7 +22,7 @@ use Rattle.value.specs.Value.{values}
 use Rattle.eval.specs.Body.{body-found, row}
 use Rattle.eval.proofs.Body.{Agrees, body-value, eight-holds}
 use Rattle.rounds.specs.Run.{value-in}
-use Rattle.rows.specs.Rows.{body-read, final-found, many, row-count, rows-at}
+use Rattle.rows.specs.Rows.{body-read, final-found, many, body-count, rows-at}
 
 -- ---- the entry count of a legal plan is not cut
 
@@ -42,6 +42,7 @@ module _ (cs : List PathReduction) (F : ℕ → List Row) (n : ℕ) where
       let uncut : min (getD s at-count 0) 8 ≡ getD s at-count 0 = omega (arith, count, l .0) in
       ap (λ (e : ℕ). row (final-found e s (at-count + 1) F n) ∷ []) uncut
 
+-- the rows read are those of the body
 pub legal-read : (p : Plan) (m : ℕ) → PlanLegal m p → (F : ℕ → List Row) (n : ℕ) → body-read (encode p) F n ≡ body-found (encode p) F n
 legal-read p m legal F n = read-same (p .paths) F n (p .body) (legal .body-legal)
 
@@ -58,7 +59,8 @@ rows-agree n count l G few holds v h i k =
     let b : i < min count 8 = omega arith in
     eight-holds (tabulate (min count 8) zero f) i (omega (arith, tabulate-length (min count 8) zero f)) ∙ tabulate-at (min count 8) i f Absent b ∙ holds v h i k
 
-pub answer-values : (p : Plan) (m : ℕ) → PlanLegal m p → (l : List ℕ) (n : ℕ) (G : ℕ → List Value) → Holds n (length (p .paths)) l G
+-- their values are those of the plan's tree
+answer-values : (p : Plan) (m : ℕ) → PlanLegal m p → (l : List ℕ) (n : ℕ) (G : ℕ → List Value) → Holds n (length (p .paths)) l G
     → values (body-read (encode p) (rows-at l (length (p .paths))) n) ≡ body-rows (p .body) G n
 answer-values p m legal l n G holds =
     let F : ℕ → List Row = rows-at l (length (p .paths)) in
@@ -66,11 +68,12 @@ answer-values p m legal l n G holds =
 
 -- ---- how many rows
 
-pub rows-length : (p : Plan) (G : ℕ → List Value) (n : ℕ) → length (body-rows (p .body) G n) ≡ row-count (encode p) n
-unfolding row-count
+-- as many as `body-count` says
+pub rows-length : (p : Plan) (G : ℕ → List Value) (n : ℕ) → length (body-rows (p .body) G n) ≡ body-count (encode p) n
+unfolding body-count
 rows-length p G n = go (p .body)
   where
-    go : (b : Body) → length (body-rows b G n) ≡ row-count (encode (record { paths = p .paths; body = b })) n
+    go : (b : Body) → length (body-rows b G n) ≡ body-count (encode (record { paths = p .paths; body = b })) n
     go (each-vertex t) = tabulate-length n zero (λ v. evaluate (G v) t)
     go (one-result es t) = refl
 
@@ -80,13 +83,13 @@ front l k h =
     ap (take k) (map-append (λ (r : Row). r .value) l (replicate (256 - length l) (row Absent)))
     ∙ take-at (values l) (values (replicate (256 - length l) (row Absent))) k h
 
--- THE ROWS OF THE ANSWER: what `body_rows` gives, on a map of n vertices
+-- THE ROWS OF THE ANSWER: what `body_rows` gives, on a graph of n vertices
 pub answer-rows : (p : Plan) (m : ℕ) → PlanLegal m p → (l : List ℕ) (n : ℕ) → n ≤ 256 → (G : ℕ → List Value) → Holds n (length (p .paths)) l G
-    → take (row-count (encode p) n) (values (many (body-read (encode p) (rows-at l (length (p .paths))) (min n 256)))) ≡ body-rows (p .body) G n
+    → take (body-count (encode p) n) (values (many (body-read (encode p) (rows-at l (length (p .paths))) (min n 256)))) ≡ body-rows (p .body) G n
 answer-rows p m legal l n few G holds =
     let F : ℕ → List Row = rows-at l (length (p .paths)) in
     let e : min n 256 ≡ n = omega arith in
     let same = answer-values p m legal l n G holds in
-    ap (λ (k : ℕ). take (row-count (encode p) n) (values (many (body-read (encode p) F k)))) e
-    ∙ front (body-read (encode p) F n) (row-count (encode p) n) (ap length same ∙ rows-length p G n)
+    ap (λ (k : ℕ). take (body-count (encode p) n) (values (many (body-read (encode p) F k)))) e
+    ∙ front (body-read (encode p) F n) (body-count (encode p) n) (ap length same ∙ rows-length p G n)
     ∙ same

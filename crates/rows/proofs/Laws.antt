@@ -20,13 +20,14 @@ rows-of : (g : ℕ → Value) (k i : ℕ) → map row (tabulate k i g) ≡ tabul
 rows-of g zero i = refl
 rows-of g (suc k) i = ap (λ (l : List Row). row (g i) ∷ l) (rows-of g k (suc i))
 
-pub eight-filled : (g : ℕ → Value) (k : ℕ) → eight (tabulate k zero g) ≡ filled 8 (λ j. row (g j)) (row Absent) k
+-- arrays of eight and of 256
+eight-filled : (g : ℕ → Value) (k : ℕ) → eight (tabulate k zero g) ≡ filled 8 (λ j. row (g j)) (row Absent) k
 eight-filled g k = ap₂ (λ (l : List Row) (c : ℕ). l ++ replicate (8 - c) (row Absent)) (rows-of g k zero) (tabulate-length k zero g)
 
-pub many-filled : (f : ℕ → Row) (n : ℕ) → many (tabulate n zero f) ≡ filled 256 f (row Absent) n
+many-filled : (f : ℕ → Row) (n : ℕ) → many (tabulate n zero f) ≡ filled 256 f (row Absent) n
 many-filled f n = ap (λ (c : ℕ). tabulate n zero f ++ replicate (256 - c) (row Absent)) (tabulate-length n zero f)
 
--- the values at a vertex
+-- the row of path reduction j at a vertex; all of them
 abbrev pub value-row : List ℕ → ℕ → ℕ → Row
 value-row figures v j = row (value-in figures j v)
 
@@ -34,22 +35,25 @@ pub rows-at-filled : (figures : List ℕ) (paths v : ℕ) → rows-at figures pa
 unfolding rows-at
 rows-at-filled figures paths v = eight-filled (λ j. value-in figures j v) (min paths 8)
 
--- an entry at the vertices
+-- the row of an entry at the vertex v
 abbrev pub entry-row : List ℕ → (ℕ → List Row) → ℕ → ℕ → Row
 entry-row s F at v = row (evaluated 16 s (F v) at .value)
 
 -- where entry k starts, the first at `at`
 module _ (s : List ℕ) where
+  -- the first
   pub end-none : (at : ℕ) → at ≡ entries-end 0 s at
   unfolding entries-end
   end-none at = refl
 
+  -- the next
   pub end-next : (k at : ℕ) → expression-end s (entries-end k s at + 1) ≡ entries-end (suc k) s at
   unfolding entries-end
   end-next zero at = refl
   end-next (suc k) at = end-next k (expression-end s (at + 1))
 
 module _ (s : List ℕ) (F : ℕ → List Row) (n : ℕ) where
+  -- the rows of an entry at all vertices, and the first n of the array
   pub entry-filled : (at : ℕ) → many (entry-rows s at F n) ≡ filled 256 (entry-row s F at) (row Absent) n
   unfolding entry-rows
   entry-filled at = many-filled (entry-row s F at) n
@@ -58,7 +62,7 @@ module _ (s : List ℕ) (F : ℕ → List Row) (n : ℕ) where
   unfolding entry-rows
   entry-taken at = ap (take n) (many-filled (entry-row s F at) n) ∙ fill-front 256 (entry-row s F at) (row Absent) n
 
-  -- the result of the entry at a place, and of entry k
+  -- the result of the entry at a position; the row of entry k
   abbrev pub result-at : ℕ → Value
   result-at at = reduce (getD s at 0) (values (entry-rows s (at + 1) F n))
 
@@ -71,16 +75,18 @@ module _ (s : List ℕ) (F : ℕ → List Row) (n : ℕ) where
   results-from at (suc k) i =
       ap (λ (l : List Value). result-at (entries-end i s at) ∷ l) (ap (λ (c : ℕ). results k s c F n) (end-next s i at) ∙ results-from at k (suc i))
 
+  -- the rows of the results
   pub results-filled : (at k : ℕ) → eight (results k s at F n) ≡ filled 8 (result-row at) (row Absent) k
   results-filled at k =
       ap eight (ap (λ (c : ℕ). results k s c F n) (end-none s at) ∙ results-from at k zero)
       ∙ eight-filled (λ j. result-at (entries-end j s at)) k
 
-  -- the body by its kind
+  -- the body of kind 0
   pub body-each : getD s 5 0 ≡ 0 → body-read s F n ≡ entry-rows s (count-at s + 2) F n
   unfolding body-read
   body-each e = rw (eq-eqb (getD s 5 0) 0 e) refl
 
+  -- the body of kind 1
   pub body-one : (getD s 5 0 ≡ 0 → ⊥) → body-read s F n ≡ row (final-found (min (getD s (count-at s) 0) 8) s (count-at s + 1) F n) ∷ []
   unfolding body-read
   body-one h = rw (ne-eqb (getD s 5 0) 0 h) refl

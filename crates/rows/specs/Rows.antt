@@ -32,5 +32,5 @@ body-read s F n =
     cond (eqb (getD s 5 0) 0) (entry-rows s (at + 2) F n) (row (final-found (min (getD s at 0) 8) s (at + 1) F n) ∷ [])
 
 -- how many of them are rows of the answer: kind 0 has one for each of the n vertices, kind 1 has "one row"
-unfoldable pub row-count : List ℕ → ℕ → ℕ
-row-count s n = cond (eqb (getD s 5 0) 0) n 1
+unfoldable pub body-count : List ℕ → ℕ → ℕ
+body-count s n = cond (eqb (getD s 5 0) 0) n 1

@@ -16,12 +16,7 @@ struct Results {
     end: usize,
 }
 
-fn at_most(n: usize, most: usize) -> usize
-    ensures { λ r. ⌜ r ≡ min n most ⌝ }
-{
-    if n <= most { n } else { most }
-}
-
+// A byte as an index.
 fn wide(b: u8) -> usize
     ensures { λ r. ⌜ (r ≡ b) × (r ≤ 255) ⌝ }
 {
@@ -39,7 +34,7 @@ fn count_at(plan: &[u8]) -> usize
 fn values_at(figures: &[u32], paths: usize, v: usize) -> [Row; 8]
     ensures { λ r. ⌜ r ≡ rows-at (now (figures .entry)) paths v ⌝ }
 {
-    let count = at_most(paths, 8);
+    let count = wire::lesser(paths, 8);
     let absent = Row {
         value: Value::Absent,
     };
@@ -132,11 +127,11 @@ fn single(value: Value) -> [Row; 256]
 pub fn body_rows(plan: &[u8], figures: &[u32], paths: usize, n: usize) -> [Row; 256]
     ensures { λ r. ⌜ r ≡ many (body-read (now (plan .entry)) (rows-at (now (figures .entry)) paths) (min n 256)) ⌝ }
 {
-    let count = at_most(n, 256);
+    let count = wire::lesser(n, 256);
     let at = count_at(plan);
     if wire::byte(plan, 5) == 0 {
         return entry_rows(plan, at + 2, figures, paths, count);
     }
-    let e = at_most(wide(wire::byte(plan, at)), 8);
+    let e = wire::lesser(wide(wire::byte(plan, at)), 8);
     single(final_of(plan, at + 1, figures, paths, count, e))
 }

@@ -12,8 +12,8 @@ use Rattle.rows.proofs.Laws.{body-each, body-one}
 use Rattle.rows.proofs.body_rows.Statement.{statement}
 use Rattle.rows.proofs.body_rows.Tie as tie
 
-at-most-requires : tie.Need-at-most-requires
-at-most-requires c κs = search needs
+lesser-requires : tie.Need-lesser-requires
+lesser-requires c κs = search needs
 
 count-at-requires : tie.Need-count-at-requires
 count-at-requires c κs = search needs
@@ -33,7 +33,7 @@ returns c =
     let plan : List ℕ = a .plan .now in
     let F : ℕ → List Row = rows-at (a .figures .now) (a .paths) in
     let at = c .before .before .before .count-at .ensures .0 in
-    let count = c .before .before .before .before .at-most .ensures in
+    let count = c .before .before .before .before .lesser .ensures .0 in
     let kind = sym (c .before .before .byte .ensures) ∙ c .before .if1 .taken in
     c .entry-rows .ensures
     ∙ ap many (ap₂ (λ (i k : ℕ). entry-rows plan (i + 2) F k) at count ∙ sym (body-each plan F (min (a .n) 256) kind))
@@ -44,8 +44,8 @@ byte-requires-2 c κs = search needs
 wide-requires : tie.Need-wide-requires
 wide-requires c κs = search needs
 
-at-most-requires-2 : tie.Need-at-most-requires-2
-at-most-requires-2 c κs = search needs
+lesser-requires-2 : tie.Need-lesser-requires-2
+lesser-requires-2 c κs = search needs
 
 add-final-of : tie.Need-add-final-of
 add-final-of c = search needs
@@ -62,14 +62,14 @@ returns-2 c =
     let plan : List ℕ = a .plan .now in
     let F : ℕ → List Row = rows-at (a .figures .now) (a .paths) in
     let at = c .before .before .before .before .before .before .before .count-at .ensures .0 in
-    let count = c .before .before .before .before .before .before .before .before .at-most .ensures in
+    let count = c .before .before .before .before .before .before .before .before .lesser .ensures .0 in
     let kind = c .before .before .before .before .before .before .byte .ensures in
     let read = c .before .before .before .wide .ensures .0 ∙ c .before .before .before .before .byte2 .ensures ∙ ap (λ (i : ℕ). getD plan i 0) at in
-    let entries = c .before .before .at-most2 .ensures ∙ ap (λ (k : ℕ). min k 8) read in
+    let entries = c .before .before .lesser2 .ensures .0 ∙ ap (λ (k : ℕ). min k 8) read in
     let e : ℕ = min (getD plan (count-at plan) 0) 8 in
     let final =
     c .before .final-of .ensures
-    ∙ ap (λ (k : ℕ). final-found k plan (c .before .before .before .before .before .before .before .count-at .result + 1) F (c .before .before .before .before .before .before .before .before .at-most .result)) entries
+    ∙ ap (λ (k : ℕ). final-found k plan (c .before .before .before .before .before .before .before .count-at .result + 1) F (c .before .before .before .before .before .before .before .before .lesser .result)) entries
     ∙ ap₂ (λ (i k : ℕ). final-found e plan (i + 1) F k) at count in
     c .single .ensures
     ∙ ap many (ap (λ (v : Value). row v ∷ []) final ∙ sym (body-one plan F (min (a .n) 256) (λ z. c .before .before .before .before .before .if1 .left (kind ∙ z))))
@@ -78,7 +78,7 @@ pub body-rows-spec : {M : Type 1} → statement M
 body-rows-spec =
     tie.close
     (tie.spec
-    at-most-requires
+    lesser-requires
     count-at-requires
     byte-requires
     add-entry-rows
@@ -86,7 +86,7 @@ body-rows-spec =
     returns
     byte-requires-2
     wide-requires
-    at-most-requires-2
+    lesser-requires-2
     add-final-of
     final-of-requires
     single-requires

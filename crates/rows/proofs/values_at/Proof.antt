@@ -20,8 +20,8 @@ Inv-loop figures paths v count rows₀ j₀ rows j = (j ≤ count) × (rows ≡ 
 abbrev μ-loop : tie.MeasureT-loop
 μ-loop figures paths v count rows₀ j₀ rows j = count - j
 
-at-most-requires : tie.Need-at-most-requires Inv-loop μ-loop
-at-most-requires c κs = search needs
+lesser-requires : tie.Need-lesser-requires Inv-loop μ-loop
+lesser-requires c κs = search needs
 
 loop-holds : tie.Need-loop-holds Inv-loop μ-loop
 loop-holds c = let a = c .before .before .args in (omega arith, sym (fill-none 8 (value-row (a .figures .now) (a .v)) (row Absent)))
@@ -33,7 +33,7 @@ mul-rows : tie.Need-mul-rows Inv-loop μ-loop
 mul-rows c = search needs
 
 array-set-from-rows : tie.Need-array-set-from-rows Inv-loop μ-loop
-array-set-from-rows c = omega (arith, c .before .before .before .at-most .ensures)
+array-set-from-rows c = omega (arith, c .before .before .before .lesser .ensures .0)
 
 add-j : tie.Need-add-j Inv-loop μ-loop
 add-j c = search needs
@@ -48,17 +48,17 @@ loop-again c =
     let f : ℕ → Row = value-row (a .figures .now) (a .v) in
     let one = c .value-at .ensures in (
       omega arith,
-      ap₂ (λ (rows : List Row) (value : Value). set rows (l .j) (row value)) (l .inv .1) one ∙ fill-next 8 f (row Absent) (l .j) (omega (arith, c .before .before .before .at-most .ensures)),
+      ap₂ (λ (rows : List Row) (value : Value). set rows (l .j) (row value)) (l .inv .1) one ∙ fill-next 8 f (row Absent) (l .j) (omega (arith, c .before .before .before .lesser .ensures .0)),
     )
 
 returns : tie.Need-returns Inv-loop μ-loop
 returns c =
     let a = c .before .before .before .before .args in
     let l = c .before .loop in
-    let e : l .j ≡ min (a .paths) 8 = omega (arith, c .before .before .at-most .ensures) in
+    let e : l .j ≡ min (a .paths) 8 = omega (arith, c .before .before .lesser .ensures .0) in
     l .inv .1 ∙ ap (filled 8 (value-row (a .figures .now) (a .v)) (row Absent)) e ∙ sym (rows-at-filled (a .figures .now) (a .paths) (a .v))
 
 pub values-at-spec : {M : Type 1} → statement M
 values-at-spec =
     tie.close
-    (tie.spec Inv-loop μ-loop at-most-requires loop-holds value-at-requires mul-rows array-set-from-rows add-j loop-less loop-again returns)
+    (tie.spec Inv-loop μ-loop lesser-requires loop-holds value-at-requires mul-rows array-set-from-rows add-j loop-less loop-again returns)

@@ -1,4 +1,4 @@
--- Where a term ends: not past any place that lies four bytes behind the last one, or where it starts. Assumes nothing.
+-- Where a term ends: not past any position that lies four bytes behind the last byte, or where the term starts. Assumes nothing.
 use Prim.Native.Nat.{ℕ, zero, suc, _+_, _≤_}
 use mathlib.Core.Path.{_≡_, refl}
 use mathlib.Core.Bool.{Bool, true, false, cond}
@@ -46,11 +46,13 @@ module _ (s : List ℕ) (rows : List Row) (most : ℕ) (far : length s + 4 ≤ m
   joined-within go h (Leaf f) w = w
   joined-within go h (Apply o next) w = h (go next .next) (h next w)
 
-  pub next-within : (left at : ℕ) → at ≤ most → evaluated left s rows at .next ≤ most
+  -- of a term
+  next-within : (left at : ℕ) → at ≤ most → evaluated left s rows at .next ≤ most
   unfolding evaluated
   next-within zero at h = h
   next-within (suc left) at h = joined-within (evaluated left s rows) (λ i l. next-within left i l) (head s rows at) (head-within at h)
 
+-- OF AN EXPRESSION: so the sums of positions in the code stay small
 pub end-within : (s : List ℕ) (most at : ℕ) → length s + 4 ≤ most → at ≤ most → expression-end s at ≤ most
 unfolding expression-end
 end-within s most at far h = next-within s (eight []) most far 16 at h

@@ -19,9 +19,11 @@ module _ {A : Type 0} (size : ℕ) (f : ℕ → A) (blank : A) where
   tabulate-more (suc i) from =
       ap (λ (l : List A). f from ∷ l) (tabulate-more i (suc from) ∙ ap (λ (k : ℕ). tabulate i (suc from) f ++ (f k ∷ [])) (let e : suc from + i ≡ from + suc i = omega arith in e))
 
+  -- none is set
   pub fill-none : filled 0 ≡ replicate size blank
   fill-none = ap (λ (k : ℕ). replicate k blank) (let e : size - 0 ≡ size = omega arith in e)
 
+  -- one more is set
   pub fill-next : (i : ℕ) → i < size → set (filled i) i (f i) ≡ filled (i + 1)
   fill-next i h =
       let front : List A = tabulate i zero f in
@@ -31,5 +33,6 @@ module _ {A : Type 0} (size : ℕ) (f : ℕ → A) (blank : A) where
       ∙ sym (append-snoc front (f i) rest)
       ∙ ap (λ (l : List A). l ++ rest) (ap (λ (k : ℕ). front ++ (f k ∷ [])) (let e : i ≡ 0 + i = omega arith in e) ∙ sym (tabulate-more i 0) ∙ ap (λ (k : ℕ). tabulate k zero f) (sym (add-one i)))
 
+  -- those that are set are the first i
   pub fill-front : (i : ℕ) → take i (filled i) ≡ tabulate i zero f
   fill-front i = take-at (tabulate i zero f) (replicate (size - i) blank) i (tabulate-length i zero f)

@@ -38,7 +38,7 @@ literal-there : (s : List ℕ) (i x k : ℕ) (l : List ℕ) → k < 2 ^ 32 → d
 literal-there s i x k l h e =
     rw (nth s i 1 (i + 1) 0 refl, nth s i 2 (i + 1 + 1) 0 (omega arith), nth s i 3 (i + 1 + 2) 0 (omega arith), nth s i 4 (i + 1 + 2 + 1) 0 (omega arith), e) (omega arith)
 
--- what stands at a place, by its tag
+-- what stands at a position, by its tag
 module _ (s : List ℕ) (rows : List Row) (at : ℕ) where
   head-index : (tag i : ℕ) (l : List ℕ) → (tag ≡ 0x30) ⊎ (tag ≡ 0x31) → drop at s ≡ tag ∷ i ∷ l → head s rows at ≡ Leaf (found (getD (values rows) i Absent) (at + 2))
   unfolding head
@@ -58,7 +58,7 @@ module _ (s : List ℕ) (rows : List Row) (at : ℕ) where
   head-apply tag o l (inr p) e = rw (lt-leb (length s) at (there s at (tag + 1) (o ∷ l) e), tag-there s at (tag + 1) (o ∷ l) e, byte-there s at (tag + 1) o l e, p) refl
 
 module _ (m : ℕ) (kind : Indexed m) (count : ℕ) (s : List ℕ) (rows : List Row) where
-  -- THE VALUE OF THE TREE, where its bytes stand and its depth is not above what is left; and the place behind it
+  -- THE VALUE OF THE TREE, where its bytes stand and its depth is not above what is left; and the position behind it
   pub expression-value : (t : Term ℕ) → Every (λ i. i < count) t → (left at : ℕ) (rest : List ℕ) → depth unit t ≤ left → drop at s ≡ expression-bytes m t ++ rest
       → evaluated left s rows at ≡ found (evaluate (values rows) t) (at + length (expression-bytes m t))
   unfolding evaluated joined
@@ -80,11 +80,12 @@ module _ (m : ℕ) (kind : Indexed m) (count : ℕ) (s : List ℕ) (rows : List 
       ap (joined (evaluated left s rows)) (head-apply s rows at (literal-tag m) o ((expression-bytes m t ++ expression-bytes m u) ++ rest) (literal-tags m) e)
       ∙ rw (a, b, end) refl
 
--- entries, whose leaves are the indices of path reductions, and final expressions, whose leaves are those of entries
 module _ (count : ℕ) (s : List ℕ) (rows : List Row) (t : Term ℕ) (legal : Expression count t) (at : ℕ) (rest : List ℕ) where
+  -- of an entry, whose leaves are the indices of path reductions
   pub entry-value : drop at s ≡ expression-bytes 2 t ++ rest → evaluated 16 s rows at ≡ found (evaluate (values rows) t) (at + length (expression-bytes 2 t))
   entry-value = expression-value 2 entry-indexed count s rows t (legal .0) 16 at rest (legal .1)
 
+  -- of the final expression, whose leaves are the indices of entries
   pub final-value : drop at s ≡ expression-bytes 3 t ++ rest → evaluated 16 s rows at ≡ found (evaluate (values rows) t) (at + length (expression-bytes 3 t))
   final-value = expression-value 3 final-indexed count s rows t (legal .0) 16 at rest (legal .1)
 

@@ -28,16 +28,17 @@ expression-end s at = evaluated 16 s (eight []) at .next
 unfoldable pub entry-rows : List ℕ → ℕ → (ℕ → List Row) → ℕ → List Row
 entry-rows s at F n = tabulate n zero (λ v. row (evaluated 16 s (F v) at .value))
 
--- "e entries, each a reduction byte and an expression": their results, "over all n places", the first entry at `at`; and where they end
+-- "e entries, each a reduction byte and an expression": their results, "over all n places", the first entry at `at`
 unfoldable pub results : ℕ → List ℕ → ℕ → (ℕ → List Row) → ℕ → List Value
 results zero s at F n = []
 results (suc k) s at F n = reduce (getD s at 0) (values (entry-rows s (at + 1) F n)) ∷ results k s (expression-end s (at + 1)) F n
 
+-- where k entries end, the first at `at`
 unfoldable pub entries-end : ℕ → List ℕ → ℕ → ℕ
 entries-end zero s at = at
 entries-end (suc k) s at = entries-end k s (expression-end s (at + 1))
 
--- where the entry count of a plan stands: behind the kind byte, the chain count and the chains "of 6 bytes"
+-- where the entry count of a plan stands: behind the kind byte, the "chain count c" and "c chains of 6 bytes"
 abbrev pub count-at : List ℕ → ℕ
 count-at s = 7 + 6 * getD s 6 0
 

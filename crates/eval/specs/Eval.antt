@@ -32,7 +32,7 @@ head s rows at =
     (cond (one-of tag 0x11 0x21) (Leaf (found (Number (at32 s (at + 1))) (at + 5)))
     (cond (one-of tag 0x12 0x22) (Apply (getD s (at + 1) 0) (at + 2)) (Leaf (found Absent at)))))
 
--- "an operator joins the values of its two terms": `go` is the value of the term at a place
+-- "an operator joins the values of its two terms": `go` is the value of the term at a position
 unfoldable pub joined : (ℕ → Found) → Head → Found
 joined go (Leaf f) = f
 joined go (Apply o next) =

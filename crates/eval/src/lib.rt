@@ -3,7 +3,6 @@
 use value::Row;
 use value::Value;
 ghost use mathlib.Core.Path.{_≡_};
-ghost use Prim.Native.Nat.{_+_};
 ghost use lib.ListN.{getD};
 ghost use Rattle.value.specs.Value.{values};
 ghost use Rattle.eval.specs.Eval.{one-of, head, evaluated};
@@ -33,6 +32,7 @@ fn value_at(rows: [Row; 8], i: u8) -> Value
     Value::Absent
 }
 
+// Is the tag either of two?
 fn one_of(tag: u8, a: u8, b: u8) -> bool
     ensures { λ r. ⌜ r ≡ one-of tag a b ⌝ }
 {
@@ -42,7 +42,7 @@ fn one_of(tag: u8, a: u8, b: u8) -> bool
     tag == b
 }
 
-// What stands at a place, by its tag.
+// What stands at a position, by its tag.
 fn head_of(s: &[u8], rows: [Row; 8], at: usize) -> Head
     ensures { λ r. ⌜ r ≡ head (now (s .entry)) rows at ⌝ }
 {

@@ -1,8 +1,8 @@
--- What the code's proofs cite. Assumes nothing.
+-- What the code's proofs cite: one key more, one edge more, the figures key by key, one vertex more. Assumes nothing.
 use Prim.Native.Nat.{ℕ, zero, suc, _+_, _-_, _*_, _/_, _<_, _≤_, min}
 use mathlib.Core.Path.{_≡_, refl, sym, ap, _∙_}
 use mathlib.Core.Bool.{Bool, true, false, cond, _&&_}
-use mathlib.Core.List.{List, [], _∷_, _++_, foldl, foldl-append}
+use mathlib.Core.List.{List, [], _∷_, foldl, foldl-append}
 use mathlib.Core.Option.{Option, none, some}
 use native.Mathlib.Numerals.{add-one}
 use native.Mathlib.Omega.{arith}
@@ -29,12 +29,13 @@ and-false : (b : Bool) → (b && false) ≡ false
 and-false true = refl
 and-false false = refl
 
--- one key more
 module _ (keys best : List ℕ) (w : Walk) where
+  -- with no key passed each walk agrees
   pub agrees-none : agrees keys best w 0 ≡ true
   unfolding agrees
   agrees-none = refl
 
+  -- one key more
   pub agrees-next : (i : ℕ) → agrees keys best w i ≡ true → figure-of (getD keys i 0) w ≡ getD best i 0 → agrees keys best w (i + 1) ≡ true
   unfolding agrees
   agrees-next i h e = rw (add-one i, agrees, h, eq-eqb (figure-of (getD keys i 0) w) (getD best i 0) e)
@@ -50,12 +51,13 @@ module _ (keys best : List ℕ) (w : Walk) where
       go (yes l) f = rw (f l)
       go (no l) f = let s : i ≡ n = omega arith in rw (← s, ne-eqb (figure-of (getD keys i 0) w) (getD best i 0) e, and-false (agrees keys best w i))
 
--- the walks of one edge more
+-- no edge more: the walk itself
 pub walks-none : (rows : List ℕ) (left : ℕ) (w : Walk) → left ≡ 0 → walks rows left w ≡ w ∷ []
 unfolding walks
 walks-none rows zero w e = refl
 walks-none rows (suc left) w e = absurd (omega arith)
 
+-- one edge more at least
 pub walks-next : (rows : List ℕ) (left : ℕ) (w : Walk) → (left ≡ 0 → ⊥)
     → walks rows left w ≡ w ∷ with-edge rows (walks rows (left - 1)) w (length rows / 4)
 unfolding walks
@@ -68,11 +70,12 @@ abbrev pub over : List ℕ → Kept → Walk → ℕ → Value → ℕ → Value
 over rows k w left found i = foldl (judged k) found (with-edge rows (walks rows left) w i)
 
 module _ (rows : List ℕ) (k : Kept) (w : Walk) (left : ℕ) (found : Value) where
+  -- over no edge
   pub over-none : over rows k w left found 0 ≡ found
   unfolding with-edge
   over-none = refl
 
-  -- the edge of row i ends where w starts, or not
+  -- the edge of row i ends where w starts
   pub over-next : (i : ℕ) → getD rows (4 * i + 1) 0 ≡ w .source
       → foldl (judged k) (over rows k w left found i) (walks rows left (longer w (getD rows (4 * i) 0) (getD rows (4 * i + 2) 0) (getD rows (4 * i + 3) 0)))
       ≡ over rows k w left found (i + 1)
@@ -81,6 +84,7 @@ module _ (rows : List ℕ) (k : Kept) (w : Walk) (left : ℕ) (found : Value) wh
       rw (add-one i, with-edge, eq-eqb (getD rows (4 * i + 1) 0) (w .source) e)
       (sym (foldl-append (judged k) found (with-edge rows (walks rows left) w i) _))
 
+  -- it does not
   pub over-skip : (i : ℕ) → (getD rows (4 * i + 1) 0 ≡ w .source → ⊥) → over rows k w left found i ≡ over rows k w left found (i + 1)
   unfolding with-edge
   over-skip i n =
@@ -155,11 +159,13 @@ after-first : (bs : List ℕ) (i x : ℕ) (o : Option (List ℕ)) → after bs i
 after-first bs i x none = refl
 after-first bs i x (some xs) = refl
 
+-- the first figure, and those of the other keys
 pub figures-first : (key : ℕ) (keys : List ℕ) (ws : List Walk) (x : ℕ) → best key ws ≡ Number x
     → figures (key ∷ keys) ws ≡ put-first x (figures keys (sift (λ w. eqb (figure-of key w) x) ws))
 unfolding figures
 figures-first key keys ws x e = rw (figures, e)
 
+-- none with no walk
 pub figures-none : (key : ℕ) (keys : List ℕ) (ws : List Walk) → best key ws ≡ Absent → figures (key ∷ keys) ws ≡ none
 unfolding figures
 figures-none key keys ws e = rw (figures, e)
@@ -191,6 +197,7 @@ abbrev pub goes-on : List ℕ → ℕ → List Walk → List ℕ → ℕ → Fig
 goes-on keys n ws bs i = after bs i (figures (drop i (take n keys)) (sift (λ w. agrees keys bs w i) ws))
 
 module _ (keys : List ℕ) (n : ℕ) (ws : List Walk) where
+  -- before the first key
   pub goes-first : n ≤ 3 → goes-on keys n ws (0 ∷ 0 ∷ 0 ∷ []) 0 ≡ padded (figures (take n keys) ws)
   goes-first h =
       ap (λ (l : List Walk). after (0 ∷ 0 ∷ 0 ∷ []) 0 (figures (take n keys) l)) (sift-all keys (0 ∷ 0 ∷ 0 ∷ []) ws)
@@ -209,6 +216,7 @@ module _ (keys : List ℕ) (n : ℕ) (ws : List Walk) where
         drop-cons (take n keys) i 0 (omega (arith, length-take n keys))
         ∙ rw (getD-take n keys i 0 below, add-one i)
 
+    -- one key more
     pub goes-next : (x : ℕ) → i < length bs → best (getD keys i 0) (sift (λ w. agrees keys bs w i) ws) ≡ Number x
         → goes-on keys n ws bs i ≡ goes-on keys n ws (set bs i x) (i + 1)
     goes-next x h e =
@@ -218,17 +226,19 @@ module _ (keys : List ℕ) (n : ℕ) (ws : List Walk) where
         ∙ ap (λ (m : ℕ). after (set bs i x) m (figures (drop (i + 1) (take n keys)) (sift (λ w. eqb (figure-of (getD keys i 0) w) x) (sift (λ w. agrees keys bs w i) ws)))) (sym (add-one i))
         ∙ ap (λ (l : List Walk). after (set bs i x) (i + 1) (figures (drop (i + 1) (take n keys)) l)) (sift-next keys bs i x h ws)
 
+    -- no walk is left
     pub goes-none : best (getD keys i 0) (sift (λ w. agrees keys bs w i) ws) ≡ Absent → goes-on keys n ws bs i ≡ padded none
     goes-none e =
         ap (λ (l : List ℕ). after bs i (figures l (sift (λ w. agrees keys bs w i) ws))) key-first
         ∙ ap (after bs i) (figures-none (getD keys i 0) (drop (i + 1) (take n keys)) (sift (λ w. agrees keys bs w i) ws) e)
 
+  -- after the last key
   pub goes-last : (bs : List ℕ) (i : ℕ) → n ≤ i → goes-on keys n ws bs i ≡ record { present = true; figures = bs }
   unfolding figures
   goes-last bs i h = rw (drop-of-length-le (take n keys) {i = i} (omega (arith, length-take n keys)))
 
 -- the last figure, of the padded figures
-pub last-padded : (keys : List ℕ) (ws : List Walk) (n : ℕ) → length keys ≡ n → n ≤ 3
+last-padded : (keys : List ℕ) (ws : List Walk) (n : ℕ) → length keys ≡ n → n ≤ 3
     → cond (padded (figures keys ws) .present) (cond (ltb 0 n) (Number (getD (padded (figures keys ws) .figures) (n - 1) 0)) Absent) Absent
     ≡ last-of (figures keys ws)
 last-padded keys ws n l h = go (figures keys ws) (figures-length keys ws)
@@ -242,19 +252,22 @@ last-padded keys ws n l h = go (figures keys ws) (figures-length keys ws)
     go (some (x ∷ y ∷ z ∷ [])) f = let e : n ≡ 3 = omega (arith, f (x ∷ y ∷ z ∷ []) refl) in rw e
     go (some (x ∷ y ∷ z ∷ t ∷ xs)) f = absurd (omega (arith, f (x ∷ y ∷ z ∷ t ∷ xs) refl))
 
--- one vertex more
 module _ (rows : List ℕ) (path : PathReduction) (before : ℕ) where
+  -- are the figures at v the same with one edge more?
   abbrev pub same-at : ℕ → Bool
   same-at v = same (figures-at rows path v before) (figures-at rows path v (before + 1))
 
+  -- with no vertex passed nothing has changed
   pub unchanged-none : unchanged rows 0 path before ≡ true
   unfolding unchanged
   unchanged-none = refl
 
+  -- one vertex more
   pub unchanged-next : (v : ℕ) → unchanged rows v path before ≡ true → same-at v ≡ true → unchanged rows (v + 1) path before ≡ true
   unfolding unchanged
   unchanged-next v h e = rw (add-one v, unchanged, h) e
 
+  -- one that changes is enough
   pub unchanged-not : (v n : ℕ) → v < n → same-at v ≡ false → unchanged rows n path before ≡ false
   unfolding unchanged
   unchanged-not v zero h e = absurd (not-suc-le-zero h)

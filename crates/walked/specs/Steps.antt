@@ -14,6 +14,7 @@ unfoldable pub agrees : List ℕ → List ℕ → Walk → ℕ → Bool
 agrees keys best w zero = true
 agrees keys best w (suc i) = agrees keys best w i && eqb (figure-of (getD keys i 0) w) (getD best i 0)
 
+-- is it kept by the keys passed?
 abbrev pub is-kept : Kept → Walk → Bool
 is-kept k w = agrees (k .path .keys) (k .best) w (k .passed)
 

@@ -1,6 +1,6 @@
 -- The figures of a path reduction (document 01: chain), by listing all walks of at most so many edges (document 01, "Meaning"). `rows` are the numbers of a map's
 -- rows, four a row: from, to, seconds, crate size; 0 past their end, and a row that is not whole is none.
-use Prim.Native.Nat.{ℕ, zero, suc, _+_, _-_, _*_, _/_, min}
+use Prim.Native.Nat.{ℕ, zero, suc, _+_, _*_, _/_, min}
 use mathlib.Core.Bool.{Bool, true, false, cond, not, _&&_, _||_}
 use mathlib.Core.List.{List, [], _∷_, _++_, foldl}
 use mathlib.Core.Option.{Option, none, some}
@@ -80,13 +80,15 @@ figures (key ∷ keys) ws = elim (best key ws) [
   | Number x ↦ put-first x (figures keys (sift (λ w. eqb (figure-of key w) x) ws))
 ]
 
--- "A chain takes all walks from its start (or from anywhere) to a place": those of at most `most` edges, and never of more than 64
+-- "from its start (or from anywhere)"
 abbrev pub may-start : ℕ → Walk → Bool
 may-start source w = eqb source 65535 || eqb source (w .source)
 
+-- "A chain takes all walks from its start (or from anywhere) to a place": those of at most `most` edges, and never of more than 64
 abbrev pub walks-to : List ℕ → ℕ → ℕ → ℕ → List Walk
 walks-to rows source vertex most = sift (may-start source) (walks rows (min most 64) (standing vertex))
 
+-- the figures of the first `count` keys over them
 abbrev pub all-figures : List ℕ → PathReduction → ℕ → ℕ → Option (List ℕ)
 all-figures rows path vertex most =
     figures (take (min (path .count) 3) (path .keys)) (walks-to rows (path .source) vertex most)
@@ -96,6 +98,7 @@ abbrev pub padded : Option (List ℕ) → Figures
 padded none = record { present = false; figures = 0 ∷ 0 ∷ 0 ∷ [] }
 padded (some xs) = record { present = true; figures = xs ++ drop (length xs) (0 ∷ 0 ∷ 0 ∷ []) }
 
+-- as the program returns them
 unfoldable pub figures-at : List ℕ → PathReduction → ℕ → ℕ → Figures
 figures-at rows path vertex most = padded (all-figures rows path vertex most)
 
@@ -105,18 +108,21 @@ last [] = Absent
 last (x ∷ []) = Number x
 last (x ∷ (y ∷ xs)) = last (y ∷ xs)
 
+-- of the figures, where there is a walk
 abbrev pub last-of : Option (List ℕ) → Value
 last-of none = Absent
 last-of (some xs) = last xs
 
+-- the value of the path reduction at a vertex
 unfoldable pub value-at : List ℕ → PathReduction → ℕ → ℕ → Value
 value-at rows path vertex most = last-of (all-figures rows path vertex most)
 
--- "each figure of [a] chain at each place is the same over walks of at most r passages as over walks of at most r − 1": at the places below n, with r − 1 for `before`
+-- are both true, or both false?
 abbrev pub alike : Bool → Bool → Bool
 alike true b = b
 alike false b = not b
 
+-- the same figures, and a walk for both or for none
 abbrev pub same : Figures → Figures → Bool
 same a b =
     eqb (getD (a .figures) 0 0) (getD (b .figures) 0 0)
@@ -124,6 +130,7 @@ same a b =
     && eqb (getD (a .figures) 2 0) (getD (b .figures) 2 0)
     && alike (a .present) (b .present)
 
+-- "each figure of [a] chain at each place is the same over walks of at most r passages as over walks of at most r − 1": at the vertices below n, with r − 1 for `before`
 unfoldable pub unchanged : List ℕ → ℕ → PathReduction → ℕ → Bool
 unchanged rows zero path before = true
 unchanged rows (suc v) path before =

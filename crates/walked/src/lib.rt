@@ -7,7 +7,7 @@ ghost use lib.ListN.{getD};
 ghost use Rattle.walked.specs.Walked as spec;
 ghost use Rattle.walked.specs.Steps as steps;
 
-// A chain: the first `count` of the keys, and "a 16-bit start (0 to 255, or 65,535 for anywhere)".
+// A path reduction (document 01: chain): the first `count` of the keys, and "a 16-bit start (0 to 255, or 65,535 for anywhere)".
 pub struct PathReduction {
     pub keys: [u8; 3],
     pub count: usize,
@@ -40,12 +40,14 @@ const ANYWHERE: u16 = 65535;
 // No walk of more edges is walked.
 const MOST: usize = 64;
 
+// A number of the rows as a figure.
 fn wide(x: u16) -> u64
     ensures { λ r. ⌜ (r ≡ x) × (r ≤ 65535) ⌝ }
 {
     x as u64
 }
 
+// The lesser of two, of figures and of counts.
 fn smaller(x: u64, y: u64) -> u64
     ensures { λ r. ⌜ r ≡ min x y ⌝ }
 {
@@ -242,12 +244,14 @@ pub fn value_at(rows: &[u16], path: PathReduction, vertex: u16, most: usize) -> 
     Value::Absent
 }
 
+// Are both true, or both false?
 fn alike(a: bool, b: bool) -> bool
     ensures { λ r. ⌜ r ≡ spec.alike a b ⌝ }
 {
     if a { b } else { !b }
 }
 
+// The same figures, and a walk for both or for none.
 fn same(a: Figures, b: Figures) -> bool
     ensures { λ r. ⌜ r ≡ spec.same a b ⌝ }
 {

@@ -4,7 +4,7 @@ use mathlib.Core.Path.{_≡_, refl, sym, ap, _∙_, subst}
 use mathlib.Core.Logic.{_⊎_, inl, inr}
 use mathlib.Core.Bool.{Bool, true, false, cond}
 use mathlib.Core.List.{List, [], _∷_, foldl}
-use mathlib.Core.Option.{Option, none, some}
+use mathlib.Core.Option.{some}
 use native.Mathlib.Omega.{arith}
 use borrow.Author.Tests.{eq-eqb, eqb-true, ltb-false, ltb-true}
 use lib.Dec.{T, eqb, leb, leb→le}
@@ -116,7 +116,7 @@ module _ (k : ℕ) where
         at b (inl e) = (x, inl refl, sym e)
         at b (inr a) = a
 
--- the walks that pass a test
+-- a walk that is sifted out is in the list and passes the test
 pub in-sift : (p : Walk → Bool) (ws : List Walk) (x : Walk) → In x (sift p ws) → In x ws × (p x ≡ true)
 in-sift p [] x i = absurd i
 in-sift p (w ∷ ws) x i = go (p w) refl i (in-sift p ws x)
@@ -126,6 +126,7 @@ in-sift p (w ∷ ws) x i = go (p w) refl i (in-sift p ws x)
     go true e (inr j) f = (inr (f j .0), f j .1)
     go false e j f = (inr (f j .0), f j .1)
 
+-- and one in the list that passes it is sifted out
 pub sift-in : (p : Walk → Bool) (ws : List Walk) (x : Walk) → In x ws → p x ≡ true → In x (sift p ws)
 sift-in p [] x i e = absurd i
 sift-in p (w ∷ ws) x (inl q) e = let t : p w ≡ true = sym (ap p q) ∙ e in rw t (inl q)

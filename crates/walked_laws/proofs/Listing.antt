@@ -11,7 +11,7 @@ use borrow.Author.Tests.{eq-eqb, eqb-true}
 use lib.Dec.{T, eqb}
 use lib.ListN.{length, getD}
 use Rattle.walks.specs.declared.Measure.the-variants.{Edges, Weight, Source, Bottleneck}
-use Rattle.walks.specs.Keys.{known, row}
+use Rattle.walks.specs.Keys.{row}
 use Rattle.walks.specs.Walks.{Edge, Leads, Network, Within, along, edge, figure}
 use Rattle.walks.proofs.Pigeons.{In}
 use Rattle.walks.proofs.Tests.{T-of}

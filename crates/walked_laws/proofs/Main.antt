@@ -1,6 +1,6 @@
 -- THE SECOND PROGRAM OF THE TESTS COMPUTES WHAT DOCUMENT 01 MEANS: on a graph, the figures and the value of a path reduction that crate `walked`
--- finds by listing walks are those over walks of at most r passages, for r up to 64. Assumes nothing.
-use Prim.Native.Nat.{ℕ, zero, suc, _+_, _*_, _/_, _<_, _≤_, min}
+-- finds by listing walks are those over walks of at most r edges, for r up to 64. Assumes nothing.
+use Prim.Native.Nat.{ℕ, zero, suc, _+_, _*_, _<_, _≤_, min}
 use mathlib.Core.Path.{_≡_, refl}
 use mathlib.Core.Bool.{Bool, true, false, cond, _&&_, _||_}
 use mathlib.Core.List.{List, [], _∷_}
@@ -27,7 +27,7 @@ use Rattle.walked.proofs.Laws.{figures-length}
 use Rattle.walked_laws.proofs.Best.{Shown, figures-shown}
 use Rattle.walked_laws.proofs.Listing.{Rows, shown}
 
--- a map's rows, four numbers a row
+-- a graph's edges as rows of four numbers
 abbrev pub numbers : List Edge → List ℕ
 numbers [] = []
 numbers (e ∷ es) = e .from ∷ e .to ∷ e .weight ∷ e .capacity ∷ numbers es

@@ -24,120 +24,9 @@ abbrev evaluate-below : ℕ → In 1 evaluate-kinds.ps
 evaluate-below t =
     and 1 evaluate-kinds.ps (falls 1 evaluate-kinds.ps _<_ μ-evaluate t) evaluate.Pre
 
-evaluate-returns : (t : ℕ) → evaluate-lts.Need-returns (
-  head-of-reads.Asked,
-  head-of-reads.Learnt,
-  evaluate-below t,
-  evaluate.Post,
-  operate-on-reads.Asked,
-  operate-on-reads.Learnt,
-) (evaluate-at t) evaluate.Post
-evaluate-returns t c = sym (evaluated-none _ _ _ _ (c .if1 .taken))
-
-evaluate-head-of-requires : (t : ℕ) → evaluate-lts.Need-head-of-requires (
-  head-of-reads.Asked,
-  head-of-reads.Learnt,
-  evaluate-below t,
-  evaluate.Post,
-  operate-on-reads.Asked,
-  operate-on-reads.Learnt,
-) (evaluate-at t) evaluate.Post
-evaluate-head-of-requires t c κs = search needs
-
-evaluate-enum-known-found : (t : ℕ) → evaluate-lts.Need-enum-known-found (
-  head-of-reads.Asked,
-  head-of-reads.Learnt,
-  evaluate-below t,
-  evaluate.Post,
-  operate-on-reads.Asked,
-  operate-on-reads.Learnt,
-) (evaluate-at t) evaluate.Post
-evaluate-enum-known-found t c = search needs
-
-evaluate-enum-known-operator : (t : ℕ) → evaluate-lts.Need-enum-known-operator (
-  head-of-reads.Asked,
-  head-of-reads.Learnt,
-  evaluate-below t,
-  evaluate.Post,
-  operate-on-reads.Asked,
-  operate-on-reads.Learnt,
-) (evaluate-at t) evaluate.Post
-evaluate-enum-known-operator t c = search needs
-
-evaluate-sub-evaluate : (t : ℕ) → evaluate-lts.Need-sub-evaluate (
-  head-of-reads.Asked,
-  head-of-reads.Learnt,
-  evaluate-below t,
-  evaluate.Post,
-  operate-on-reads.Asked,
-  operate-on-reads.Learnt,
-) (evaluate-at t) evaluate.Post
-evaluate-sub-evaluate t c = search needs
-
-evaluate-evaluate-requires : (t : ℕ) → evaluate-lts.Need-evaluate-requires (
-  head-of-reads.Asked,
-  head-of-reads.Learnt,
-  evaluate-below t,
-  evaluate.Post,
-  operate-on-reads.Asked,
-  operate-on-reads.Learnt,
-) (evaluate-at t) evaluate.Post
-evaluate-evaluate-requires t c κs = search needs
-
-evaluate-sub-evaluate-2 : (t : ℕ) → evaluate-lts.Need-sub-evaluate-2 (
-  head-of-reads.Asked,
-  head-of-reads.Learnt,
-  evaluate-below t,
-  evaluate.Post,
-  operate-on-reads.Asked,
-  operate-on-reads.Learnt,
-) (evaluate-at t) evaluate.Post
-evaluate-sub-evaluate-2 t c = search needs
-
-evaluate-evaluate-requires-2 : (t : ℕ) → evaluate-lts.Need-evaluate-requires-2 (
-  head-of-reads.Asked,
-  head-of-reads.Learnt,
-  evaluate-below t,
-  evaluate.Post,
-  operate-on-reads.Asked,
-  operate-on-reads.Learnt,
-) (evaluate-at t) evaluate.Post
-evaluate-evaluate-requires-2 t c κs = search needs
-
-evaluate-operate-on-requires : (t : ℕ) → evaluate-lts.Need-operate-on-requires (
-  head-of-reads.Asked,
-  head-of-reads.Learnt,
-  evaluate-below t,
-  evaluate.Post,
-  operate-on-reads.Asked,
-  operate-on-reads.Learnt,
-) (evaluate-at t) evaluate.Post
-evaluate-operate-on-requires t c κs = search needs
-
-evaluate-returns-2 : (t : ℕ) → evaluate-lts.Need-returns-2 (
-  head-of-reads.Asked,
-  head-of-reads.Learnt,
-  evaluate-below t,
-  evaluate.Post,
-  operate-on-reads.Asked,
-  operate-on-reads.Learnt,
-) (evaluate-at t) evaluate.Post
-unfolding joined
-evaluate-returns-2 t c = rw (evaluated-next _ _ _ _ (c .before .before .before .before .if1 .left), sym (c .before .before .before .head-of .ensures) ∙ c .before .found .given .1)
-
-evaluate-returns-3 : (t : ℕ) → evaluate-lts.Need-returns-3 (
-  head-of-reads.Asked,
-  head-of-reads.Learnt,
-  evaluate-below t,
-  evaluate.Post,
-  operate-on-reads.Asked,
-  operate-on-reads.Learnt,
-) (evaluate-at t) evaluate.Post
-unfolding joined
-evaluate-returns-3 t c = rw (evaluated-next _ _ _ _ (c .before .before .before .before .before .before .before .if1 .left), sym (c .before .before .before .before .before .before .head-of .ensures) ∙ c .before .before .before .before .operator .given .1, c .operate-on .ensures, c .before .evaluate2 .ensures, c .before .before .evaluate .ensures)
-
-pub +evaluate-spec : {M : Type 1} → statement M
-+evaluate-spec = close μ-evaluate λ t. evaluate-lts.spec (
+-- what is asked and learnt at each call
+abbrev claims : ℕ → evaluate-lts.Claims
+claims t = (
   head-of-reads.Asked,
   head-of-reads.Learnt,
   evaluate-below t,
@@ -145,6 +34,44 @@ pub +evaluate-spec : {M : Type 1} → statement M
   operate-on-reads.Asked,
   operate-on-reads.Learnt,
 )
+
+evaluate-returns : (t : ℕ) → evaluate-lts.Need-returns (claims t) (evaluate-at t) evaluate.Post
+evaluate-returns t c = sym (evaluated-none _ _ _ _ (c .if1 .taken))
+
+evaluate-head-of-requires : (t : ℕ) → evaluate-lts.Need-head-of-requires (claims t) (evaluate-at t) evaluate.Post
+evaluate-head-of-requires t c κs = search needs
+
+evaluate-enum-known-found : (t : ℕ) → evaluate-lts.Need-enum-known-found (claims t) (evaluate-at t) evaluate.Post
+evaluate-enum-known-found t c = search needs
+
+evaluate-enum-known-operator : (t : ℕ) → evaluate-lts.Need-enum-known-operator (claims t) (evaluate-at t) evaluate.Post
+evaluate-enum-known-operator t c = search needs
+
+evaluate-sub-evaluate : (t : ℕ) → evaluate-lts.Need-sub-evaluate (claims t) (evaluate-at t) evaluate.Post
+evaluate-sub-evaluate t c = search needs
+
+evaluate-evaluate-requires : (t : ℕ) → evaluate-lts.Need-evaluate-requires (claims t) (evaluate-at t) evaluate.Post
+evaluate-evaluate-requires t c κs = search needs
+
+evaluate-sub-evaluate-2 : (t : ℕ) → evaluate-lts.Need-sub-evaluate-2 (claims t) (evaluate-at t) evaluate.Post
+evaluate-sub-evaluate-2 t c = search needs
+
+evaluate-evaluate-requires-2 : (t : ℕ) → evaluate-lts.Need-evaluate-requires-2 (claims t) (evaluate-at t) evaluate.Post
+evaluate-evaluate-requires-2 t c κs = search needs
+
+evaluate-operate-on-requires : (t : ℕ) → evaluate-lts.Need-operate-on-requires (claims t) (evaluate-at t) evaluate.Post
+evaluate-operate-on-requires t c κs = search needs
+
+evaluate-returns-2 : (t : ℕ) → evaluate-lts.Need-returns-2 (claims t) (evaluate-at t) evaluate.Post
+unfolding joined
+evaluate-returns-2 t c = rw (evaluated-next _ _ _ _ (c .before .before .before .before .if1 .left), sym (c .before .before .before .head-of .ensures) ∙ c .before .found .given .1)
+
+evaluate-returns-3 : (t : ℕ) → evaluate-lts.Need-returns-3 (claims t) (evaluate-at t) evaluate.Post
+unfolding joined
+evaluate-returns-3 t c = rw (evaluated-next _ _ _ _ (c .before .before .before .before .before .before .before .if1 .left), sym (c .before .before .before .before .before .before .head-of .ensures) ∙ c .before .before .before .before .operator .given .1, c .operate-on .ensures, c .before .evaluate2 .ensures, c .before .before .evaluate .ensures)
+
+pub +evaluate-spec : {M : Type 1} → statement M
++evaluate-spec = close μ-evaluate λ t. evaluate-lts.spec (claims t)
     (evaluate-at t)
     evaluate.Post
     (evaluate-returns t)

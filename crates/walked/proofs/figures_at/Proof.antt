@@ -1,9 +1,9 @@
 -- `walked::figures_at` meets its contract: the figures of the keys passed, and the walks kept by them, make those of all keys. Assumes nothing.
-use Prim.Native.Nat.{ℕ, _+_, _-_, _≤_, min}
+use Prim.Native.Nat.{ℕ, _-_, _≤_}
 use mathlib.Core.Path.{_≡_, refl, sym, ap, _∙_}
 use native.Mathlib.Omega.{arith}
 use borrow.Author.Needs.{needs}
-use lib.ListN.{length, take, set, length-set}
+use lib.ListN.{length, take, length-set}
 use Rattle.walked.specs.declared.Walk.{Walk}
 use Rattle.walked.specs.Walked.{figures, figures-at, padded, walks-to}
 use Rattle.walked.proofs.Laws.{found-best, goes-first, goes-last, goes-next, goes-none, goes-on, keys-fit}

@@ -10,11 +10,12 @@ use Rattle.counters.specs.Counted.{counted-by, most, one-more}
 use Rattle.counters.specs.declared.Counters.{Counters}
 
 module _ (c : Counters) (done : Bool) where
-  -- at a full one the counters stay
+  -- asked is at its greatest: the counters stay
   pub asked-full : c .asked ≡ most → counted-by c done ≡ c
   unfolding counted-by
   asked-full e = rw (eq-eqb _ _ e)
 
+  -- answered is
   pub answered-full : c .answered ≡ most → counted-by c done ≡ c
   unfolding counted-by
   answered-full e = rw (eq-eqb _ _ e) (go (eqb (c .asked) most))
@@ -23,6 +24,7 @@ module _ (c : Counters) (done : Bool) where
       go true = refl
       go false = refl
 
+  -- refused is
   pub refused-full : c .refused ≡ most → counted-by c done ≡ c
   unfolding counted-by
   refused-full e = rw (eq-eqb _ _ e) (go (eqb (c .asked) most) (eqb (c .answered) most))
@@ -43,10 +45,11 @@ module _ (c : Counters) (done : Bool) where
   unfolding counted-by
   one-counted a b r = rw (ne-eqb _ _ a, ne-eqb _ _ b, ne-eqb _ _ r)
 
--- WHAT WAS ASKED FOR WAS ANSWERED OR REFUSED: counting keeps that
+-- what was asked for was answered or refused
 abbrev Sums : Counters → Type 0
 Sums c = c .asked ≡ c .answered + c .refused
 
+-- COUNTING KEEPS THAT
 pub sums-kept : (c : Counters) (done : Bool) → Sums c → Sums (counted-by c done)
 unfolding counted-by
 sums-kept c done e = go (eqb (c .asked) most) (eqb (c .answered) most) (eqb (c .refused) most) done

@@ -12,6 +12,7 @@ counters a b c = record { asked = a; answered = b; refused = c }
 abbrev top : ℕ
 top = 18446744073709551615
 
+-- done, refused, up to the greatest, and at it
 pub counted-samples : (counted-by (counters 5 3 2) true ≡ counters 6 4 2)
     × (counted-by (counters 5 3 2) false ≡ counters 6 3 3)
     × (counted-by (counters 18446744073709551614 3 2) true ≡ counters top 4 2)

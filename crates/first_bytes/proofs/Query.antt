@@ -23,9 +23,9 @@ pub record Alike (s t : List ℕ) : Type 0 where
   pub longer : 455 ≤ length t
 
 -- a reading has come no further than its terms take it; after a refusal it is at 0
-pub record Near (w : Progress) : Type 0 where
-  pub few : w .terms ≤ 64
-  pub near : w .at ≤ 6 + 7 * w .terms
+record Near (w : Progress) : Type 0 where
+  few : w .terms ≤ 64
+  near : w .at ≤ 6 + 7 * w .terms
 
 record NearStep (h : Step) : Type 0 where
   progress : Near (h .progress)
@@ -230,7 +230,7 @@ module _ (s t : List ℕ) (a : Alike s t) where
           (near-cond (eqb tag (literal-tag mode + 1)) (λ f. near-apply w l (g .near)) (near-stopped 9))))
 
   -- a term and all that it contains
-  pub read-same : (mode left : ℕ) (w : Progress) → Near w → (read mode left t w ≡ read mode left s w) × Near (read mode left s w)
+  read-same : (mode left : ℕ) (w : Progress) → Near w → (read mode left t w ≡ read mode left s w) × Near (read mode left s w)
   unfolding read
   read-same mode zero w g = rw (term-same mode zero w g) (go (eqb (w .code) 0))
     where

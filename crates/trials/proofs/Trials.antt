@@ -30,14 +30,17 @@ pub marked-trials : (map (found pull) trials ≡ map (λ (t : Trial). t .expecte
 unfolding run stopped rounds first state marked gather best row query-scan header-code ended started blank read term-step leaf-step leaf-tag literal-tag path-step path-code keys-code kept-path slot-of advanced path-word reduce-step query-form.read-after query-form.blank-reading nodes-read collected term-at next-at fuse-reply fused-form put-part put-term fused-term entry-term final-term index-of size reduces fusion.started entries-of write-reply form-bytes texts term-text row-text plan-scan rows-scan row-step row-code row-word body-scan moved entries-scan entry-scan final-scan index-step compute combine
 marked-trials = (refl, refl, refl, refl)
 
+-- operators and reductions
 pub samples-hold : map (λ (p : Value × Value). p .0) samples ≡ map (λ (p : Value × Value). p .1) samples
 unfolding compute combine
 samples-hold = refl
 
+-- runs by pull and by push
 pub runs-hold : (map (outcome-by pull) runs ≡ map (λ (s : Run). s .outcome) runs) × (map (outcome-by push) runs ≡ map (λ (s : Run). s .outcome) runs)
 unfolding run stopped rounds first state marked gather best row compute combine
 runs-hold = (refl, refl)
 
+-- the numbers that readers of questions and worksheets give
 pub numbers-hold : (map (λ (r : Reading). query-code (r .bytes)) queries ≡ map (λ (r : Reading). r .number) queries)
     × (map (λ (r : Reading). plan-code (r .bytes)) plans ≡ map (λ (r : Reading). r .number) plans)
 unfolding query-scan header-code ended started blank read term-step leaf-step leaf-tag literal-tag path-step path-code keys-code kept-path slot-of advanced path-word reduce-step index-step literal-step row plan-scan rows-scan row-step row-code row-word body-scan moved entries-scan entry-scan final-scan

@@ -66,6 +66,7 @@ abbrev limited : Way → Graph → Query → Option ℕ → Outcome
 limited way g q none = run way (g .vertices) (fuse q)
 limited way g q (some r) = stopped way (g .vertices) (fuse q) r
 
+-- its outcome, by a way to run
 abbrev pub outcome-by : (Graph → Way) → Run → Outcome
 outcome-by way s = limited (way (s .graph)) (s .graph) (s .query) (s .limit)
 
@@ -75,27 +76,28 @@ sample g q limit rounds xs = record { graph = g; query = q; limit = limit; outco
 abbrev path : List ℕ → ℕ → PathReduction
 path ks s = record { keys = ks; source = s }
 
--- the sum over places of the seconds from 0, less the greatest sum of passages and seconds: 12 - 7
+-- the sum over vertices of the least weight from 0, less the greatest sum of fewest edges and least weight: 12 - 7
 abbrev two-paths : Query
 two-paths =
     single (apply 4 (leaf (record { reduction = 3; body = leaf (path (2 ∷ []) 0) }))
     (leaf (record { reduction = 2; body = apply 3 (leaf (path (1 ∷ []) 0)) (leaf (path (2 ∷ []) 0)) })))
 
--- 0→1 9 s, 0→2 1 s, 2→1 1 s, all of size 3: in round 2 only the seconds at 1 change
+-- 0→1 9 s, 0→2 1 s, 2→1 1 s, all of size 3: in round 2 only the weight at 1 changes
 abbrev detour : Graph
 detour = record { vertices = 3; edges = edge 0 1 9 3 ∷ edge 0 2 1 3 ∷ edge 2 1 1 3 ∷ [] }
 
+-- samples of runs
 abbrev pub runs : List Run
 runs =
-    -- keys 3 and 4, from anywhere: the least and the greatest place that a walk starts at
+    -- keys 3 and 4, from anywhere: the least and the greatest vertex that a walk starts at
     sample graph-a (each (leaf (path (3 ∷ []) 65535))) none 3 (Number 0 ∷ Number 0 ∷ Number 0 ∷ Number 0 ∷ [])
     ∷ sample graph-a (each (leaf (path (4 ∷ []) 65535))) none 2 (Number 0 ∷ Number 2 ∷ Number 2 ∷ Number 3 ∷ [])
     ∷ sample graph-a (each (leaf (path (4 ∷ []) 2))) none 3 (Absent ∷ Number 2 ∷ Number 2 ∷ Number 2 ∷ [])
-    -- three keys: of the quickest walks those of fewest passages
+    -- three keys: of the walks of least weight those of fewest edges
     ∷ sample graph-a (each (leaf (path (2 ∷ 1 ∷ 6 ∷ []) 0))) none 3 (Number 65535 ∷ Number 10 ∷ Number 4 ∷ Number 7 ∷ [])
     -- "when the figure of any of its keys changes, the earlier keys included"
     ∷ sample detour (each (leaf (path (2 ∷ 6 ∷ []) 0))) none 3 (Number 65535 ∷ Number 3 ∷ Number 3 ∷ [])
-    -- two chains, three times written; operands in order
+    -- two path reductions, three times written; operands in order
     ∷ sample graph-a two-paths none 3 (Number 5 ∷ [])
     ∷ sample graph-a (each (apply 6 (literal 7) (leaf (path (2 ∷ []) 0)))) none 3 (Absent ∷ Number 1 ∷ Number 3 ∷ Number 1 ∷ [])
     -- "With no chain that is round 1."
@@ -110,6 +112,7 @@ runs =
 abbrev headed : ℕ → List ℕ → ℕ → Reading
 headed letter l number = record { bytes = 0x4c ∷ 0x50 ∷ letter ∷ 0x01 ∷ 0x00 ∷ l; number = number }
 
+-- samples of questions
 abbrev pub queries : List Reading
 queries =
     -- keys 3,4,1: read; 6,1: 10; key 7, key counts 0 and 4: 9
@@ -130,13 +133,14 @@ queries =
     ∷ headed 0x57 (0x00 ∷ 0x11 ∷ 0x00 ∷ 0x00 ∷ 0x00 ∷ 0x00 ∷ []) 2
     ∷ []
 
+-- samples of worksheets
 abbrev pub plans : List Reading
 plans =
     -- "counts above 8 are 14 at that byte, but for kind 0 every e other than 1 is 9"
     headed 0x57 (0x01 ∷ 0x09 ∷ []) 14
     ∷ headed 0x57 (0x01 ∷ 0x00 ∷ 0x09 ∷ []) 14
     ∷ headed 0x57 (0x00 ∷ 0x00 ∷ 0x09 ∷ []) 9
-    -- a literal at each place; a chain's index that is none; a filler that is not 0
+    -- a literal at each vertex; an index of no path reduction; a filler that is not 0
     ∷ headed 0x57 (0x00 ∷ 0x00 ∷ 0x01 ∷ 0x00 ∷ 0x11 ∷ 0x07 ∷ 0x00 ∷ 0x00 ∷ 0x00 ∷ []) 0
     ∷ headed 0x57 (0x00 ∷ 0x00 ∷ 0x01 ∷ 0x00 ∷ 0x30 ∷ 0x00 ∷ []) 16
     ∷ headed 0x57 (0x00 ∷ 0x01 ∷ 0x01 ∷ 0x02 ∷ 0x03 ∷ 0x00 ∷ 0x00 ∷ 0x00 ∷ 0x01 ∷ 0x00 ∷ 0x30 ∷ 0x00 ∷ []) 9

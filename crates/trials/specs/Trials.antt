@@ -14,11 +14,13 @@ pub record Expected : Type 0 where
   pub rows : List Value
   pub rounds : Option ℕ
 
+-- a query to be fused and run on a graph
 pub record Trial : Type 0 where
   pub graph : Graph
   pub query : Query
   pub expected : Expected
 
+-- the rounds found, where the document gives them
 abbrev given : Option ℕ → ℕ → Option ℕ
 given none r = none
 given (some k) r = some r
@@ -44,10 +46,11 @@ trial g ks s r xs = record {
 abbrev pub graph-a : Graph
 graph-a = graph 4 (edge 0 1 5 10 ∷ edge 0 2 2 4 ∷ edge 2 1 3 20 ∷ edge 1 3 0 7 ∷ [])
 
--- the greatest number of passages from 0 to any place, over least walks: the question of the trial by bytes
+-- the greatest over vertices of the fewest edges from 0: the question of the trial by bytes
 abbrev pub least-edges : Query
 least-edges = single (leaf (record { reduction = 2; body = leaf (record { keys = 1 ∷ []; source = 0 }) }))
 
+-- runs
 abbrev pub trials : List Trial
 trials =
     -- "keys 2 from 0: 0, 5, 2, 5; rounds 3"

@@ -22,13 +22,7 @@ add-t5 : tie.Need-add-t5
 add-t5 c = search needs
 
 returns-4 : tie.Need-returns-4
-returns-4 c =
-    let at4 = c .before .before in
-    let at3 = at4 .before in
-    let at2 = at3 .before .before in
-    let at1 = at2 .before .before in
-    let a = at1 .before .before .args in
-    sym (one-counted (a .c) (a .done) (at1 .if1 .left) (at2 .if2 .left) (at3 .if3 .left) ∙ ap (one-more (a .c)) (at4 .if4 .taken))
+returns-4 c = sym (one-counted _ _ (c .before .before .before .before .before .before .before .if1 .left) (c .before .before .before .before .before .if2 .left) (c .before .before .before .if3 .left) ∙ ap (one-more _) (c .before .before .if4 .taken))
 
 add-t6 : tie.Need-add-t6
 add-t6 c = search needs
@@ -37,13 +31,7 @@ add-t7 : tie.Need-add-t7
 add-t7 c = search needs
 
 returns-5 : tie.Need-returns-5
-returns-5 c =
-    let at4 = c .before .before in
-    let at3 = at4 .before in
-    let at2 = at3 .before .before in
-    let at1 = at2 .before .before in
-    let a = at1 .before .before .args in
-    sym (one-counted (a .c) (a .done) (at1 .if1 .left) (at2 .if2 .left) (at3 .if3 .left) ∙ ap (one-more (a .c)) (at4 .if4 .left))
+returns-5 c = sym (one-counted _ _ (c .before .before .before .before .before .before .before .if1 .left) (c .before .before .before .before .before .if2 .left) (c .before .before .before .if3 .left) ∙ ap (one-more _) (c .before .before .if4 .left))
 
 pub counted-spec : {M : Type 1} → statement M
 counted-spec = tie.close (tie.spec returns returns-2 returns-3 add-t4 add-t5 returns-4 add-t6 add-t7 returns-5)

@@ -211,7 +211,7 @@ module _ {M : Type 1} (𝓤 : URA M) (H : Heap 𝓤) (A : Atoms 𝓤) (W : Given
     goes-call =
         qed W Passed ∵
         nothing ! $ move ! (3 ∷ 0 ∷ []) $ fjoin ! $ move ! (2 ∷ []) $ split ! $ move ! (1 ∷ []) $ split ! $
-        -- [Map; Out; Plan; what the counters own; Tokens]
+        -- [Graph; Out; Plan; what the counters own; Tokens]
         move ! (1 ∷ 3 ∷ []) $ fjoin ! $ move ! (1 ∷ 0 ∷ []) $ fjoin ! $ move ! (1 ∷ 0 ∷ []) $ fjoin ! $ move ! (1 ∷ 0 ∷ []) $ join ! $ frame ! $ done !
 
     module _ (f : Name) (C : Calls 𝓤 H) (Λ : Loops 𝓤 H) (fm : FmC 𝓤 H (W .laws) C) (known : Triple 𝓤 (C f) Called) where
@@ -224,11 +224,11 @@ module _ {M : Type 1} (𝓤 : URA M) (H : Heap 𝓤) (A : Atoms 𝓤) (W : Given
           move ! (2 ∷ 1 ∷ []) $ join ! $ move ! (2 ∷ 0 ∷ []) $ join ! $ move ! (2 ∷ 0 ∷ []) $ join ! $
           -- what the parameters own, one by one
           move ! (2 ∷ []) $ fsplit ! $ move ! (1 ∷ []) $ fsplit ! $ move ! (1 ∷ []) $ fsplit ! $ move ! (1 ∷ []) $ fsplit ! $ fsplit3 ! $ drop ! $
-          -- [obs; the borrow; true; Out; Map; Plan; Tokens; the counters' token]: the two `&` are copied
+          -- [obs; the borrow; true; Out; Graph; Plan; Tokens; the counters' token]: the two `&` are copied
           move ! (5 ∷ []) $ use1 W (‵ Plan ⊛ ‵ Plan) (shr-slice-copy 𝓤 H A W (named 0) κ₁ u8 .twice plan (slice plan ∷ [])) $ split ! $
           move ! (6 ∷ []) $ use1 W (‵ Graph ⊛ ‵ Graph) (shr-slice-copy 𝓤 H A W (named 1) κ₂ u8 .twice graph (slice graph ∷ [])) $ split ! $
           move ! (0 ∷ 7 ∷ []) $ join ! $ move ! (2 ∷ 0 ∷ []) $ join ! $ move ! (3 ∷ 4 ∷ 7 ∷ 6 ∷ 0 ∷ 2 ∷ 1 ∷ []) $
-          -- [obs; the borrow; the counters' token; Tokens; Slices; Plan; Map; true]
+          -- [obs; the borrow; the counters' token; Tokens; Slices; Plan; Graph; true]
           enter ! C Λ (thin f 1 2) (slice plan ∷ slice graph ∷ slice out ∷ vptr b o ∷ []) _ $
           alloc1 ! (λ l₀. alloc1 ! (λ l₁. alloc1 ! (λ l₂. alloc1 ! (λ l₃. alloc1 ! (λ l₄. alloc1 ! (λ l₅. alloc1 ! (λ l₆. alloc1 ! (λ l₇. alloc1 ! (λ l₈. alloc0 ! $ params1 ! $
           pass1 ! (init ! 14 refl (shr-slice-lawful 𝓤 H A W (named 0) κ₁ u8 .typed plan (slice plan ∷ []) plan-is .0)) $
@@ -242,7 +242,7 @@ module _ {M : Type 1} (𝓤 : URA M) (H : Heap 𝓤) (A : Atoms 𝓤) (W : Given
           move ! (18 ∷ 19 ∷ 20 ∷ []) $ opens ! tt T.the-row {h = before} b o (λ vs.
           spelt ! T.the-row (Is T.the-row) (shows 𝓤 H A T.the-row) vals-of (LL.tells T.the-type T′.the-laws) fullShare before vs b o $
           move ! (1 ∷ []) $ peeks ! T.the-row (Is T.the-row) (shows 𝓤 H A T.the-row) before (vals-of before) (λ was.
-          -- [what the counters own; their cell; the open borrow; obs; auth; _8; …; _1; …; room for _0; …; Tokens; Slices; Plan; Map; true]
+          -- [what the counters own; their cell; the open borrow; obs; auth; _8; …; _1; …; room for _0; …; Tokens; Slices; Plan; Graph; true]
           assigns ! (of-opd ! (load ! (from ! (hop ! (look ! 13 refl) (stop !))) (look-raw ! 1 refl))) (from ! (stop !)) (init ! 5 refl (LL.lawful T.the-type T′.the-laws 𝓤 H A W .typed before _ was .0)) $
           -- the run by value
           move ! (23 ∷ 24 ∷ 0 ∷ []) $ use3 W (raw (Called .pre to-call)) goes-call $
@@ -252,7 +252,7 @@ module _ {M : Type 1} (𝓤 : URA M) (H : Heap 𝓤) (A : Atoms 𝓤) (W : Given
           split ! $ move ! (1 ∷ []) $ use1 W (some (λ (zs : Unit {0} × (Unit {0} × (List ℕ × (Unit {0} × Unit {0})))). ‵ (lasts by-value.ended κs′ args′ zs) ⊛ raw (fact 𝓤 (Said r (zs .1 .1 .0))))) (id⊢ 𝓤 _) $ pick ! (λ zs.
           split ! $ move ! (1 ∷ []) $ heard ! (Said r (zs .1 .1 .0)) (λ e. fsplit ! $ move ! (1 ∷ []) $ fsplit ! $ move ! (1 ∷ []) $ fsplit ! $ fsplit ! $ move ! (1 ∷ []) $ feqL ! (λ l.
           move ! (4 ∷ []) $ split ! $ move ! (1 ∷ []) $ peeks ! E.the-row (Is E.the-row) (shows 𝓤 H A E.the-row) r (v ∷ []) (λ is.
-          -- [what the end owns; Tokens; the last list; …; true; true; the cell; the open borrow; obs; auth; _8; …; _0; …; Plan; Map; true]
+          -- [what the end owns; Tokens; the last list; …; true; true; the cell; the open borrow; obs; auth; _8; …; _0; …; Plan; Graph; true]
           land ! (from ! (stop !)) (init ! 16 refl (LL.lawful E.the-type E′.the-laws 𝓤 H A W .typed r _ is .0)) $
           rewrite ! 16 (λ (u : Val). ‵ (fat fullShare E′.mir l₅ 0 u)) (ap only (LL.tells E.the-type E′.the-laws r _ is)) refl $
           -- its counters are stored back, its number is the result
@@ -279,7 +279,7 @@ module _ {M : Type 1} (𝓤 : URA M) (H : Heap 𝓤) (A : Atoms 𝓤) (W : Given
     (goes-none-slice 𝓤 H A W 4 (1 ∷ []) tt (plain (λ _. u8)) yes, (goes-gave-slice 𝓤 H A W 4 2 tt (plain (λ _. u8)), (goes-ref 𝓤 H A W 4 3 tt (plain (λ _. T.the-row)), tt))),
   )
 
-  -- A FUNCTION OF THIS SHAPE MEETS THE CONTRACT OF A COUNTED RUN, if what it calls does by value and is passed the plan, parameter 1, and then the map, parameter 2
+  -- A FUNCTION OF THIS SHAPE MEETS THE CONTRACT OF A COUNTED RUN, if what it calls does by value and is passed the plan, parameter 1, and then the graph, parameter 2
   pub thin-meets : (f : Name) (x y : ℕ) (𝓣 : Tables 𝓤 H) → Triple 𝓤 (𝓣 .C f) Called → x ≡ 1 → y ≡ 2 → Meets 𝓤 H A pull.signature (WpFn 𝓤 H (𝓣 .C) (𝓣 .Λ) (thin f x y)) (pull.spec 𝓤 H A at-mem run)
   thin-meets f x y 𝓣 known plan-first graph-second =
       rw (plan-first, graph-second)

@@ -1,4 +1,4 @@
--- DEMAND 3 WHOLE, over what the public functions return: a question fused, its worksheet run by pull or by push, with buffers long enough, is answered by its unfused
+-- DEMAND 3 WHOLE, over what the public functions return: a query fused, its plan run by pull or by push, with buffers long enough, is answered by its unfused
 -- meaning over all walks and by the smallest count of rounds, at most 2n. Assumes nothing.
 use Prim.Native.Nat.{ℕ, zero, _+_, _*_, _≤_}
 use mathlib.Core.Path.{_≡_, refl, sym, ap, _∙_, subst}
@@ -32,6 +32,7 @@ use Rattle.walks.specs.Walks.{Graph}
 use Rattle.wire.specs.Wire.{Bytes, Reply, at16, done, fitted, reply-buffer, reply-number}
 use Rattle.grafs.specs.Answers.{Answers, Called, query-kind}
 
+-- fusing keeps the kind
 kind-fused : (q : Query) → kind-of (fuse q .body) ≡ query-kind q
 kind-fused (each t) = refl
 kind-fused (single t) = refl
@@ -56,7 +57,7 @@ module _ (q : Query) (legal : QueryLegal 256 q) (m : List ℕ) (bytes : Bytes m)
   unfolding run
   right = pull-correct (graph-of m) fits q starts
 
-  -- the reply of the run of the fused worksheet
+  -- the reply of the run of the fused plan
   run-is : (room : ℕ) → run-reply Quiet (plan.encode (fuse q)) m room ≡ fitted (answer.encode (at16 m 5) (query-kind q) (outcome Quiet (graph-of m) (fuse q))) room
   run-is room =
       run-answers (fuse q) (fuse-legal 256 q legal) m bytes graph-ok (fused-fit (graph-of m) fits q starts) Quiet room
@@ -86,7 +87,7 @@ module _ (q : Query) (legal : QueryLegal 256 q) (m : List ℕ) (bytes : Bytes m)
   pub answer-long : length (answer.encode (at16 m 5) (query-kind q) (outcome Quiet (graph-of m) (fuse q))) ≡ answer-size (at16 m 5) (query-kind q)
   answer-long = encode-length (at16 m 5) (query-kind q) o ∙ ap (λ (k : ℕ). 10 + 9 * k) (rows-counted q (graph-of m) (rounds-done Quiet (graph-of m) (fuse q .paths)))
 
-  -- DEMAND 2 over queries: stopped after r rounds, the fused worksheet is answered by the meaning over walks of at most r edges, and r is reported
+  -- DEMAND 2 over queries: stopped after r rounds, the fused plan is answered by the meaning over walks of at most r edges, and r is reported
   pub answers-stopped : (r room : ℕ)
       → (o : Outcome) × UnfusedWithin (graph-of m) r q (o .rows) × (o .count ≡ r) × (run-reply (Rounds r) (plan.encode (fuse q)) m room ≡ fitted (answer.encode (at16 m 5) (query-kind q) o) room)
   answers-stopped r room =
@@ -98,7 +99,7 @@ module _ (q : Query) (legal : QueryLegal 256 q) (m : List ℕ) (bytes : Bytes m)
             ∙ ap (λ (k : ℕ). fitted (answer.encode (at16 m 5) k s) room) (kind-fused q),
       )
 
--- DEMAND 3: every question and map that the readers accept, the map having each start that the question names
+-- DEMAND 3: every query and graph that the readers accept, the graph having each source that the query names
 pub answers : (s m : List ℕ) → Bytes s → Bytes m → query-code s ≡ 0 → graph-code m ≡ 0
     → (q : Query) × QueryLegal 256 q × (query.encode q ≡ s)
     × (QueryFits (graph-of m) q → (plan-before plan-after : List ℕ) (fused : ℕ) (before after : List ℕ) (number : ℕ) → Called s m plan-before plan-after fused before after number

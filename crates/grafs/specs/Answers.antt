@@ -22,13 +22,13 @@ abbrev pub query-kind : Query → ℕ
 query-kind (each t) = 0
 query-kind (single t) = 1
 
--- a question was fused into a buffer, and the worksheet in its first bytes was run on the map into another, by pull or by push
+-- a query was fused into a buffer, and the plan in its first bytes was run on the graph into another, by pull or by push
 pub record Called (query-bytes graph-bytes : List ℕ) (plan-before plan-after : List ℕ) (fused : ℕ) (before after : List ℕ) (number : ℕ) : Type 0 where
   pub fuse-call : Returned (fuse-reply query-bytes (length plan-before)) fused plan-before plan-after
   pub run-call : Returned (run-reply Quiet (take fused plan-after) graph-bytes (length before)) number before after
 
 -- "the buffer begins with the answer in document 01's layout, its rows are exactly the unfused meaning .., the rest of the buffer is untouched; the rounds reported are
--- the smallest count .." (`Correct`): what is left, and the number, where the question is q
+-- the smallest count .." (`Correct`): what is left, and the number, where the query is q
 pub record Answers (q : Query) (graph-bytes before after : List ℕ) (number : ℕ) : Type 0 where
   pub outcome : Outcome
   pub correct : Correct (graph-of graph-bytes) q outcome

@@ -50,7 +50,7 @@ fn wide(b: u8) -> u16
     b as u16
 }
 
-// The 16-bit number at a place, 0 where there is none.
+// The 16-bit number at a position, 0 where there is none.
 fn number(s: &[u8], at: usize) -> u16 {
     if at < s.len() {
         if 2 <= s.len() - at {
@@ -60,12 +60,12 @@ fn number(s: &[u8], at: usize) -> u16 {
     0
 }
 
-// The byte at a place, 0 where there is none.
+// The byte at a position, 0 where there is none.
 fn low(s: &[u8], at: usize) -> u8 {
     if at < s.len() { s[at] } else { 0 }
 }
 
-// The case at a place. One that is cut is of no kind and the last.
+// The case at a position. One that is cut is of no kind and the last.
 fn case_at(s: &[u8], at: usize) -> Case
     requires { ⌜ at < length (now s) ⌝ }
     ensures { λ r. ⌜ (at < r .next) × (r .next ≤ length (now (s .entry))) × (r .body ≤ r .next) ⌝ }
@@ -91,7 +91,7 @@ fn case_at(s: &[u8], at: usize) -> Case
     }
 }
 
-// Place i of a buffer into which the first `done` bytes of a file were written.
+// Byte i of a buffer into which the first `done` bytes of a file were written.
 fn wanted(file: &[u8], done: usize, i: usize) -> u8 {
     if i < done {
         if i < file.len() {
@@ -133,7 +133,7 @@ fn written(code: u32, file: &[u8], out: &[u8]) -> u8 {
 }
 
 // A map is read, and its typed form is written with the counts of the case.
-fn write_map(fields: &[u8], file: &[u8], out: &mut [u8]) -> u32 {
+fn write_graph(fields: &[u8], file: &[u8], out: &mut [u8]) -> u32 {
     let reading = graph::read(file);
     let mut table = reading.graph;
     table.vertices = number(fields, 2);
@@ -191,7 +191,7 @@ fn run_files(fields: &[u8], file: &[u8], out: &mut [u8]) -> u32 {
 
 fn write_file(kind: u8, fields: &[u8], file: &[u8], out: &mut [u8]) -> u32 {
     match kind {
-        4 => write_map(fields, file, out),
+        4 => write_graph(fields, file, out),
         5 => write_query(fields, file, out),
         6 => write_plan(fields, file, out),
         _ => run_files(fields, file, out),

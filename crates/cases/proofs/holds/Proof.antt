@@ -6,10 +6,10 @@ use Rattle.cases.proofs.holds.Statement.{statement}
 use Rattle.cases.proofs.holds.Tie as tie
 
 abbrev Inv-loop : tie.InvT-loop
-Inv-loop out map done i₀ i = i ≤ length out
+Inv-loop out file done i₀ i = i ≤ length out
 
 abbrev μ-loop : tie.MeasureT-loop
-μ-loop out map done i₀ i = length out - i
+μ-loop out file done i₀ i = length out - i
 
 loop-holds : tie.Need-loop-holds Inv-loop μ-loop
 loop-holds c = omega arith

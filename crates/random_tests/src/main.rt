@@ -1,9 +1,9 @@
-// Random worksheets and random questions on random tiny maps, from a fixed seed. A worksheet is run by pull, by push, and stopped
-// after a random number of rounds; a question is fused, and its worksheet is run the same way. The answers expected are worked out on
-// the file's own bytes: a chain's value from walking every walk outright (crate `walked`), an operator joins the values of its two
-// terms, a reduction goes over all places. So a question is compared UNFUSED, as document 01 has it: "each chain where it is written".
-// Some files are damaged instead: they are refused, or the reader of worksheets takes what is run or written. Prints how many cases,
-// what they were like, and how many calls differ.
+// Random plans and random queries on random tiny graphs, from a fixed seed. A plan is run by pull, by push, and stopped after a random
+// number of rounds; a query is fused, and its plan is run the same way. The answers expected are worked out on the file's own bytes:
+// a path reduction's value from walking every walk outright (crate `walked`), an operator joins the values of its two terms, a
+// vertex reduction goes over all vertices. So a query is compared UNFUSED, as document 01 has it: "each chain where it is written".
+// Some files are damaged instead: they are refused, or the reader of plans takes what is run or written. Prints what the cases were
+// like, and how many calls differ.
 use engine::Limit;
 use value::Row;
 use value::Value;
@@ -18,47 +18,57 @@ const SEED: u64 = 20261115;
 
 const FILL: u8 = 0xa5;
 
-const ANYWHERE: u16 = 65535;
+// "65,535 for anywhere"
+const ANYWHERE: u64 = 65535;
 
-// What no call returns: 65,536 and 255.
-const WRONG: u32 = 65791;
+// The three letters and the version of each format: five bytes, the lowest first.
+const GRAPH: u64 = 0x014d504c;
 
-// Small, with ties; seldom the largest.
-const WEIGHTS: [u16; 16] = [0, 1, 2, 3, 0, 1, 2, 3, 0, 1, 2, 3, 1, 2, 3, 65535];
+const QUERY: u64 = 0x0151504c;
 
-const CAPACITIES: [u16; 16] = [1, 2, 3, 4, 1, 2, 3, 4, 1, 2, 3, 4, 2, 3, 4, 65534];
+const PLAN: u64 = 0x0157504c;
 
-// A file or a buffer, longer than any that is written: 560 bytes are enough for a worksheet.
+const ANSWER: u64 = 0x0141504c;
+
+// The weight of a sixth byte.
+const SIXTH: u64 = 1099511627776;
+
+// The weight of the source in the six bytes of a path reduction.
+const SOURCE: u64 = 4294967296;
+
+// All operators; minus (4) and divide (6), which often give absent, are seldom.
+const OPERATORS: [u8; 16] = [1, 2, 3, 4, 5, 6, 7, 8, 9, 10, 11, 1, 2, 3, 5, 9];
+
+// A file or a buffer, longer than any that is written: 560 bytes are enough for a plan.
 type File = [u8; 560];
 
-// A case: whether it has a question, the sizes of its map, how many chains its terms are chosen from, and what its file may be like:
-// how many entries, how many terms more than the root an expression has, the deepest depth, of eight terms how many are operators (of
-// a place term, of a result term), and whether those that often give absent are seldom.
-struct Shape {
-    question: bool,
+// The numbers of up to six edges, four an edge: from, to, weight, capacity. An edge that is not there leads to no vertex.
+type Rows = [u16; 24];
+
+// A case. What it may be like: whether its file is a query, how many vertices, the kind, how many path reductions its terms are chosen
+// from, how many entries a plan of kind 1 has, how many terms more than its root each expression may have, the deepest depth, of eight
+// terms how many are operators, of 64 sources how many are not a vertex. Its file as far as it is written: where the next byte goes,
+// how many terms may still be added to those that are due, how many terms, path reductions and vertex reductions are written, the
+// least depth left that was met, the last term's tag.
+struct Case {
+    seed: u64,
+    query: bool,
     n: u16,
-    edges: u16,
-    kind: u8,
-    paths: u8,
-    entries: u8,
-    free: u64,
+    most: u16,
+    kind: u64,
+    paths: u64,
+    entries: u64,
+    share: u64,
     depth: u64,
     odds: u64,
-    joins: u64,
-    mild: bool,
-}
-
-// A file as far as it is written: where the next byte goes, how many terms may still be added to those that are due, how many terms,
-// chains and reductions are written, the least depth left that was met, and the last term's tag.
-struct Made {
-    seed: u64,
     at: usize,
     free: u64,
     terms: u64,
-    chains: u64,
+    path_terms: u64,
     reductions: u64,
     least: u64,
     tag: u8,
+    root: usize,
 }
 
 // What a call should return for the lengths of its files and the length lent, and the rounds: of the run to the end, and those at which
@@ -66,7 +76,7 @@ struct Made {
 struct Expected {
     code: u32,
     file: usize,
-    map: usize,
+    graph: usize,
     lent: usize,
     rounds: u16,
     stop: u16,
@@ -82,6 +92,7 @@ struct Score {
     long: u64,
     shared: u64,
     several: u64,
+    eight: u64,
     full: u64,
     deep: u64,
     differences: u64,
@@ -109,14 +120,14 @@ fn wide8(x: u8) -> u64
 }
 
 // A number below k, which is small.
-fn below(seed: u64, k: u64) -> u16
+fn below(seed: u64, k: u64) -> u64
     ensures { λ r. ⌜ r < 1000 ⌝ }
 {
     if k == 0 {
         return 0;
     }
     let x = seed % k;
-    if x < 1000 { x as u16 } else { 0 }
+    if x < 1000 { x } else { 0 }
 }
 
 // One more, if it is so.
@@ -127,11 +138,13 @@ fn count(x: u64, yes: bool) -> u64 {
     x
 }
 
-fn fewer(x: u64, k: u64) -> u64 {
+fn fewer(x: u64, k: u64) -> u64
+    ensures { λ r. ⌜ r ≤ x ⌝ }
+{
     if k <= x { x - k } else { 0 }
 }
 
-fn lesser(x: u16, y: u16) -> u16
+fn lesser(x: usize, y: usize) -> usize
     ensures { λ r. ⌜ r ≤ y ⌝ }
 {
     if x < y { x } else { y }
@@ -141,11 +154,11 @@ fn pick(yes: bool, x: u8, y: u8) -> u8 {
     if yes { x } else { y }
 }
 
-// A sum of two small numbers, else 0: a place in a file.
-fn plus(base: usize, i: usize) -> usize {
-    if base < 1000 {
+// A sum of two small numbers, else 0: a position in a file.
+fn plus(at: usize, i: usize) -> usize {
+    if at < 1000 {
         if i < 1000 {
-            return base + i;
+            return at + i;
         }
     }
     0
@@ -153,104 +166,65 @@ fn plus(base: usize, i: usize) -> usize {
 
 // ---- bytes
 
-// A byte, and where the next one goes.
-fn put(out: &mut File, at: usize, b: u8) -> usize {
-    if at < 560 {
-        out[at] = b;
-        return at + 1;
+// So many bytes of a number, the lowest first. Returns where the next byte goes.
+fn put(out: &mut File, at: usize, x: u64, size: usize) -> usize {
+    let end = lesser(plus(at, size), 560);
+    let mut a = at;
+    let mut rest = x;
+    while a < end {
+        out[a] = (rest % 256) as u8;
+        rest = rest / 256;
+        a += 1;
     }
-    at
-}
-
-fn put16(out: &mut File, at: usize, x: u64) -> usize {
-    let a = put(out, at, (x % 256) as u8);
-    put(out, a, (x / 256 % 256) as u8)
-}
-
-fn put32(out: &mut File, at: usize, x: u64) -> usize {
-    let a = put16(out, at, x);
-    put16(out, a, x / 65536)
-}
-
-// The letters L, P and a third, and the version.
-fn put_start(out: &mut File, letter: u8) -> usize {
-    let a = put(out, 0, 0x4c);
-    let b = put(out, a, 0x50);
-    let c = put(out, b, letter);
-    put16(out, c, 1)
+    a
 }
 
 // "a byte, 1 for a number and 0 for absent, and 64 bits, 0 when absent"
 fn put_row(out: &mut File, at: usize, v: Value) -> usize {
     let Value::Number(x) = v else {
-        let a = put(out, at, 0);
-        let b = put32(out, a, 0);
-        return put32(out, b, 0);
+        return put(out, at, 0, 9);
     };
-    let a = put(out, at, 1);
-    let b = put32(out, a, x);
-    put32(out, b, x / 4294967296)
-}
-
-// A key; one that is not there only where there are always three.
-fn put_key(out: &mut File, at: usize, key: u8, three: bool) -> usize {
-    if three {
-        return put(out, at, key);
-    }
-    if key == 0 {
-        return at;
-    }
-    put(out, at, key)
-}
-
-// A chain: "key count, three key bytes with unused ones 0, 16-bit start", or in a question without the unused ones.
-fn put_path(out: &mut File, at: usize, path: PathReduction, three: bool) -> usize {
-    let keys = path.keys;
-    let a = put(out, at, (path.count % 256) as u8);
-    let b = put(out, a, keys[0]);
-    let c = put_key(out, b, keys[1], three);
-    let d = put_key(out, c, keys[2], three);
-    put16(out, d, wide(path.source))
+    let a = put(out, at, 1, 1);
+    put(out, a, x, 8)
 }
 
 fn byte(q: &File, i: usize) -> u8 {
     if i < 560 { q[i] } else { 0 }
 }
 
-fn word(q: &File, at: usize) -> u64
-    ensures { λ r. ⌜ r ≤ 65535 ⌝ }
-{
-    wide8(byte(q, at)) + 256 * wide8(byte(q, plus(at, 1)))
-}
-
-// Key i of a chain at a place, 0 where it has fewer.
-fn key_at(q: &File, at: usize, i: u8) -> u8 {
-    if i <= byte(q, at) {
-        return byte(q, plus(at, i as usize));
+// The number that so many bytes have, up to seven.
+fn number_at(q: &File, at: usize, size: usize) -> u64 {
+    let mut x: u64 = 0;
+    let mut i = size;
+    while 0 < i {
+        i -= 1;
+        x = x % SIXTH * 256 + wide8(byte(q, plus(at, i)));
     }
-    0
+    x
 }
 
-// The chain at a place, whose keys take so many bytes.
-fn path_at(q: &File, at: usize, size: u8) -> PathReduction {
-    let mut keys = [0u8; 3];
-    keys[0] = key_at(q, at, 1);
-    keys[1] = key_at(q, at, 2);
-    keys[2] = key_at(q, at, 3);
-    PathReduction {
-        keys,
-        count: byte(q, at) as usize,
-        source: word(q, plus(plus(at, 1), size as usize)) as u16,
-    }
-}
-
-// Where chain j of a worksheet starts.
+// The position of path reduction j of a plan: "key count, three key bytes with unused ones 0, 16-bit start". These six bytes as a
+// number stand for a path reduction everywhere here.
 fn slot(j: u8) -> usize {
     7 + 6 * j as usize
 }
 
-fn tabled_path(q: &File, j: u8) -> PathReduction {
-    path_at(q, slot(j), 3)
+// The path reduction at a position in a query, without the unused keys.
+fn path_at(q: &File, at: usize) -> u64 {
+    let size = 1 + byte(q, at) as usize;
+    number_at(q, at, size) % SOURCE + number_at(q, plus(at, size), 2) % 65536 * SOURCE
+}
+
+fn path_of(x: u64) -> PathReduction {
+    PathReduction {
+        keys: [
+            (x / 256 % 256) as u8,
+            (x / 65536 % 256) as u8,
+            (x / 16777216 % 256) as u8,
+        ],
+        count: (x % 256) as usize,
+        source: (x / SOURCE % 65536) as u16,
+    }
 }
 
 // How many terms there are below a term; below 0x10 it is the reduction byte of an entry.
@@ -261,14 +235,13 @@ fn arity(tag: u8) -> u8
         return 1;
     }
     match tag {
-        0x12 => 2,
+        0x12 | 0x22 => 2,
         0x20 => 1,
-        0x22 => 2,
         _ => 0,
     }
 }
 
-// How many bytes the term at a place takes without those below it.
+// How many bytes the term at a position takes without those below it.
 fn term_size(q: &File, at: usize) -> usize {
     let tag = byte(q, at);
     if tag < 0x10 {
@@ -276,13 +249,12 @@ fn term_size(q: &File, at: usize) -> usize {
     }
     match tag {
         0x10 => 4 + byte(q, plus(at, 1)) as usize,
-        0x11 => 5,
-        0x21 => 5,
+        0x11 | 0x21 => 5,
         _ => 2,
     }
 }
 
-// The place behind so many terms and all that they contain.
+// The position behind so many terms and all that they contain.
 fn behind(q: &File, at: usize, terms: u8) -> usize {
     let mut p = at;
     let mut due = terms as usize;
@@ -300,179 +272,108 @@ fn behind(q: &File, at: usize, terms: u8) -> usize {
 
 // ---- random cases
 
-// Of eight place terms, how many are operators: few in most files of kind 1, so that terms are left for more reductions.
-fn random_odds(seed: u64, kind: u8) -> u64 {
-    if kind != 0 {
-        if seed / 8 % 4 != 0 {
-            return 1 + seed % 4;
-        }
-    }
-    3 + seed % 6
-}
-
-// "Kind 0 has e = 1"; kind 1 has up to three here. A question has none.
-fn random_entries(seed: u64, kind: u8, question: bool) -> u8
-    ensures { λ r. ⌜ r ≤ 3 ⌝ }
-{
-    if question {
-        return 0;
-    }
-    if kind == 0 {
-        return 1;
-    }
-    (seed % 4) as u8
-}
-
-// An expression's share of the 64 terms, without its root.
-fn share(entries: u8, kind: u8) -> u64
-    ensures { λ r. ⌜ r ≤ 63 ⌝ }
-{
-    if kind == 0 {
-        return 63;
-    }
-    match entries {
-        0 => 63,
-        1 => 31,
-        2 => 20,
-        _ => 15,
-    }
-}
-
-// Three quarters are small, the rest go to the limits of 64 terms and depth 16.
-fn random_shape(seed: u64, question: bool) -> Shape {
+// A quarter may go to the limits of 64 terms and depth 16; the others have a half, a third or a quarter of them.
+fn random_case(seed: u64, query: bool) -> Case {
     let a = next(seed);
     let b = next(a);
-    let c = next(b);
-    let d = next(c);
-    let e = next(d);
-    let kind = (b / 8 % 2) as u8;
-    let entries = random_entries(b / 16, kind, question);
-    let most = share(entries, kind);
-    let shape = Shape {
-        question,
-        n: 1 + (a % 4) as u16,
-        edges: (b % 7) as u16,
-        kind,
-        paths: (c % 9) as u8,
+    let kind = a / 4 % 8;
+    let entries = fewer(kind, if query { 8 } else { 4 });
+    let part = 1 + a / 32 % 4;
+    let n = 1 + (a % 4) as u16;
+    Case {
+        seed: b,
+        query,
+        n,
+        most: 2 * n,
+        kind: kind / 4,
+        paths: a / 128 % 9,
         entries,
-        free: wide(below(d, most / 2 + 1)),
-        depth: 1 + d / 64 % 8,
-        odds: random_odds(e, kind),
-        joins: 4 + e / 32 % 4,
-        mild: c / 9 % 3 != 0,
-    };
-    if a / 4 % 4 != 0 {
-        return shape;
-    }
-    let mut r = shape;
-    r.free = most;
-    r.depth = 16;
-    r
-}
-
-// How many numbers the edges have, four an edge.
-fn edge_numbers(shape: Shape) -> usize
-    ensures { λ r. ⌜ r ≤ 24 ⌝ }
-{
-    4 * lesser(shape.edges, 6) as usize
-}
-
-// Where the edge with number i ends: only the first two may end where they start, if there is another vertex.
-fn end_of(i: usize, from: u16, to: u16, n: u16) -> u16 {
-    if from != to {
-        return to;
-    }
-    if i < 8 {
-        return to;
-    }
-    below(wide(to) + 1, wide(n))
-}
-
-// Number i of the edges, with the number before it.
-fn random_number(i: usize, before: u16, n: u16, seed: u64) -> u16 {
-    let k = (seed % 16) as usize;
-    let v = below(seed / 16, wide(n));
-    match i % 4 {
-        0 => v,
-        1 => end_of(i, before, v, n),
-        2 => WEIGHTS[k],
-        _ => CAPACITIES[k],
+        share: fewer(64 / (1 + entries), 1) / part,
+        depth: 16 / part,
+        odds: 1 + b % 8,
+        at: 0,
+        free: 0,
+        terms: 0,
+        path_terms: 0,
+        reductions: 0,
+        least: 16,
+        tag: 0,
+        root: 0,
     }
 }
 
-// A map: its numbers in `rows`, and its file. Returns the seed.
-fn random_map(map: &mut File, rows: &mut [u16; 24], shape: Shape, seed: u64) -> u64 {
-    let count = edge_numbers(shape);
-    let a = put_start(map, 0x4d);
-    let b = put16(map, a, wide(shape.n));
-    let mut at = put16(map, b, wide(shape.edges));
-    let mut x: u16 = 0;
+// Number i of the edges: from, to, small weights and capacities with ties, seldom the largest.
+fn random_number(i: usize, n: u16, seed: u64) -> u16 {
+    let j = (i % 4) as u16;
+    if j < 2 {
+        return below(seed / 16, wide(n)) as u16;
+    }
+    if seed % 16 == 0 {
+        return 65535 - (j - 2);
+    }
+    (seed / 16 % 4) as u16 + (j - 2)
+}
+
+// A graph of up to six edges: its numbers in `rows`, four an edge, and its file.
+fn random_graph(graph: &mut File, rows: &mut Rows, n: u16, seed: u64) -> u64 {
+    let edges = seed % 7;
+    let count = 4 * edges as usize;
+    put(graph, 0, GRAPH + SIXTH * (wide(n) + 65536 * edges), 8);
     let mut s = seed;
     let mut i: usize = 0;
     while i < count {
         s = next(s);
-        x = random_number(i, x, shape.n, s);
+        let x = random_number(i, n, s);
         rows[i] = x;
-        at = put16(map, at, wide(x));
+        put(graph, 9 + 2 * i, wide(x), 2);
         i += 1;
     }
     s
 }
 
-// A key: before the last one of 1 to 4, the last of 1 to 6, none behind it.
-fn random_key(seed: u64, i: u64, keys: u64) -> u8 {
-    if keys < i {
-        return 0;
+// No vertex in one of 64, anywhere in three quarters.
+fn random_source(seed: u64, n: u16) -> u64
+    ensures { λ r. ⌜ r ≤ 65535 ⌝ }
+{
+    let x = seed % 64;
+    if x == 0 {
+        return wide(n);
     }
-    if i == keys {
-        return 1 + (seed % 6) as u8;
-    }
-    1 + (seed % 4) as u8
-}
-
-// A quarter of them anywhere, or nearly all; few no vertex.
-fn random_source(seed: u64, n: u16, mild: bool) -> u16 {
-    if seed % 4 == 1 {
+    if x < 48 {
         return ANYWHERE;
     }
-    if seed % 128 == 2 {
-        return n;
-    }
-    if mild {
-        if seed / 4 % 16 != 0 {
-            return ANYWHERE;
-        }
-    }
-    below(seed / 128, wide(n))
+    below(seed / 64, wide(n))
 }
 
-fn random_path(shape: Shape, seed: u64) -> PathReduction {
-    let count = 1 + seed % 3;
-    let mut keys = [0u8; 3];
-    keys[0] = random_key(seed / 3, 1, count);
-    keys[1] = random_key(seed / 72, 2, count);
-    keys[2] = random_key(seed / 1728, 3, count);
-    PathReduction {
-        keys,
-        count: count as usize,
-        source: random_source(seed / 41472, shape.n, shape.mild),
-    }
+// One to three keys: before the last one of 1 to 4, the last of 1 to 6.
+fn random_path(seed: u64, n: u16) -> u64 {
+    let last = 1 + seed / 3 % 6;
+    let first = 1 + seed / 18 % 4;
+    let second = 1 + seed / 72 % 4;
+    let keys = match seed % 3 {
+        0 => 1 + 256 * last,
+        1 => 2 + 256 * first + 65536 * last,
+        _ => 3 + 256 * first + 65536 * second + 16777216 * last,
+    };
+    std::num::wrapping_add_u64(keys, SOURCE * random_source(seed / 288, n))
 }
 
-// A worksheet as far as its chains. Returns the seed.
-fn random_table(table: &mut File, shape: Shape, seed: u64) -> u64 {
-    let count = shape.paths;
-    let a = put_start(table, 0x57);
-    let b = put(table, a, shape.kind);
-    let mut at = put(table, b, count);
+// A plan as far as the count of its entries; "Kind 0 has e = 1", with no reduction.
+fn random_table(table: &mut File, c: Case, seed: u64) -> Case {
+    let count = c.paths % 9;
+    let kind = c.kind % 2;
+    let mut at = put(table, 0, PLAN + SIXTH * (kind + 256 * count), 7);
     let mut s = seed;
-    let mut j: u8 = 0;
+    let mut j: u64 = 0;
     while j < count {
         s = next(s);
-        at = put_path(table, at, random_path(shape, s), true);
+        at = put(table, at, random_path(s, c.n), 6);
         j += 1;
     }
-    s
+    let mut r = c;
+    r.seed = s;
+    r.at = put(table, at, c.entries % 4 + (1 - kind), 2 - kind as usize);
+    r
 }
 
 // Mostly small, else at the end of 32 bits or anywhere.
@@ -486,347 +387,294 @@ fn random_literal(seed: u64) -> u64 {
     seed % 8 - 2
 }
 
-// Minus and divide are seldom in a mild case: less and and stand for them.
-fn random_operator(seed: u64, mild: bool) -> u8 {
-    let o = 1 + (seed % 11) as u8;
-    if !mild {
-        return o;
-    }
-    if seed / 11 % 8 == 0 {
-        return o;
-    }
-    match o {
-        4 => 8,
-        6 => 10,
-        _ => o,
-    }
-}
-
 // ---- random terms
 
-// May a term with so much depth left have so many below it?
-fn may_follow(m: Made, shape: Shape, left: u64, terms: u64) -> bool {
-    if left <= fewer(17, shape.depth) {
-        return false;
+// A term that is no operator and no literal, if there may be one: a reduction, of which a query has up to eight, an entry, or a path
+// reduction.
+fn leaf_tag(c: Case, result: bool, room: u64) -> u8 {
+    if !result {
+        return pick(c.paths == 0, 0x11, pick(c.query, 0x10, 0x30));
     }
-    terms <= m.free
+    if !c.query {
+        return pick(c.entries == 0, 0x21, 0x31);
+    }
+    if 8 <= c.reductions {
+        return 0x21;
+    }
+    pick(room == 0, 0x21, 0x20)
 }
 
-// A result term that is no operator and no literal, if there may be one.
-fn reduction_tag(m: Made, shape: Shape, left: u64) -> u8 {
-    if !shape.question {
-        return pick(shape.entries == 0, 0x21, 0x31);
-    }
-    if m.reductions < 8 {
-        return pick(may_follow(m, shape, left, 1), 0x20, 0x21);
-    }
-    0x21
-}
-
-// What the next term is: an operator in so many of eight, where it may; a literal in an eighth of the rest.
-fn random_tag(seed: u64, m: Made, shape: Shape, result: bool, left: u64) -> u8 {
-    let odds = if result { shape.joins } else { shape.odds };
-    if may_follow(m, shape, left, 2) {
-        if seed % 8 < odds {
+// What the next term is, with so much depth left: an operator in so many of eight, where it may; a literal in an eighth of the rest.
+fn random_tag(seed: u64, c: Case, result: bool, left: u64) -> u8 {
+    let room = if left == 1 { 0 } else { c.free };
+    if 2 <= room {
+        if seed % 8 < c.odds {
             return pick(result, 0x22, 0x12);
         }
     }
     if seed / 8 % 8 == 0 {
         return pick(result, 0x21, 0x11);
     }
-    if result {
-        return reduction_tag(m, shape, left);
-    }
-    if shape.paths == 0 {
-        return 0x11;
-    }
-    pick(shape.question, 0x10, 0x30)
+    leaf_tag(c, result, room)
 }
 
-// The index of a chain or an entry, a reduction or an operator, by the term's tag.
-fn random_code(seed: u64, shape: Shape, tag: u8) -> u8 {
+// A literal's number, a reduction, the index of an entry or of a path reduction, or an operator, by the term's tag.
+fn random_code(seed: u64, c: Case, tag: u8) -> u64 {
     match tag {
-        0x10 => (below(seed, wide8(shape.paths)) % 256) as u8,
-        0x30 => (below(seed, wide8(shape.paths)) % 256) as u8,
-        0x31 => (below(seed, wide8(shape.entries)) % 256) as u8,
-        0x20 => 1 + (seed % 5) as u8,
-        _ => random_operator(seed, shape.mild),
+        0x11 | 0x21 => random_literal(seed),
+        0x20 => 1 + seed % 5,
+        0x31 => below(seed, c.entries),
+        0x10 | 0x30 => below(seed, c.paths),
+        _ => wide8(OPERATORS[(seed % 16) as usize]),
     }
 }
 
-// A term without those below it; a chain is from the table.
-fn put_term(out: &mut File, at: usize, table: &File, shape: Shape, tag: u8, seed: u64) -> usize {
-    let a = put(out, at, tag);
-    let code = random_code(seed, shape, tag);
-    match tag {
-        0x10 => put_path(out, a, tabled_path(table, code), false),
-        0x11 => put32(out, a, random_literal(seed)),
-        0x21 => put32(out, a, random_literal(seed)),
-        _ => put(out, a, code),
+// A term without those below it; a path reduction is from the table.
+fn put_term(out: &mut File, table: &File, c: Case, tag: u8, seed: u64) -> usize {
+    let code = random_code(seed, c, tag) % SOURCE;
+    if tag == 0x10 {
+        let path = number_at(table, slot((code % 256) as u8), 6);
+        let a = put(
+            out,
+            c.at,
+            0x10 + 256 * (path % SOURCE),
+            2 + (path % 256) as usize,
+        );
+        return put(out, a, path / SOURCE, 2);
     }
+    let size = match tag {
+        0x11 | 0x21 => 5,
+        _ => 2,
+    };
+    put(out, c.at, wide8(tag) + 256 * code, size)
 }
 
 // One term more, with so much depth left, without those below it.
-fn put_next(out: &mut File, table: &File, shape: Shape, m: Made, result: bool, left: u64) -> Made {
-    let seed = next(m.seed);
-    let tag = random_tag(seed, m, shape, result, left);
-    Made {
-        seed,
-        at: put_term(out, m.at, table, shape, tag, seed / 64),
-        free: fewer(m.free, wide8(arity(tag))),
-        terms: count(m.terms, true),
-        chains: count(m.chains, tag % 32 == 16),
-        reductions: count(m.reductions, tag == pick(shape.question, 0x20, 0x31)),
-        least: fewer(m.least, fewer(m.least, left)),
-        tag,
-    }
+fn put_next(out: &mut File, table: &File, c: Case, result: bool, left: u64) -> Case {
+    let seed = next(c.seed);
+    let tag = random_tag(seed, c, result, left);
+    let mut r = c;
+    r.seed = seed;
+    r.at = put_term(out, table, c, tag, seed / 64);
+    r.free = fewer(c.free, wide8(arity(tag)));
+    r.terms = count(c.terms, true);
+    r.path_terms = count(c.path_terms, tag % 32 == 16);
+    r.reductions = count(c.reductions, tag == pick(c.query, 0x20, 0x31));
+    r.least = fewer(c.least, fewer(c.least, left));
+    r.tag = tag;
+    r
 }
 
 // A term and all that it contains, with so much depth left.
-fn make(out: &mut File, table: &File, shape: Shape, m: Made, result: bool, left: u64) -> Made {
+fn make(out: &mut File, table: &File, c: Case, result: bool, left: u64) -> Case {
     if left == 0 {
-        return m;
+        return c;
     }
-    let r = put_next(out, table, shape, m, result, left);
+    let r = put_next(out, table, c, result, left);
     let terms = arity(r.tag);
     if terms == 0 {
         return r;
     }
     if terms == 1 {
-        return make(out, table, shape, r, false, left - 1);
+        return make(out, table, r, false, left - 1);
     }
-    let a = make(out, table, shape, r, result, left - 1);
-    make(out, table, shape, a, result, left - 1)
+    let a = make(out, table, r, result, left - 1);
+    make(out, table, a, result, left - 1)
 }
 
-// An expression more, with its share of terms.
-fn shared(m: Made, shape: Shape, at: usize) -> Made {
-    let mut r = m;
+// An expression more, with its share of terms, behind a reduction of so many bytes: one, or none for the last.
+fn make_next(out: &mut File, table: &File, c: Case, size: usize, result: bool) -> Case {
+    let at = put(out, c.at, 1 + c.seed % 5, size);
+    let mut r = c;
     r.at = at;
-    r.free = std::num::wrapping_add_u64(m.free, shape.free);
-    r
+    r.root = at;
+    r.free = std::num::wrapping_add_u64(c.free, c.share);
+    make(out, table, r, result, c.depth)
 }
 
-fn put_head(out: &mut File, shape: Shape) -> usize {
-    if shape.question {
-        let a = put_start(out, 0x51);
-        return put(out, a, shape.kind);
+// Where the first expression goes: behind the head of a query, or where the path reductions of a plan end.
+fn put_head(out: &mut File, c: Case) -> usize {
+    if c.query {
+        return put(out, 0, QUERY + SIXTH * (c.kind % 2), 6);
     }
-    put(out, slot(shape.paths), shape.entries)
+    c.at
 }
 
-// A question, or a worksheet whose chains are written: its entries, then the root of a question or the final expression.
-fn make_file(out: &mut File, table: &File, shape: Shape, seed: u64) -> Made {
-    let count = wide8(shape.entries);
-    let mut m = Made {
-        seed,
-        at: put_head(out, shape),
-        free: 0,
-        terms: 0,
-        chains: 0,
-        reductions: 0,
-        least: 16,
-        tag: 0,
-    };
+// A query, or a plan whose path reductions are written: the entries of kind 1, then the expression whose values are asked for.
+fn make_file(out: &mut File, table: &File, c: Case) -> Case {
+    let count = c.entries % 4;
+    let mut r = c;
+    r.at = put_head(out, c);
     let mut k: u64 = 0;
     while k < count {
-        let reduction = pick(shape.kind == 0, 0, 1 + (m.seed % 5) as u8);
-        let at = put(out, m.at, reduction);
-        m = make(out, table, shape, shared(m, shape, at), false, 16);
+        r = make_next(out, table, r, 1, false);
         k += 1;
     }
-    if shape.kind == 0 {
-        if !shape.question {
-            return m;
-        }
-    }
-    make(
-        out,
-        table,
-        shape,
-        shared(m, shape, m.at),
-        shape.kind == 1,
-        16,
-    )
+    make_next(out, table, r, 0, c.kind == 1)
 }
 
 // ---- what is expected
 
-// A chain as a number: no two chains have the same.
-fn number_of(path: PathReduction) -> u64 {
-    let keys = path.keys;
-    let low = wide8(keys[0]) + 256 * wide8(keys[1]) + 65536 * wide8(keys[2]);
-    low + 16777216 * wide(path.source)
+const EQUAL: u8 = 0;
+
+const NO_VERTEX: u8 = 1;
+
+const CHANGED: u8 = 2;
+
+// Is a path reduction the number x, has it a source that is none of the n vertices, or do walks of one edge more than x change a figure?
+fn is_so(test: u8, path: u64, x: u64, rows: &Rows, n: u16) -> bool {
+    if test == EQUAL {
+        return path == x;
+    }
+    if test == CHANGED {
+        return !walked::unchanged(rows, n, path_of(path), x as usize);
+    }
+    let source = path / SOURCE;
+    if source == ANYWHERE {
+        return false;
+    }
+    wide(n) <= source
 }
 
-// With a chain, if it is not there.
-fn with_path(table: File, path: PathReduction) -> File {
-    let count = byte(&table, 6);
+// Is it so of a path reduction of the plan?
+fn any(table: &File, test: u8, x: u64, rows: &Rows, n: u16) -> bool {
+    let count = byte(table, 6);
     let mut j: u8 = 0;
     while j < count {
-        if number_of(tabled_path(&table, j)) == number_of(path) {
-            return table;
+        if is_so(test, number_at(table, slot(j), 6), x, rows, n) {
+            return true;
         }
         j += 1;
     }
+    false
+}
+
+// With the path reduction of a term of a query, if it is not there.
+fn with_path(table: File, q: &File, at: usize, rows: &Rows) -> File {
+    let path = path_at(q, plus(at, 1));
+    if byte(q, at) != 0x10 {
+        return table;
+    }
+    if any(&table, EQUAL, path, rows, 0) {
+        return table;
+    }
+    let count = byte(&table, 6);
     let mut r = table;
-    put_path(&mut r, slot(count), path, true);
-    put(&mut r, 6, std::num::wrapping_add_u8(count, 1));
+    put(&mut r, slot(count), path, 6);
+    put(&mut r, 6, wide8(count) + 1, 1);
     r
 }
 
-// A worksheet as far as its chains: as it is written, or for a question from term to term. "Fusing puts equal chains together, in order
-// of first writing".
-fn gathered(sheet: File, shape: Shape, q: &File, len: usize) -> File {
-    if !shape.question {
-        return sheet;
+// A plan as far as its path reductions: as it is written, or for a query from term to term. "Fusing puts equal chains together, in
+// order of first writing".
+fn gathered(table: File, c: Case, q: &File, rows: &Rows) -> File {
+    if !c.query {
+        return table;
     }
-    let mut table = [0u8; 560];
-    let a = put_start(&mut table, 0x57);
-    put(&mut table, a, shape.kind);
+    let mut r = [0u8; 560];
+    put(&mut r, 0, PLAN + SIXTH * (c.kind % 2), 6);
+    let count = c.terms % 65;
     let mut at: usize = 6;
-    let mut i: usize = 0;
-    while i < 64 {
-        if len <= at {
-            return table;
-        }
-        if byte(q, at) == 0x10 {
-            table = with_path(table, path_at(q, plus(at, 1), byte(q, plus(at, 1))));
-        }
+    let mut i: u64 = 0;
+    while i < count {
+        r = with_path(r, q, at, rows);
         at = plus(at, term_size(q, at));
         i += 1;
     }
-    table
+    r
 }
 
-// The value of a chain or a literal at a vertex.
-fn leaf(q: &File, at: usize, rows: &[u16], vertex: u16, most: u16) -> Value {
-    let code = byte(q, plus(at, 1));
+// The value of a path reduction or a literal at a vertex.
+fn leaf(q: &File, at: usize, rows: &Rows, vertex: usize, most: u16) -> Value {
+    let a = plus(at, 1);
     let path = match byte(q, at) {
-        0x10 => path_at(q, plus(at, 1), code),
-        0x30 => tabled_path(q, code),
+        0x10 => path_at(q, a),
+        0x30 => number_at(q, slot(byte(q, a)), 6),
         _ => {
-            let low = word(q, plus(at, 1));
-            return Value::Number(low + 65536 * word(q, plus(at, 3)));
+            return Value::Number(number_at(q, a, 4));
         }
     };
-    walked::value_at(rows, path, vertex, most as usize)
+    walked::value_at(rows, path_of(path), (vertex % 4) as u16, most as usize)
 }
 
 // Where the entry starts that a term is or names: behind the byte of a reduction, or at its index; 0 for any other term.
 fn entry_of(q: &File, at: usize) -> usize {
+    let a = plus(at, 1);
     match byte(q, at) {
-        0x20 => plus(at, 1),
-        0x31 => behind(q, plus(slot(byte(q, 6)), 1), byte(q, plus(at, 1))),
+        0x20 => a,
+        0x31 => behind(q, plus(slot(byte(q, 6)), 1), byte(q, a)),
         _ => 0,
     }
 }
 
 // The value of a term at a vertex of n, over walks of at most so many edges: "an operator joins the values of its two terms, at the same
-// place in a place term; a reduction goes over all n places". An entry of a worksheet is worked out where it is named.
-fn worth(q: &File, at: usize, rows: &[u16], n: u16, vertex: u16, most: u16, left: u64) -> Value {
+// place in a place term; a reduction goes over all n places". An entry of a plan is worked out where it is named.
+fn worth(q: &File, at: usize, rows: &Rows, n: usize, vertex: usize, most: u16, left: u64) -> Value {
     if left == 0 {
         return Value::Absent;
     }
+    let a = plus(at, 2);
     if arity(byte(q, at)) == 2 {
-        let x = worth(q, plus(at, 2), rows, n, vertex, most, left - 1);
-        let y = worth(
-            q,
-            behind(q, plus(at, 2), 1),
-            rows,
-            n,
-            vertex,
-            most,
-            left - 1,
-        );
+        let x = worth(q, a, rows, n, vertex, most, left - 1);
+        let y = worth(q, behind(q, a, 1), rows, n, vertex, most, left - 1);
         return value::operate_on(byte(q, plus(at, 1)), x, y);
     }
     let entry = entry_of(q, at);
     if entry == 0 {
         return leaf(q, at, rows, vertex, most);
     }
-    let absent = Row {
+    let mut found = [Row {
         value: Value::Absent,
-    };
-    let mut found = [absent; 256];
+    }; 256];
     let count = lesser(n, 4);
-    let mut v: u16 = 0;
+    let mut v: usize = 0;
     while v < count {
         let x = worth(q, plus(entry, 1), rows, n, v, most, left - 1);
-        found[v as usize] = Row { value: x };
+        found[v] = Row { value: x };
         v += 1;
     }
-    value::reduce_rows(byte(q, entry), found, count as usize)
-}
-
-// Where the term starts whose values are asked for.
-fn root_of(q: &File, shape: Shape) -> usize {
-    if shape.question {
-        return 6;
-    }
-    let at = slot(byte(q, 6));
-    if shape.kind == 0 {
-        return plus(at, 2);
-    }
-    behind(q, plus(at, 1), byte(q, at))
+    value::reduce_rows(byte(q, entry), found, count)
 }
 
 // "n rows for kind 0 or one row for kind 1"
-fn row_count(kind: u8, n: u16) -> u16
-    ensures { λ r. ⌜ (1 ≤ r) × (r ≤ 4) ⌝ }
+fn row_count(c: Case) -> usize
+    ensures { λ r. ⌜ r ≤ 4 ⌝ }
 {
-    if kind != 0 {
+    if c.kind != 0 {
         return 1;
     }
-    match n {
-        1 => 1,
-        2 => 2,
-        3 => 3,
-        _ => 4,
-    }
+    lesser(c.n as usize, 4)
 }
 
 // The buffer after a run: the answer over walks of at most so many edges, or nothing where it is refused.
-fn wanted(code: u32, shape: Shape, rounds: u16, most: u16, q: &File, rows: &[u16]) -> File {
+fn wanted(code: u32, c: Case, rounds: u16, most: u16, q: &File, rows: &Rows) -> File {
     let mut out = [FILL; 560];
     if 65536 <= code {
         return out;
     }
-    let a = put_start(&mut out, 0x41);
-    let b = put16(&mut out, a, wide(shape.n));
-    let c = put16(&mut out, b, wide(rounds));
-    let mut at = put(&mut out, c, shape.kind);
-    let root = root_of(q, shape);
-    let count = row_count(shape.kind, shape.n);
-    let mut v: u16 = 0;
+    put(&mut out, 0, ANSWER, 5);
+    let mut at = put(
+        &mut out,
+        5,
+        wide(c.n) + 65536 * wide(rounds) + SOURCE * (c.kind % 2),
+        5,
+    );
+    let count = row_count(c);
+    let mut v: usize = 0;
     while v < count {
-        let x = worth(q, root, rows, shape.n, v, most, 40);
+        let x = worth(q, c.root, rows, c.n as usize, v, most, 40);
         at = put_row(&mut out, at, x);
         v += 1;
     }
     out
 }
 
-// Whether walks of one edge more than `before` change no figure of any chain.
-fn all_unchanged(rows: &[u16], n: u16, table: &File, before: u16) -> bool {
-    let count = byte(table, 6);
-    let mut j: u8 = 0;
-    while j < count {
-        if !walked::unchanged(rows, n, tabled_path(table, j), before as usize) {
-            return false;
-        }
-        j += 1;
-    }
-    true
-}
-
 // "the smallest r, one or more, for which each figure of each chain at each place is the same over walks of at most r passages as
 // over walks of at most r - 1"; 0, which no run reports, if there is none up to 2n.
-fn rounds_of(rows: &[u16], n: u16, table: &File) -> u16 {
-    let most = 2 * lesser(n, 4);
+fn rounds_of(table: &File, rows: &Rows, n: u16, most: u16) -> u16 {
     let mut r: u16 = 0;
     while r < most {
-        if all_unchanged(rows, n, table, r) {
+        if !any(table, CHANGED, wide(r), rows, n) {
             return r + 1;
         }
         r += 1;
@@ -834,37 +682,11 @@ fn rounds_of(rows: &[u16], n: u16, table: &File) -> u16 {
     0
 }
 
-// Is there a source that is no vertex?
-fn bad_source(table: &File, n: u16) -> bool {
-    let count = byte(table, 6);
-    let mut j: u8 = 0;
-    while j < count {
-        let path = tabled_path(table, j);
-        if path.source != ANYWHERE {
-            if n <= path.source {
-                return true;
-            }
-        }
-        j += 1;
-    }
-    false
-}
-
-// Seldom a byte short, else up to three bytes more than the answer takes.
-fn random_lent(seed: u64, size: usize) -> usize
-    requires { ⌜ (19 ≤ size) × (size ≤ 46) ⌝ }
-{
-    if seed % 16 == 0 {
-        return size - 1;
-    }
-    size + (seed % 4) as usize
-}
-
 // 13 comes before 15.
-fn expected_code(table: &File, n: u16, size: usize, lent: usize) -> u32
+fn expected_code(table: &File, rows: &Rows, n: u16, size: usize, lent: usize) -> u32
     requires { ⌜ size ≤ 46 ⌝ }
 {
-    if bad_source(table, n) {
+    if any(table, NO_VERTEX, 0, rows, n) {
         return 65549;
     }
     if lent < size {
@@ -873,32 +695,34 @@ fn expected_code(table: &File, n: u16, size: usize, lent: usize) -> u32
     size as u32
 }
 
-// What the runs of a file of so many bytes should return.
-fn expect(shape: Shape, rows: &[u16], table: &File, len: usize, seed: u64) -> Expected {
-    let size = 10 + 9 * row_count(shape.kind, shape.n) as usize;
-    let lent = random_lent(seed, size);
+// What the runs of a file should return. Seldom a byte less is lent than the answer takes, else up to three bytes more.
+fn expect(c: Case, graph: &File, rows: &Rows, table: &File) -> Expected {
+    let size = 10 + 9 * row_count(c);
+    let lent = size - 1 + lesser((c.seed % 16) as usize, 4);
     Expected {
-        code: expected_code(table, shape.n, size, lent),
-        file: len,
-        map: 9 + 2 * edge_numbers(shape),
+        code: expected_code(table, rows, c.n, size, lent),
+        file: c.at,
+        graph: 9 + 8 * byte(graph, 7) as usize,
         lent,
-        rounds: rounds_of(rows, shape.n, table),
-        stop: below(seed / 16, 2 * wide(shape.n) + 1),
+        rounds: rounds_of(table, rows, c.n, c.most),
+        stop: below(c.seed / 16, wide(c.most) + 1) as u16,
     }
 }
 
 // ---- calls
 
+const PULL: u8 = 0;
+
 const FUSE: u8 = 4;
 
 const JUDGE: u8 = 5;
 
-fn run(call: u8, rounds: u16, file: &[u8], map: &[u8], out: &mut [u8]) -> u32 {
+fn run(call: u8, rounds: u16, file: &[u8], graph: &[u8], out: &mut [u8]) -> u32 {
     match call {
-        0 => engine::pull(file, map, Limit::Quiet, out),
-        1 => engine::push(file, map, Limit::Quiet, out),
-        2 => engine::pull(file, map, Limit::Rounds(rounds), out),
-        3 => engine::push(file, map, Limit::Rounds(rounds), out),
+        0 => engine::pull(file, graph, Limit::Quiet, out),
+        1 => engine::push(file, graph, Limit::Quiet, out),
+        2 => engine::pull(file, graph, Limit::Rounds(rounds), out),
+        3 => engine::push(file, graph, Limit::Rounds(rounds), out),
         4 => fusion::fuse(file, out),
         _ => plan::judge(file) as u32,
     }
@@ -911,143 +735,107 @@ struct Ran {
 }
 
 // The files are cut to what was written, and the first bytes of a buffer are lent.
-fn lend(call: u8, e: Expected, file: File, map: File) -> Ran {
-    let p = e.file;
-    let m = e.map;
-    let lent = e.lent;
-    let mut code = WRONG;
+fn lend(call: u8, e: Expected, file: File, graph: File) -> Ran {
+    let p = lesser(e.file, 560);
+    let g = lesser(e.graph, 560);
+    let lent = lesser(e.lent, 560);
     let mut out = [FILL; 560];
-    if p <= 560 {
-        if m <= 560 {
-            if lent <= 560 {
-                code = run(call, e.stop, &file[..p], &map[..m], &mut out[..lent]);
-            }
-        }
-    }
+    let code = run(call, e.stop, &file[..p], &graph[..g], &mut out[..lent]);
     Ran { code, out }
 }
 
-// Are the first bytes the same?
-fn same(x: &File, y: &File, len: usize) -> bool {
+// Do the first bytes differ? 1 where they do.
+fn differ(x: &File, y: &File, len: usize) -> u64
+    ensures { λ r. ⌜ r ≤ 1 ⌝ }
+{
     let mut i: usize = 0;
     while i < len {
         if byte(x, i) != byte(y, i) {
-            return false;
+            return 1;
         }
         i += 1;
     }
-    true
+    0
 }
 
 // 1 where a call returns something else, or leaves other bytes.
-fn differs(call: u8, e: Expected, file: File, map: File, want: File) -> u64
+fn differs(call: u8, e: Expected, file: File, graph: File, want: File) -> u64
     ensures { λ r. ⌜ r ≤ 1 ⌝ }
 {
-    let ran = lend(call, e, file, map);
+    let ran = lend(call, e, file, graph);
     if ran.code != e.code {
         return 1;
     }
     let out = ran.out;
-    if same(&out, &want, 560) {
-        return 0;
-    }
-    1
+    differ(&out, &want, 560)
 }
 
 // How many of the four runs differ.
-fn runs_differ(e: Expected, file: File, map: File, free: File, stopped: File) -> u64
+fn runs_differ(e: Expected, file: File, graph: File, whole: File, stopped: File) -> u64
     ensures { λ r. ⌜ r ≤ 4 ⌝ }
 {
-    let a = differs(0, e, file, map, free);
-    let b = differs(1, e, file, map, free);
-    let c = differs(2, e, file, map, stopped);
-    let d = differs(3, e, file, map, stopped);
+    let a = differs(PULL, e, file, graph, whole);
+    let b = differs(1, e, file, graph, whole);
+    let c = differs(2, e, file, graph, stopped);
+    let d = differs(3, e, file, graph, stopped);
     a + b + c + d
 }
 
-// A call with other lengths that should return something else.
-fn expecting(e: Expected, code: u32, file: usize, lent: usize) -> Expected {
-    let mut r = e;
-    r.code = code;
-    r.file = file;
-    r.lent = lent;
-    r
-}
-
-// A question is fused: into a long buffer, into one as long as the worksheet, into one a byte short. The worksheet starts as gathered,
-// and is run.
-fn fused_differ(e: Expected, q: File, table: File, map: File, free: File, stopped: File) -> u64 {
-    let ran = lend(FUSE, expecting(e, 0, e.file, 560), q, map);
-    let code = ran.code;
-    let sheet = ran.out;
-    if 560 < code {
-        return 1;
-    }
-    if code == 0 {
-        return 1;
-    }
-    if !same(&sheet, &table, slot(byte(&table, 6))) {
-        return 1;
-    }
-    let p = code as usize;
-    let a = differs(FUSE, expecting(e, code, e.file, p), q, map, sheet);
-    let blank = [FILL; 560];
-    let b = differs(FUSE, expecting(e, 65551, e.file, p - 1), q, map, blank);
-    a + b + runs_differ(expecting(e, e.code, p, e.lent), sheet, map, free, stopped)
+// A query is fused: into a long buffer, into one as long as the plan, into one a byte short. The plan starts as gathered, and is run.
+fn fused_differ(e: Expected, q: File, table: File, graph: File, whole: File, stopped: File) -> u64 {
+    let mut f = e;
+    f.lent = 560;
+    let ran = lend(FUSE, f, q, graph);
+    let made = ran.out;
+    let size = ran.code as usize;
+    let a = differ(&made, &table, slot(byte(&table, 6)));
+    f.code = ran.code;
+    f.lent = size;
+    let b = differs(FUSE, f, q, graph, made);
+    f.code = 65551;
+    f.lent = fewer(size as u64, 1) as usize;
+    let c = differs(FUSE, f, q, graph, [FILL; 560]);
+    let mut g = e;
+    g.file = size;
+    a + b + c + runs_differ(g, made, graph, whole, stopped)
 }
 
 // ---- damaged files
 
 // A quarter are cut, the rest have a byte changed, half of these by 1. Returns the length.
-fn damage(text: &mut File, len: usize, seed: u64) -> usize {
+fn damage(file: &mut File, len: usize, seed: u64) -> usize {
     let i = below(seed, len as u64) as usize;
     let s = next(seed);
     if s % 4 == 0 {
         return i;
     }
-    if i < 560 {
-        let by = pick(s % 8 < 4, 1, (s / 8 % 256) as u8);
-        text[i] = std::num::wrapping_add_u8(text[i], by);
-    }
+    let by = 1 + below(s / 8, 1 + s / 4 % 2 * 254);
+    put(file, i, wide8(byte(file, i)) + by, 1);
     len
 }
 
-const REFUSED: u8 = 0;
-
-const READ: u8 = 1;
-
-const DIFFERS: u8 = 2;
-
-// Refused by a number (up to 14 for a question, up to 16 for a worksheet), with the buffer as it was; or fused to a worksheet, or run
-// as one, that its reader takes.
-fn outcome(e: Expected, question: bool, text: File, map: File) -> u8 {
-    let ran = lend(pick(question, FUSE, 0), e, text, map);
+// 1 where a refusal is by no number of those that may be (up to 14 for a query, up to 16 for a plan) or changes the buffer; or where the
+// reader of plans does not take what was fused or run.
+fn damaged_differ(e: Expected, query: bool, ran: Ran, file: File, graph: File) -> u64 {
     let code = ran.code;
     let out = ran.out;
-    if code < 65536 {
-        let sheet = if question { out } else { text };
-        let len = if question { code as usize } else { e.file };
-        let read = lend(JUDGE, expecting(e, 0, len, 560), sheet, map);
-        return pick(read.code == 0, READ, DIFFERS);
-    }
-    if code == 65536 {
-        return DIFFERS;
-    }
-    let most = if question { 65550 } else { 65552 };
-    if most < code {
-        return DIFFERS;
-    }
     let blank = [FILL; 560];
-    pick(same(&out, &blank, 560), REFUSED, DIFFERS)
+    if 65536 <= code {
+        let most = if query { 14 } else { 16 };
+        if most <= std::num::wrapping_sub_u32(code, 65537) {
+            return 1;
+        }
+        return differ(&out, &blank, 560);
+    }
+    if !query {
+        return differs(JUDGE, e, file, graph, blank);
+    }
+    let mut f = e;
+    f.file = code as usize;
+    differs(JUDGE, f, out, graph, blank)
 }
 
 // ---- counts
-
-fn line(name: &[u8], value: u64) {
-    io::write_all(OUT, name);
-    io::print_decimal(OUT, value);
-    io::write_all(OUT, b"\n");
-}
 
 // The first cases that differ are named.
 fn with_differences(score: Score, differences: u64) -> Score {
@@ -1056,98 +844,79 @@ fn with_differences(score: Score, differences: u64) -> Score {
         return r;
     }
     if score.differences < 10 {
-        line(b"differs in case ", score.cases);
+        line(
+            b"\ndiffers in case, by so many calls, after so many, seed",
+            [score.cases, differences, score.differences, score.seed],
+        );
     }
     r.differences = std::num::wrapping_add_u64(score.differences, differences);
     r
 }
 
-// What the file of a case is like, with so many different chains, and its answer, whose first row starts with the byte `first`.
-fn scored(score: Score, n: u16, m: Made, e: Expected, chains: u8, first: u8) -> Score {
+// What the file of a case is like, with so many different path reductions, and its answer, whose first row starts with the byte `first`.
+fn scored(score: Score, c: Case, e: Expected, paths: u8, first: u8) -> Score {
     let mut r = score;
     r.refused = count(score.refused, 65536 <= e.code);
     r.numbers = count(score.numbers, first == 1);
-    r.long = count(score.long, n < e.rounds);
-    r.shared = count(score.shared, wide8(chains) < m.chains);
-    r.several = count(score.several, 1 < m.reductions);
-    r.full = count(score.full, m.terms == 64);
-    r.deep = count(score.deep, m.least == 1);
+    r.long = count(score.long, c.n < e.rounds);
+    r.shared = count(score.shared, wide8(paths) < c.path_terms);
+    r.several = count(score.several, 1 < c.reductions);
+    r.eight = count(score.eight, paths == 8);
+    r.full = count(score.full, c.terms == 64);
+    r.deep = count(score.deep, c.least == fewer(17, c.depth));
     r
 }
 
-fn try_file(
-    score: Score,
-    shape: Shape,
-    m: Made,
-    rows: &[u16],
-    table: File,
-    text: File,
-    map: File,
-) -> Score {
-    let e = expect(shape, rows, &table, m.at, score.seed);
-    let free = wanted(e.code, shape, e.rounds, 2 * lesser(shape.n, 4), &text, rows);
-    let stopped = wanted(e.code, shape, e.stop, e.stop, &text, rows);
-    let r = scored(score, shape.n, m, e, table[6], free[10]);
-    if shape.question {
-        return with_differences(r, fused_differ(e, text, table, map, free, stopped));
+fn try_file(score: Score, c: Case, rows: &Rows, table: File, file: File, graph: File) -> Score {
+    let e = expect(c, &graph, rows, &table);
+    let whole = wanted(e.code, c, e.rounds, c.most, &file, rows);
+    let stopped = wanted(e.code, c, e.stop, e.stop, &file, rows);
+    let r = scored(score, c, e, table[6], whole[10]);
+    if c.query {
+        return with_differences(r, fused_differ(e, file, table, graph, whole, stopped));
     }
-    with_differences(r, runs_differ(e, text, map, free, stopped))
-}
-
-// The rows are cut to what was written.
-fn try_rows(
-    score: Score,
-    shape: Shape,
-    m: Made,
-    rows: [u16; 24],
-    table: File,
-    text: File,
-    map: File,
-) -> Score {
-    let used = edge_numbers(shape);
-    try_file(score, shape, m, &rows[..used], table, text, map)
+    with_differences(r, runs_differ(e, file, graph, whole, stopped))
 }
 
 // A damaged file, of so many bytes.
-fn try_damaged(score: Score, shape: Shape, len: usize, text: File, map: File) -> Score {
+fn try_damaged(score: Score, query: bool, len: usize, file: File, graph: File) -> Score {
     let e = Expected {
         code: 0,
         file: len,
-        map: 9 + 2 * edge_numbers(shape),
+        graph: 9 + 8 * byte(&graph, 7) as usize,
         lent: 560,
         rounds: 0,
         stop: 0,
     };
-    let found = outcome(e, shape.question, text, map);
+    let ran = lend(pick(query, FUSE, PULL), e, file, graph);
     let mut r = score;
     r.damaged = count(score.damaged, true);
-    r.refused = count(score.refused, found == REFUSED);
-    r.read = count(score.read, found == READ);
-    with_differences(r, wide8(found) / 2)
+    r.refused = count(score.refused, 65536 <= ran.code);
+    r.read = count(score.read, ran.code < 65536);
+    with_differences(r, damaged_differ(e, query, ran, file, graph))
 }
 
 // An eighth of the files are damaged.
-fn try_case(score: Score, question: bool) -> Score {
-    let mut map = [0u8; 560];
-    let mut rows = [0u16; 24];
+fn try_case(score: Score, query: bool) -> Score {
+    let mut graph = [0u8; 560];
+    let mut rows = [65535u16; 24];
     let mut table = [0u8; 560];
-    let shape = random_shape(score.seed, question);
-    let a = random_map(&mut map, &mut rows, shape, next(score.seed / 3));
-    let b = random_table(&mut table, shape, a);
-    let mut text = table;
-    let m = make_file(&mut text, &table, shape, b);
+    let blank = random_case(score.seed, query);
+    let seed = random_graph(&mut graph, &mut rows, blank.n, blank.seed);
+    let begun = random_table(&mut table, blank, seed);
+    let mut file = table;
+    let c = make_file(&mut file, &table, begun);
     let mut r = score;
-    r.seed = next(m.seed);
+    r.seed = next(c.seed);
     r.cases = count(score.cases, true);
     if r.seed / 8 % 8 == 0 {
-        let len = damage(&mut text, m.at, r.seed);
-        return try_damaged(r, shape, len, text, map);
+        let len = damage(&mut file, c.at, r.seed);
+        return try_damaged(r, query, len, file, graph);
     }
-    let chains = gathered(table, shape, &text, m.at);
-    try_rows(r, shape, m, rows, chains, text, map)
+    try_file(r, c, &rows, gathered(table, c, &file, &rows), file, graph)
 }
 
-fn try_all(question: bool) -> Score {
+fn try_all(query: bool) -> Score {
     let mut score = Score {
         seed: SEED,
         cases: 0,
@@ -1158,35 +927,53 @@ fn try_all(question: bool) -> Score {
         long: 0,
         shared: 0,
         several: 0,
+        eight: 0,
         full: 0,
         deep: 0,
         differences: 0,
     };
     let mut i: u64 = 0;
     while i < CASES {
-        score = try_case(score, question);
+        score = try_case(score, query);
         i += 1;
     }
     score
 }
 
+fn number(x: u64) {
+    io::write_all(OUT, b" ");
+    io::print_decimal(OUT, x);
+}
+
+// A name, which starts a line, and four numbers.
+fn line(name: &[u8], counts: [u64; 4]) {
+    io::write_all(OUT, name);
+    let mut i: usize = 0;
+    while i < 4 {
+        number(counts[i]);
+        i += 1;
+    }
+}
+
 fn print(score: Score) {
-    line(b"cases ", score.cases);
-    line(b"refused ", score.refused);
-    line(b"damaged ", score.damaged);
-    line(b"damaged and read ", score.read);
-    line(b"a number in the first row ", score.numbers);
-    line(b"more rounds than places ", score.long);
-    line(b"more chain terms than chains ", score.shared);
-    line(b"two reductions or more ", score.several);
-    line(b"of 64 terms ", score.full);
-    line(b"of depth 16 ", score.deep);
-    line(b"differences ", score.differences);
+    line(
+        b"\ncases, refused, damaged, damaged and read:",
+        [score.cases, score.refused, score.damaged, score.read],
+    );
+    line(
+        b"\na number in the first row, more rounds than places, more chain terms than chains, eight chains:",
+        [score.numbers, score.long, score.shared, score.eight],
+    );
+    line(
+        b"\ntwo reductions or more, 64 terms, depth 16, calls that differ:",
+        [score.several, score.full, score.deep, score.differences],
+    );
 }
 
 fn main() {
-    io::write_all(OUT, b"worksheets\n");
+    io::write_all(OUT, b"worksheets");
     print(try_all(false));
-    io::write_all(OUT, b"questions\n");
+    io::write_all(OUT, b"\nquestions");
     print(try_all(true));
+    io::write_all(OUT, b"\n");
 }

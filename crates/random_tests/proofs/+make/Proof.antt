@@ -12,7 +12,7 @@ use Rattle.random_tests.proofs.+make.{statement}
 use Rattle.random_tests.proofs.+make.Tie.{close}
 
 abbrev μ-make : Measures 2 make-kinds.ps ℕ
-μ-make κs a = a .1 .1 .1 .1 .1 .0
+μ-make κs a = a .1 .1 .1 .1 .0
 
 abbrev make-at : ℕ → In 2 make-kinds.ps
 make-at t = and 2 make-kinds.ps (is 2 make-kinds.ps μ-make t) make.Pre

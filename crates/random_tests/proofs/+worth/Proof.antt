@@ -29,18 +29,18 @@ abbrev worth-below : ℕ → In 2 worth-kinds.ps
 worth-below t = and 2 worth-kinds.ps (falls 2 worth-kinds.ps _<_ μ-worth t) worth.Pre
 
 abbrev worth-Inv-loop : worth-lts.InvT-loop
-worth-Inv-loop q at rows n vertex most left entry found₀ count v₀ found v = (v ≤ count) × (count ≤ 4)
+worth-Inv-loop q at rows n vertex most left a entry found₀ count v₀ found v = (v ≤ count) × (count ≤ 4)
 
 abbrev worth-μ-loop : worth-lts.MeasureT-loop
-worth-μ-loop q at rows n vertex most left entry found₀ count v₀ found v = count - v
+worth-μ-loop q at rows n vertex most left a entry found₀ count v₀ found v = count - v
 
 worth-returns : (t : ℕ) → worth-lts.Need-returns (
+  plus-reads.Asked,
+  plus-reads.Learnt,
   byte-reads.Asked,
   byte-reads.Learnt,
   arity-reads.Asked,
   arity-reads.Learnt,
-  plus-reads.Asked,
-  plus-reads.Learnt,
   worth-below t,
   worth.Post,
   behind-reads.Asked,
@@ -58,13 +58,37 @@ worth-returns : (t : ℕ) → worth-lts.Need-returns (
 ) (worth-at t) worth.Post worth-Inv-loop worth-μ-loop
 worth-returns t c = search needs
 
-worth-byte-requires : (t : ℕ) → worth-lts.Need-byte-requires (
+worth-plus-requires : (t : ℕ) → worth-lts.Need-plus-requires (
+  plus-reads.Asked,
+  plus-reads.Learnt,
   byte-reads.Asked,
   byte-reads.Learnt,
   arity-reads.Asked,
   arity-reads.Learnt,
+  worth-below t,
+  worth.Post,
+  behind-reads.Asked,
+  behind-reads.Learnt,
+  operate-on-reads.Asked,
+  operate-on-reads.Learnt,
+  entry-of-reads.Asked,
+  entry-of-reads.Learnt,
+  leaf-reads.Asked,
+  leaf-reads.Learnt,
+  lesser-reads.Asked,
+  lesser-reads.Learnt,
+  reduce-rows-reads.Asked,
+  reduce-rows-reads.Learnt,
+) (worth-at t) worth.Post worth-Inv-loop worth-μ-loop
+worth-plus-requires t c κs = search needs
+
+worth-byte-requires : (t : ℕ) → worth-lts.Need-byte-requires (
   plus-reads.Asked,
   plus-reads.Learnt,
+  byte-reads.Asked,
+  byte-reads.Learnt,
+  arity-reads.Asked,
+  arity-reads.Learnt,
   worth-below t,
   worth.Post,
   behind-reads.Asked,
@@ -83,12 +107,12 @@ worth-byte-requires : (t : ℕ) → worth-lts.Need-byte-requires (
 worth-byte-requires t c κs = search needs
 
 worth-arity-requires : (t : ℕ) → worth-lts.Need-arity-requires (
+  plus-reads.Asked,
+  plus-reads.Learnt,
   byte-reads.Asked,
   byte-reads.Learnt,
   arity-reads.Asked,
   arity-reads.Learnt,
-  plus-reads.Asked,
-  plus-reads.Learnt,
   worth-below t,
   worth.Post,
   behind-reads.Asked,
@@ -106,37 +130,13 @@ worth-arity-requires : (t : ℕ) → worth-lts.Need-arity-requires (
 ) (worth-at t) worth.Post worth-Inv-loop worth-μ-loop
 worth-arity-requires t c κs = search needs
 
-worth-plus-requires : (t : ℕ) → worth-lts.Need-plus-requires (
-  byte-reads.Asked,
-  byte-reads.Learnt,
-  arity-reads.Asked,
-  arity-reads.Learnt,
-  plus-reads.Asked,
-  plus-reads.Learnt,
-  worth-below t,
-  worth.Post,
-  behind-reads.Asked,
-  behind-reads.Learnt,
-  operate-on-reads.Asked,
-  operate-on-reads.Learnt,
-  entry-of-reads.Asked,
-  entry-of-reads.Learnt,
-  leaf-reads.Asked,
-  leaf-reads.Learnt,
-  lesser-reads.Asked,
-  lesser-reads.Learnt,
-  reduce-rows-reads.Asked,
-  reduce-rows-reads.Learnt,
-) (worth-at t) worth.Post worth-Inv-loop worth-μ-loop
-worth-plus-requires t c κs = search needs
-
 worth-sub-worth : (t : ℕ) → worth-lts.Need-sub-worth (
+  plus-reads.Asked,
+  plus-reads.Learnt,
   byte-reads.Asked,
   byte-reads.Learnt,
   arity-reads.Asked,
   arity-reads.Learnt,
-  plus-reads.Asked,
-  plus-reads.Learnt,
   worth-below t,
   worth.Post,
   behind-reads.Asked,
@@ -155,12 +155,12 @@ worth-sub-worth : (t : ℕ) → worth-lts.Need-sub-worth (
 worth-sub-worth t c = search needs
 
 worth-worth-requires : (t : ℕ) → worth-lts.Need-worth-requires (
+  plus-reads.Asked,
+  plus-reads.Learnt,
   byte-reads.Asked,
   byte-reads.Learnt,
   arity-reads.Asked,
   arity-reads.Learnt,
-  plus-reads.Asked,
-  plus-reads.Learnt,
   worth-below t,
   worth.Post,
   behind-reads.Asked,
@@ -178,37 +178,13 @@ worth-worth-requires : (t : ℕ) → worth-lts.Need-worth-requires (
 ) (worth-at t) worth.Post worth-Inv-loop worth-μ-loop
 worth-worth-requires t c κs = search needs
 
-worth-plus-requires-2 : (t : ℕ) → worth-lts.Need-plus-requires-2 (
-  byte-reads.Asked,
-  byte-reads.Learnt,
-  arity-reads.Asked,
-  arity-reads.Learnt,
-  plus-reads.Asked,
-  plus-reads.Learnt,
-  worth-below t,
-  worth.Post,
-  behind-reads.Asked,
-  behind-reads.Learnt,
-  operate-on-reads.Asked,
-  operate-on-reads.Learnt,
-  entry-of-reads.Asked,
-  entry-of-reads.Learnt,
-  leaf-reads.Asked,
-  leaf-reads.Learnt,
-  lesser-reads.Asked,
-  lesser-reads.Learnt,
-  reduce-rows-reads.Asked,
-  reduce-rows-reads.Learnt,
-) (worth-at t) worth.Post worth-Inv-loop worth-μ-loop
-worth-plus-requires-2 t c κs = search needs
-
 worth-behind-requires : (t : ℕ) → worth-lts.Need-behind-requires (
+  plus-reads.Asked,
+  plus-reads.Learnt,
   byte-reads.Asked,
   byte-reads.Learnt,
   arity-reads.Asked,
   arity-reads.Learnt,
-  plus-reads.Asked,
-  plus-reads.Learnt,
   worth-below t,
   worth.Post,
   behind-reads.Asked,
@@ -227,12 +203,12 @@ worth-behind-requires : (t : ℕ) → worth-lts.Need-behind-requires (
 worth-behind-requires t c κs = search needs
 
 worth-sub-worth-2 : (t : ℕ) → worth-lts.Need-sub-worth-2 (
+  plus-reads.Asked,
+  plus-reads.Learnt,
   byte-reads.Asked,
   byte-reads.Learnt,
   arity-reads.Asked,
   arity-reads.Learnt,
-  plus-reads.Asked,
-  plus-reads.Learnt,
   worth-below t,
   worth.Post,
   behind-reads.Asked,
@@ -251,12 +227,12 @@ worth-sub-worth-2 : (t : ℕ) → worth-lts.Need-sub-worth-2 (
 worth-sub-worth-2 t c = search needs
 
 worth-worth-requires-2 : (t : ℕ) → worth-lts.Need-worth-requires-2 (
+  plus-reads.Asked,
+  plus-reads.Learnt,
   byte-reads.Asked,
   byte-reads.Learnt,
   arity-reads.Asked,
   arity-reads.Learnt,
-  plus-reads.Asked,
-  plus-reads.Learnt,
   worth-below t,
   worth.Post,
   behind-reads.Asked,
@@ -274,13 +250,13 @@ worth-worth-requires-2 : (t : ℕ) → worth-lts.Need-worth-requires-2 (
 ) (worth-at t) worth.Post worth-Inv-loop worth-μ-loop
 worth-worth-requires-2 t c κs = search needs
 
-worth-plus-requires-3 : (t : ℕ) → worth-lts.Need-plus-requires-3 (
+worth-plus-requires-2 : (t : ℕ) → worth-lts.Need-plus-requires-2 (
+  plus-reads.Asked,
+  plus-reads.Learnt,
   byte-reads.Asked,
   byte-reads.Learnt,
   arity-reads.Asked,
   arity-reads.Learnt,
-  plus-reads.Asked,
-  plus-reads.Learnt,
   worth-below t,
   worth.Post,
   behind-reads.Asked,
@@ -296,15 +272,15 @@ worth-plus-requires-3 : (t : ℕ) → worth-lts.Need-plus-requires-3 (
   reduce-rows-reads.Asked,
   reduce-rows-reads.Learnt,
 ) (worth-at t) worth.Post worth-Inv-loop worth-μ-loop
-worth-plus-requires-3 t c κs = search needs
+worth-plus-requires-2 t c κs = search needs
 
 worth-byte-requires-2 : (t : ℕ) → worth-lts.Need-byte-requires-2 (
+  plus-reads.Asked,
+  plus-reads.Learnt,
   byte-reads.Asked,
   byte-reads.Learnt,
   arity-reads.Asked,
   arity-reads.Learnt,
-  plus-reads.Asked,
-  plus-reads.Learnt,
   worth-below t,
   worth.Post,
   behind-reads.Asked,
@@ -323,12 +299,12 @@ worth-byte-requires-2 : (t : ℕ) → worth-lts.Need-byte-requires-2 (
 worth-byte-requires-2 t c κs = search needs
 
 worth-operate-on-requires : (t : ℕ) → worth-lts.Need-operate-on-requires (
+  plus-reads.Asked,
+  plus-reads.Learnt,
   byte-reads.Asked,
   byte-reads.Learnt,
   arity-reads.Asked,
   arity-reads.Learnt,
-  plus-reads.Asked,
-  plus-reads.Learnt,
   worth-below t,
   worth.Post,
   behind-reads.Asked,
@@ -347,12 +323,12 @@ worth-operate-on-requires : (t : ℕ) → worth-lts.Need-operate-on-requires (
 worth-operate-on-requires t c κs = search needs
 
 worth-returns-2 : (t : ℕ) → worth-lts.Need-returns-2 (
+  plus-reads.Asked,
+  plus-reads.Learnt,
   byte-reads.Asked,
   byte-reads.Learnt,
   arity-reads.Asked,
   arity-reads.Learnt,
-  plus-reads.Asked,
-  plus-reads.Learnt,
   worth-below t,
   worth.Post,
   behind-reads.Asked,
@@ -371,12 +347,12 @@ worth-returns-2 : (t : ℕ) → worth-lts.Need-returns-2 (
 worth-returns-2 t c = search needs
 
 worth-entry-of-requires : (t : ℕ) → worth-lts.Need-entry-of-requires (
+  plus-reads.Asked,
+  plus-reads.Learnt,
   byte-reads.Asked,
   byte-reads.Learnt,
   arity-reads.Asked,
   arity-reads.Learnt,
-  plus-reads.Asked,
-  plus-reads.Learnt,
   worth-below t,
   worth.Post,
   behind-reads.Asked,
@@ -395,12 +371,12 @@ worth-entry-of-requires : (t : ℕ) → worth-lts.Need-entry-of-requires (
 worth-entry-of-requires t c κs = search needs
 
 worth-leaf-requires : (t : ℕ) → worth-lts.Need-leaf-requires (
+  plus-reads.Asked,
+  plus-reads.Learnt,
   byte-reads.Asked,
   byte-reads.Learnt,
   arity-reads.Asked,
   arity-reads.Learnt,
-  plus-reads.Asked,
-  plus-reads.Learnt,
   worth-below t,
   worth.Post,
   behind-reads.Asked,
@@ -419,12 +395,12 @@ worth-leaf-requires : (t : ℕ) → worth-lts.Need-leaf-requires (
 worth-leaf-requires t c κs = search needs
 
 worth-returns-3 : (t : ℕ) → worth-lts.Need-returns-3 (
+  plus-reads.Asked,
+  plus-reads.Learnt,
   byte-reads.Asked,
   byte-reads.Learnt,
   arity-reads.Asked,
   arity-reads.Learnt,
-  plus-reads.Asked,
-  plus-reads.Learnt,
   worth-below t,
   worth.Post,
   behind-reads.Asked,
@@ -443,12 +419,12 @@ worth-returns-3 : (t : ℕ) → worth-lts.Need-returns-3 (
 worth-returns-3 t c = search needs
 
 worth-lesser-requires : (t : ℕ) → worth-lts.Need-lesser-requires (
+  plus-reads.Asked,
+  plus-reads.Learnt,
   byte-reads.Asked,
   byte-reads.Learnt,
   arity-reads.Asked,
   arity-reads.Learnt,
-  plus-reads.Asked,
-  plus-reads.Learnt,
   worth-below t,
   worth.Post,
   behind-reads.Asked,
@@ -467,12 +443,12 @@ worth-lesser-requires : (t : ℕ) → worth-lts.Need-lesser-requires (
 worth-lesser-requires t c κs = search needs
 
 worth-loop-holds : (t : ℕ) → worth-lts.Need-loop-holds (
+  plus-reads.Asked,
+  plus-reads.Learnt,
   byte-reads.Asked,
   byte-reads.Learnt,
   arity-reads.Asked,
   arity-reads.Learnt,
-  plus-reads.Asked,
-  plus-reads.Learnt,
   worth-below t,
   worth.Post,
   behind-reads.Asked,
@@ -490,13 +466,13 @@ worth-loop-holds : (t : ℕ) → worth-lts.Need-loop-holds (
 ) (worth-at t) worth.Post worth-Inv-loop worth-μ-loop
 worth-loop-holds t c = search needs
 
-worth-plus-requires-4 : (t : ℕ) → worth-lts.Need-plus-requires-4 (
+worth-plus-requires-3 : (t : ℕ) → worth-lts.Need-plus-requires-3 (
+  plus-reads.Asked,
+  plus-reads.Learnt,
   byte-reads.Asked,
   byte-reads.Learnt,
   arity-reads.Asked,
   arity-reads.Learnt,
-  plus-reads.Asked,
-  plus-reads.Learnt,
   worth-below t,
   worth.Post,
   behind-reads.Asked,
@@ -512,15 +488,15 @@ worth-plus-requires-4 : (t : ℕ) → worth-lts.Need-plus-requires-4 (
   reduce-rows-reads.Asked,
   reduce-rows-reads.Learnt,
 ) (worth-at t) worth.Post worth-Inv-loop worth-μ-loop
-worth-plus-requires-4 t c κs = search needs
+worth-plus-requires-3 t c κs = search needs
 
 worth-sub-worth-3 : (t : ℕ) → worth-lts.Need-sub-worth-3 (
+  plus-reads.Asked,
+  plus-reads.Learnt,
   byte-reads.Asked,
   byte-reads.Learnt,
   arity-reads.Asked,
   arity-reads.Learnt,
-  plus-reads.Asked,
-  plus-reads.Learnt,
   worth-below t,
   worth.Post,
   behind-reads.Asked,
@@ -539,12 +515,12 @@ worth-sub-worth-3 : (t : ℕ) → worth-lts.Need-sub-worth-3 (
 worth-sub-worth-3 t c = search needs
 
 worth-worth-requires-3 : (t : ℕ) → worth-lts.Need-worth-requires-3 (
+  plus-reads.Asked,
+  plus-reads.Learnt,
   byte-reads.Asked,
   byte-reads.Learnt,
   arity-reads.Asked,
   arity-reads.Learnt,
-  plus-reads.Asked,
-  plus-reads.Learnt,
   worth-below t,
   worth.Post,
   behind-reads.Asked,
@@ -562,37 +538,13 @@ worth-worth-requires-3 : (t : ℕ) → worth-lts.Need-worth-requires-3 (
 ) (worth-at t) worth.Post worth-Inv-loop worth-μ-loop
 worth-worth-requires-3 t c κs = search needs
 
-worth-cast-found : (t : ℕ) → worth-lts.Need-cast-found (
-  byte-reads.Asked,
-  byte-reads.Learnt,
-  arity-reads.Asked,
-  arity-reads.Learnt,
-  plus-reads.Asked,
-  plus-reads.Learnt,
-  worth-below t,
-  worth.Post,
-  behind-reads.Asked,
-  behind-reads.Learnt,
-  operate-on-reads.Asked,
-  operate-on-reads.Learnt,
-  entry-of-reads.Asked,
-  entry-of-reads.Learnt,
-  leaf-reads.Asked,
-  leaf-reads.Learnt,
-  lesser-reads.Asked,
-  lesser-reads.Learnt,
-  reduce-rows-reads.Asked,
-  reduce-rows-reads.Learnt,
-) (worth-at t) worth.Post worth-Inv-loop worth-μ-loop
-worth-cast-found t c = search needs
-
 worth-mul-found : (t : ℕ) → worth-lts.Need-mul-found (
+  plus-reads.Asked,
+  plus-reads.Learnt,
   byte-reads.Asked,
   byte-reads.Learnt,
   arity-reads.Asked,
   arity-reads.Learnt,
-  plus-reads.Asked,
-  plus-reads.Learnt,
   worth-below t,
   worth.Post,
   behind-reads.Asked,
@@ -611,12 +563,12 @@ worth-mul-found : (t : ℕ) → worth-lts.Need-mul-found (
 worth-mul-found t c = search needs
 
 worth-array-set-from-found : (t : ℕ) → worth-lts.Need-array-set-from-found (
+  plus-reads.Asked,
+  plus-reads.Learnt,
   byte-reads.Asked,
   byte-reads.Learnt,
   arity-reads.Asked,
   arity-reads.Learnt,
-  plus-reads.Asked,
-  plus-reads.Learnt,
   worth-below t,
   worth.Post,
   behind-reads.Asked,
@@ -635,12 +587,12 @@ worth-array-set-from-found : (t : ℕ) → worth-lts.Need-array-set-from-found (
 worth-array-set-from-found t c = search needs
 
 worth-add-v : (t : ℕ) → worth-lts.Need-add-v (
+  plus-reads.Asked,
+  plus-reads.Learnt,
   byte-reads.Asked,
   byte-reads.Learnt,
   arity-reads.Asked,
   arity-reads.Learnt,
-  plus-reads.Asked,
-  plus-reads.Learnt,
   worth-below t,
   worth.Post,
   behind-reads.Asked,
@@ -659,12 +611,12 @@ worth-add-v : (t : ℕ) → worth-lts.Need-add-v (
 worth-add-v t c = search needs
 
 worth-loop-less : (t : ℕ) → worth-lts.Need-loop-less (
+  plus-reads.Asked,
+  plus-reads.Learnt,
   byte-reads.Asked,
   byte-reads.Learnt,
   arity-reads.Asked,
   arity-reads.Learnt,
-  plus-reads.Asked,
-  plus-reads.Learnt,
   worth-below t,
   worth.Post,
   behind-reads.Asked,
@@ -683,12 +635,12 @@ worth-loop-less : (t : ℕ) → worth-lts.Need-loop-less (
 worth-loop-less t c = search needs
 
 worth-loop-again : (t : ℕ) → worth-lts.Need-loop-again (
+  plus-reads.Asked,
+  plus-reads.Learnt,
   byte-reads.Asked,
   byte-reads.Learnt,
   arity-reads.Asked,
   arity-reads.Learnt,
-  plus-reads.Asked,
-  plus-reads.Learnt,
   worth-below t,
   worth.Post,
   behind-reads.Asked,
@@ -707,12 +659,12 @@ worth-loop-again : (t : ℕ) → worth-lts.Need-loop-again (
 worth-loop-again t c = search needs
 
 worth-byte-requires-3 : (t : ℕ) → worth-lts.Need-byte-requires-3 (
+  plus-reads.Asked,
+  plus-reads.Learnt,
   byte-reads.Asked,
   byte-reads.Learnt,
   arity-reads.Asked,
   arity-reads.Learnt,
-  plus-reads.Asked,
-  plus-reads.Learnt,
   worth-below t,
   worth.Post,
   behind-reads.Asked,
@@ -730,37 +682,13 @@ worth-byte-requires-3 : (t : ℕ) → worth-lts.Need-byte-requires-3 (
 ) (worth-at t) worth.Post worth-Inv-loop worth-μ-loop
 worth-byte-requires-3 t c κs = search needs
 
-worth-cast-reduce-rows : (t : ℕ) → worth-lts.Need-cast-reduce-rows (
-  byte-reads.Asked,
-  byte-reads.Learnt,
-  arity-reads.Asked,
-  arity-reads.Learnt,
-  plus-reads.Asked,
-  plus-reads.Learnt,
-  worth-below t,
-  worth.Post,
-  behind-reads.Asked,
-  behind-reads.Learnt,
-  operate-on-reads.Asked,
-  operate-on-reads.Learnt,
-  entry-of-reads.Asked,
-  entry-of-reads.Learnt,
-  leaf-reads.Asked,
-  leaf-reads.Learnt,
-  lesser-reads.Asked,
-  lesser-reads.Learnt,
-  reduce-rows-reads.Asked,
-  reduce-rows-reads.Learnt,
-) (worth-at t) worth.Post worth-Inv-loop worth-μ-loop
-worth-cast-reduce-rows t c = search needs
-
 worth-reduce-rows-requires : (t : ℕ) → worth-lts.Need-reduce-rows-requires (
+  plus-reads.Asked,
+  plus-reads.Learnt,
   byte-reads.Asked,
   byte-reads.Learnt,
   arity-reads.Asked,
   arity-reads.Learnt,
-  plus-reads.Asked,
-  plus-reads.Learnt,
   worth-below t,
   worth.Post,
   behind-reads.Asked,
@@ -779,12 +707,12 @@ worth-reduce-rows-requires : (t : ℕ) → worth-lts.Need-reduce-rows-requires (
 worth-reduce-rows-requires t c κs = search needs
 
 worth-returns-4 : (t : ℕ) → worth-lts.Need-returns-4 (
+  plus-reads.Asked,
+  plus-reads.Learnt,
   byte-reads.Asked,
   byte-reads.Learnt,
   arity-reads.Asked,
   arity-reads.Learnt,
-  plus-reads.Asked,
-  plus-reads.Learnt,
   worth-below t,
   worth.Post,
   behind-reads.Asked,
@@ -804,12 +732,12 @@ worth-returns-4 t c = search needs
 
 pub +worth-spec : {M : Type 1} → statement M
 +worth-spec = close μ-worth λ t. worth-lts.spec (
+  plus-reads.Asked,
+  plus-reads.Learnt,
   byte-reads.Asked,
   byte-reads.Learnt,
   arity-reads.Asked,
   arity-reads.Learnt,
-  plus-reads.Asked,
-  plus-reads.Learnt,
   worth-below t,
   worth.Post,
   behind-reads.Asked,
@@ -830,16 +758,15 @@ pub +worth-spec : {M : Type 1} → statement M
     worth-Inv-loop
     worth-μ-loop
     (worth-returns t)
+    (worth-plus-requires t)
     (worth-byte-requires t)
     (worth-arity-requires t)
-    (worth-plus-requires t)
     (worth-sub-worth t)
     (worth-worth-requires t)
-    (worth-plus-requires-2 t)
     (worth-behind-requires t)
     (worth-sub-worth-2 t)
     (worth-worth-requires-2 t)
-    (worth-plus-requires-3 t)
+    (worth-plus-requires-2 t)
     (worth-byte-requires-2 t)
     (worth-operate-on-requires t)
     (worth-returns-2 t)
@@ -848,16 +775,14 @@ pub +worth-spec : {M : Type 1} → statement M
     (worth-returns-3 t)
     (worth-lesser-requires t)
     (worth-loop-holds t)
-    (worth-plus-requires-4 t)
+    (worth-plus-requires-3 t)
     (worth-sub-worth-3 t)
     (worth-worth-requires-3 t)
-    (worth-cast-found t)
     (worth-mul-found t)
     (worth-array-set-from-found t)
     (worth-add-v t)
     (worth-loop-less t)
     (worth-loop-again t)
     (worth-byte-requires-3 t)
-    (worth-cast-reduce-rows t)
     (worth-reduce-rows-requires t)
     (worth-returns-4 t)

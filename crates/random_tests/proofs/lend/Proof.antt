@@ -2,8 +2,18 @@
 use native.Mathlib.Omega.{arith}
 use lib.ListN.{length-take}
 use borrow.Author.Needs.{needs}
+use borrow.Author.Needs.{needs}
 use Rattle.random_tests.proofs.lend.Statement.{statement}
 use Rattle.random_tests.proofs.lend.Tie as tie
+
+lesser-requires : tie.Need-lesser-requires
+lesser-requires c κs = search needs
+
+lesser-requires-2 : tie.Need-lesser-requires-2
+lesser-requires-2 c κs = search needs
+
+lesser-requires-3 : tie.Need-lesser-requires-3
+lesser-requires-3 c κs = search needs
 
 array-share-prefix-file : tie.Need-array-share-prefix-file
 array-share-prefix-file c = search needs
@@ -11,8 +21,8 @@ array-share-prefix-file c = search needs
 slice-aggregate-run : tie.Need-slice-aggregate-run
 slice-aggregate-run c = simp length-take (omega arith)
 
-array-share-prefix-map : tie.Need-array-share-prefix-map
-array-share-prefix-map c = search needs
+array-share-prefix-graph : tie.Need-array-share-prefix-graph
+array-share-prefix-graph c = search needs
 
 slice-aggregate-run-2 : tie.Need-slice-aggregate-run-2
 slice-aggregate-run-2 c = simp length-take (omega arith)
@@ -29,27 +39,18 @@ run-requires c κs = search needs
 returns : tie.Need-returns
 returns c = search needs
 
-returns-2 : tie.Need-returns-2
-returns-2 c = search needs
-
-returns-3 : tie.Need-returns-3
-returns-3 c = search needs
-
-returns-4 : tie.Need-returns-4
-returns-4 c = search needs
-
 pub lend-spec : {M : Type 1} → statement M
 lend-spec =
     tie.close
     (tie.spec
+    lesser-requires
+    lesser-requires-2
+    lesser-requires-3
     array-share-prefix-file
     slice-aggregate-run
-    array-share-prefix-map
+    array-share-prefix-graph
     slice-aggregate-run-2
     array-borrow-prefix-out
     slice-aggregate-run-3
     run-requires
-    returns
-    returns-2
-    returns-3
-    returns-4)
+    returns)

@@ -5,19 +5,25 @@ use Rattle.random_tests.proofs.random_table.Statement.{statement}
 use Rattle.random_tests.proofs.random_table.Tie as tie
 
 abbrev Inv-loop : tie.InvT-loop
-Inv-loop table₀ shape seed count a b at₀ s₀ j₀ table at s j = j ≤ count
+Inv-loop table₀ c seed count kind at₀ s₀ j₀ table at s j = (j ≤ count) × (count ≤ 8)
 
 abbrev μ-loop : tie.MeasureT-loop
-μ-loop table₀ shape seed count a b at₀ s₀ j₀ table at s j = count - j
+μ-loop table₀ c seed count kind at₀ s₀ j₀ table at s j = count - j
 
-put-start-requires : tie.Need-put-start-requires Inv-loop μ-loop
-put-start-requires c κs = search needs
+mul-put : tie.Need-mul-put Inv-loop μ-loop
+mul-put c = search needs
+
+add-put : tie.Need-add-put Inv-loop μ-loop
+add-put c = search needs
+
+mul-put-2 : tie.Need-mul-put-2 Inv-loop μ-loop
+mul-put-2 c = search needs
+
+add-put-2 : tie.Need-add-put-2 Inv-loop μ-loop
+add-put-2 c = search needs
 
 put-requires : tie.Need-put-requires Inv-loop μ-loop
 put-requires c κs = search needs
-
-put-requires-2 : tie.Need-put-requires-2 Inv-loop μ-loop
-put-requires-2 c κs = search needs
 
 loop-holds : tie.Need-loop-holds Inv-loop μ-loop
 loop-holds c = search needs
@@ -28,8 +34,8 @@ next-requires c κs = search needs
 random-path-requires : tie.Need-random-path-requires Inv-loop μ-loop
 random-path-requires c κs = search needs
 
-put-path-requires : tie.Need-put-path-requires Inv-loop μ-loop
-put-path-requires c κs = search needs
+put-requires-2 : tie.Need-put-requires-2 Inv-loop μ-loop
+put-requires-2 c κs = search needs
 
 add-j : tie.Need-add-j Inv-loop μ-loop
 add-j c = search needs
@@ -40,6 +46,18 @@ loop-less c = search needs
 loop-again : tie.Need-loop-again Inv-loop μ-loop
 loop-again c = search needs
 
+sub-put : tie.Need-sub-put Inv-loop μ-loop
+sub-put c = search needs
+
+add-put-3 : tie.Need-add-put-3 Inv-loop μ-loop
+add-put-3 c = search needs
+
+sub-put-2 : tie.Need-sub-put-2 Inv-loop μ-loop
+sub-put-2 c = search needs
+
+put-requires-3 : tie.Need-put-requires-3 Inv-loop μ-loop
+put-requires-3 c κs = search needs
+
 returns : tie.Need-returns Inv-loop μ-loop
 returns c = search needs
 
@@ -49,14 +67,20 @@ random-table-spec =
     (tie.spec
     Inv-loop
     μ-loop
-    put-start-requires
+    mul-put
+    add-put
+    mul-put-2
+    add-put-2
     put-requires
-    put-requires-2
     loop-holds
     next-requires
     random-path-requires
-    put-path-requires
+    put-requires-2
     add-j
     loop-less
     loop-again
+    sub-put
+    add-put-3
+    sub-put-2
+    put-requires-3
     returns)

@@ -5,22 +5,19 @@ use Rattle.random_tests.proofs.rounds_of.Statement.{statement}
 use Rattle.random_tests.proofs.rounds_of.Tie as tie
 
 abbrev Inv-loop : tie.InvT-loop
-Inv-loop rows n table most r₀ r = (r ≤ most) × (most ≤ 8)
+Inv-loop table rows n most r₀ r = r ≤ most
 
 abbrev μ-loop : tie.MeasureT-loop
-μ-loop rows n table most r₀ r = most - r
-
-lesser-requires : tie.Need-lesser-requires Inv-loop μ-loop
-lesser-requires c κs = search needs
-
-mul-most : tie.Need-mul-most Inv-loop μ-loop
-mul-most c = search needs
+μ-loop table rows n most r₀ r = most - r
 
 loop-holds : tie.Need-loop-holds Inv-loop μ-loop
 loop-holds c = search needs
 
-all-unchanged-requires : tie.Need-all-unchanged-requires Inv-loop μ-loop
-all-unchanged-requires c κs = search needs
+wide-requires : tie.Need-wide-requires Inv-loop μ-loop
+wide-requires c κs = search needs
+
+any-requires : tie.Need-any-requires Inv-loop μ-loop
+any-requires c κs = search needs
 
 add-result : tie.Need-add-result Inv-loop μ-loop
 add-result c = search needs
@@ -46,10 +43,9 @@ rounds-of-spec =
     (tie.spec
     Inv-loop
     μ-loop
-    lesser-requires
-    mul-most
     loop-holds
-    all-unchanged-requires
+    wide-requires
+    any-requires
     add-result
     returns
     add-r

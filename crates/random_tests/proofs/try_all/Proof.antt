@@ -5,10 +5,10 @@ use Rattle.random_tests.proofs.try_all.Statement.{statement}
 use Rattle.random_tests.proofs.try_all.Tie as tie
 
 abbrev Inv-loop : tie.InvT-loop
-Inv-loop question score₀ i₀ score i = i ≤ 50000
+Inv-loop query score₀ i₀ score i = i ≤ 50000
 
 abbrev μ-loop : tie.MeasureT-loop
-μ-loop question score₀ i₀ score i = 50000 - i
+μ-loop query score₀ i₀ score i = 50000 - i
 
 loop-holds : tie.Need-loop-holds Inv-loop μ-loop
 loop-holds c = search needs

@@ -5,40 +5,46 @@ use Rattle.random_tests.proofs.wanted.Statement.{statement}
 use Rattle.random_tests.proofs.wanted.Tie as tie
 
 abbrev Inv-loop : tie.InvT-loop
-Inv-loop code shape rounds most q rows out₀ a b c at₀ root count v₀ out at v = (v ≤ count) × (count ≤ 4)
+Inv-loop code c rounds most q rows out₀ at₀ count v₀ out at v = (v ≤ count) × (count ≤ 4)
 
 abbrev μ-loop : tie.MeasureT-loop
-μ-loop code shape rounds most q rows out₀ a b c at₀ root count v₀ out at v = count - v
+μ-loop code c rounds most q rows out₀ at₀ count v₀ out at v = count - v
 
 returns : tie.Need-returns Inv-loop μ-loop
 returns c = search needs
 
-put-start-requires : tie.Need-put-start-requires Inv-loop μ-loop
-put-start-requires c κs = search needs
+put-requires : tie.Need-put-requires Inv-loop μ-loop
+put-requires c κs = search needs
 
 wide-requires : tie.Need-wide-requires Inv-loop μ-loop
 wide-requires c κs = search needs
 
-put16-requires : tie.Need-put16-requires Inv-loop μ-loop
-put16-requires c κs = search needs
-
 wide-requires-2 : tie.Need-wide-requires-2 Inv-loop μ-loop
 wide-requires-2 c κs = search needs
 
-put16-requires-2 : tie.Need-put16-requires-2 Inv-loop μ-loop
-put16-requires-2 c κs = search needs
+mul-put : tie.Need-mul-put Inv-loop μ-loop
+mul-put c = search needs
 
-put-requires : tie.Need-put-requires Inv-loop μ-loop
-put-requires c κs = search needs
+add-put : tie.Need-add-put Inv-loop μ-loop
+add-put c = search needs
 
-root-of-requires : tie.Need-root-of-requires Inv-loop μ-loop
-root-of-requires c κs = search needs
+mul-put-2 : tie.Need-mul-put-2 Inv-loop μ-loop
+mul-put-2 c = search needs
+
+add-put-2 : tie.Need-add-put-2 Inv-loop μ-loop
+add-put-2 c = search needs
+
+put-requires-2 : tie.Need-put-requires-2 Inv-loop μ-loop
+put-requires-2 c κs = search needs
 
 row-count-requires : tie.Need-row-count-requires Inv-loop μ-loop
 row-count-requires c κs = search needs
 
 loop-holds : tie.Need-loop-holds Inv-loop μ-loop
 loop-holds c = search needs
+
+cast-worth : tie.Need-cast-worth Inv-loop μ-loop
+cast-worth c = search needs
 
 worth-requires : tie.Need-worth-requires Inv-loop μ-loop
 worth-requires c κs = search needs
@@ -65,15 +71,17 @@ wanted-spec =
     Inv-loop
     μ-loop
     returns
-    put-start-requires
-    wide-requires
-    put16-requires
-    wide-requires-2
-    put16-requires-2
     put-requires
-    root-of-requires
+    wide-requires
+    wide-requires-2
+    mul-put
+    add-put
+    mul-put-2
+    add-put-2
+    put-requires-2
     row-count-requires
     loop-holds
+    cast-worth
     worth-requires
     put-row-requires
     add-v

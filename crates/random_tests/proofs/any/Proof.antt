@@ -1,14 +1,14 @@
--- `random_tests::bad_source` is safe and ends. Assumes nothing.
+-- `random_tests::any` is safe and ends. Assumes nothing.
 use Prim.Native.Nat.{_≤_, _-_}
 use borrow.Author.Needs.{needs}
-use Rattle.random_tests.proofs.bad_source.Statement.{statement}
-use Rattle.random_tests.proofs.bad_source.Tie as tie
+use Rattle.random_tests.proofs.any.Statement.{statement}
+use Rattle.random_tests.proofs.any.Tie as tie
 
 abbrev Inv-loop : tie.InvT-loop
-Inv-loop table n count j₀ j = j ≤ count
+Inv-loop table test x rows n count j₀ j = j ≤ count
 
 abbrev μ-loop : tie.MeasureT-loop
-μ-loop table n count j₀ j = count - j
+μ-loop table test x rows n count j₀ j = count - j
 
 byte-requires : tie.Need-byte-requires Inv-loop μ-loop
 byte-requires c κs = search needs
@@ -16,8 +16,14 @@ byte-requires c κs = search needs
 loop-holds : tie.Need-loop-holds Inv-loop μ-loop
 loop-holds c = search needs
 
-tabled-path-requires : tie.Need-tabled-path-requires Inv-loop μ-loop
-tabled-path-requires c κs = search needs
+slot-requires : tie.Need-slot-requires Inv-loop μ-loop
+slot-requires c κs = search needs
+
+number-at-requires : tie.Need-number-at-requires Inv-loop μ-loop
+number-at-requires c κs = search needs
+
+is-so-requires : tie.Need-is-so-requires Inv-loop μ-loop
+is-so-requires c κs = search needs
 
 returns : tie.Need-returns Inv-loop μ-loop
 returns c = search needs
@@ -34,15 +40,17 @@ loop-again c = search needs
 returns-2 : tie.Need-returns-2 Inv-loop μ-loop
 returns-2 c = search needs
 
-pub bad-source-spec : {M : Type 1} → statement M
-bad-source-spec =
+pub any-spec : {M : Type 1} → statement M
+any-spec =
     tie.close
     (tie.spec
     Inv-loop
     μ-loop
     byte-requires
     loop-holds
-    tabled-path-requires
+    slot-requires
+    number-at-requires
+    is-so-requires
     returns
     add-j
     loop-less

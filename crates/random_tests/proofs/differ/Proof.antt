@@ -1,8 +1,8 @@
--- `random_tests::same` is safe and ends. Assumes nothing.
+-- `random_tests::differ` is safe and ends. Assumes nothing.
 use Prim.Native.Nat.{_≤_, _-_}
 use borrow.Author.Needs.{needs}
-use Rattle.random_tests.proofs.same.Statement.{statement}
-use Rattle.random_tests.proofs.same.Tie as tie
+use Rattle.random_tests.proofs.differ.Statement.{statement}
+use Rattle.random_tests.proofs.differ.Tie as tie
 
 abbrev Inv-loop : tie.InvT-loop
 Inv-loop x y len i₀ i = i ≤ len
@@ -34,8 +34,8 @@ loop-again c = search needs
 returns-2 : tie.Need-returns-2 Inv-loop μ-loop
 returns-2 c = search needs
 
-pub same-spec : {M : Type 1} → statement M
-same-spec =
+pub differ-spec : {M : Type 1} → statement M
+differ-spec =
     tie.close
     (tie.spec
     Inv-loop

@@ -32,7 +32,7 @@ module _ {A : Type 0} where
     refl,
   )
 
-  -- leaves of equal values
+  -- terms whose leaves have equal values have equal values
   value-same : (f g : A → Value) (t : Term A) → All (λ a. f a ≡ g a) (leaves t) → value-of f t ≡ value-of g t
   value-same f g (leaf a) h = h .0
   value-same f g (literal k) h = refl

@@ -107,7 +107,7 @@ module _ (cs : List PathReduction) where
     entries-legal P es (h .1) (d .1) (all-right _ (leaves (e .body)) (bodies es) k),
   )
 
--- as many terms
+-- FUSING KEEPS THE NUMBER OF TERMS
 pub fuse-terms : (q : Query) → plan-terms (fuse q .body) ≡ query-terms q
 fuse-terms (each t) = rename-terms (λ c. position c (put-all [] (leaves t))) t
 fuse-terms (single t) =

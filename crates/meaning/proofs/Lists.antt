@@ -22,12 +22,12 @@ module _ {A : Type 0} where
   all-append P [] m h k = k
   all-append P (x ∷ l) m h k = (h .0, all-append P l m (h .1) k)
 
-  -- what follows from it holds of each
+  -- what follows from a fact of each holds of each
   pub all-weaken : {P Q : A → Type 0} (l : List A) → ((x : A) → P x → Q x) → All P l → All Q l
   all-weaken [] f h = tt
   all-weaken (x ∷ l) f h = (f x (h .0), all-weaken l f (h .1))
 
-  -- and it holds of the element at i
+  -- a fact of each holds of the element at i
   pub all-at : (P : A → Type 0) (l : List A) (i : ℕ) (d : A) → All P l → i < length l → P (getD l i d)
   all-at P [] i d h k = absurd (not-suc-le-zero k)
   all-at P (x ∷ l) zero d h k = h .0
@@ -47,7 +47,7 @@ module _ {A : Type 0} where
   tabulate-at n j f d h = tabulate-from n zero j f d h ∙ ap f (zero-add j)
 
 module _ {A B : Type 0} where
-  -- mapped one after the other
+  -- a map of two lists, one after the other
   pub map-append : (f : A → B) (l m : List A) → map f (l ++ m) ≡ map f l ++ map f m
   map-append f [] m = refl
   map-append f (x ∷ l) m = ap (λ (t : List B). f x ∷ t) (map-append f l m)
@@ -61,13 +61,13 @@ module _ {A B : Type 0} where
   all-unmapped P f [] h = tt
   all-unmapped P f (x ∷ l) h = (h .0, all-unmapped P f l (h .1))
 
-  -- functions that agree on each element
+  -- functions that agree on each element map alike
   pub map-same : (f g : A → B) (l : List A) → All (λ x. f x ≡ g x) l → map f l ≡ map g l
   map-same f g [] h = refl
   map-same f g (x ∷ l) h = cc (h .0, map-same f g l (h .1))
 
 module _ {A : Type 0} {P Q R : A → Type 0} where
-  -- what follows from two
+  -- what follows from two facts of each holds of each
   pub all-both : (l : List A) → ((x : A) → P x → Q x → R x) → All P l → All Q l → All R l
   all-both [] f h k = tt
   all-both (x ∷ l) f h k = (f x (h .0) (k .0), all-both l f (h .1) (k .1))

@@ -27,7 +27,7 @@ abbrev pub position : PathReduction → List PathReduction → ℕ
 position c [] = zero
 position c (d ∷ ds) = cond (same-path c d) zero (suc (position c ds))
 
--- does it stand there?
+-- does a path reduction stand in a list?
 abbrev pub among : PathReduction → List PathReduction → Bool
 among c [] = false
 among c (d ∷ ds) = same-path c d || among c ds
@@ -60,6 +60,6 @@ abbrev pub fuse-body : List PathReduction → Query → Body
 fuse-body cs (each t) = each-vertex (rename (λ c. position c cs) t)
 fuse-body cs (single t) = one-result (map (entry cs) (leaves t)) (enumerate zero t)
 
--- FUSING
+-- the plan that a query is fused to
 abbrev pub fuse : Query → Plan
 fuse q = record { paths = put-all [] (written-paths q); body = fuse-body (put-all [] (written-paths q)) q }

@@ -80,7 +80,7 @@ module _ (s : List ℕ) where
   unfolding entry-scan
   entry-scanned kind w h c = rw (lt-leb (length s) (w .at) h, c) refl
 
-  -- an entry: the same
+  -- the bytes of an entry are read as it; and what is read are its bytes
   pub entry-complete : (kind r : ℕ) (t : Term ℕ) (w : Progress) (cs : List PathReduction) (rest : List ℕ) → w .code ≡ 0 → Table w cs → reduction-code kind r ≡ 0
       → drop (w .at) s ≡ r ∷ (expression-bytes 2 t ++ rest) → Expression (length cs) t → w .terms + terms unit t ≤ 64
       → Passed w (entry-scan kind s w) cs (suc (length (expression-bytes 2 t))) (terms unit t)

@@ -35,7 +35,7 @@ pub rows-size : (cs : List PathReduction) → length (rows-bytes cs) ≡ 6 * len
 rows-size [] = refl
 rows-size (c ∷ cs) = omega (arith, rows-size cs)
 
--- a filler byte is 0
+-- a filler byte that is not refused is 0
 pub filler-zero : (b : ℕ) → filler-code b ≡ 0 → b ≡ 0
 filler-zero b e = go (ltb 255 b) (eqb b 0) refl e
   where

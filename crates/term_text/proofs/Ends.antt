@@ -34,7 +34,7 @@ ended-code s w e = go (eqb (w .code) 0) (ltb (w .at) (length s)) refl refl e
     go true false p q z = (z, ltb-false (w .at) (length s) q)
     go false b p q z = absurd (eqb-false (w .code) 0 p z)
 
--- a list of no length
+-- a list of length 0 is empty
 pub no-rest : (r : List ℕ) → length r ≡ 0 → r ≡ []
 no-rest [] z = refl
 no-rest (x ∷ r) z = absurd (omega arith)

@@ -34,7 +34,7 @@ source-small c f = go (f .1)
     go (inl h) = omega arith
     go (inr h) = omega arith
 
--- a refusal is not 0
+-- the number of a refusal is not 0
 not-zero : {A : Type 0} (k n : ℕ) → suc k ≡ n → n ≡ 0 → A
 not-zero k n e z = absurd (omega arith)
 
@@ -134,7 +134,7 @@ module _ (s : List ℕ) where
       drop-next : (i x : ℕ) (l : List ℕ) → drop i s ≡ x ∷ l → drop (i + 1) s ≡ l
       drop-next i x l e = sym (drop-drop 1 i s) ∙ ap (drop 1) e
 
-  -- what is no 256 is there
+  -- a byte that does not read as 256 is there
   pub present : (i : ℕ) → getD s i 256 ≤ 255 → i < length s
   present i h = go (decLt i (length s))
     where
@@ -270,7 +270,7 @@ key-byte [] t i = omega arith
 key-byte (k ∷ ks) t zero = omega (arith, known-range k (and-left (known k) (all-known ks) t))
 key-byte (k ∷ ks) t (suc i) = key-byte ks (and-right (known k) (all-known ks) t) i
 
--- at most three keys, each the same
+-- lists of at most three equal keys are equal
 same-keys : (ks js : List ℕ) → length ks ≡ length js → length ks ≤ 3 → getD ks 0 0 ≡ getD js 0 0 → getD ks 1 0 ≡ getD js 1 0 → getD ks 2 0 ≡ getD js 2 0 → ks ≡ js
 same-keys ks js e l p q r = ext-getD 0 ks js e at
   where

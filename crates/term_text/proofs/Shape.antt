@@ -56,7 +56,7 @@ module _ {A : Type 0} (K : Leaves A) where
   abbrev pub After : ℕ → Progress → Progress → List PathReduction → Term A → Type 0
   After m w w′ cs t = Further w w′ (put-all cs (term-paths t)) (length (term-bytes m (K .bytes) t)) (w .terms + terms (K .size) t) (w .reductions + term-count t)
 
--- path reductions put after others take no room away
+-- with more path reductions put after it a list is no shorter
 put-all-grows : (cs ds : List PathReduction) → length cs ≤ length (put-all cs ds)
 put-all-grows cs [] = omega arith
 put-all-grows cs (d ∷ ds) = omega (arith, grows (among d cs), put-all-grows (put cs d) ds)

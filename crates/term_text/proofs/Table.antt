@@ -80,7 +80,7 @@ module _ (c : PathReduction) (f : PathFits 256 c) (table : List ℕ) where
       go true n = omega arith
       go false n = omega arith
 
--- what does not stand there has its position at the end
+-- the position of a path reduction that does not stand in the list is its length
 position-none : (c : PathReduction) (cs : List PathReduction) → among c cs ≡ false → position c cs ≡ length cs
 position-none c [] e = refl
 position-none c (d ∷ cs) e = go (same-path c d) (position-none c cs) e

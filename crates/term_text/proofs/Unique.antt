@@ -43,7 +43,7 @@ le16-same k j h i e =
     let b = same-head (k / 256 % 256) (j / 256 % 256) _ _ (a .1) in
     omega (arith, a .0, b .0)
 
--- so is a path reduction, and where it ends
+-- a path reduction is seen from its bytes, and where it ends
 path-split : (c d : PathReduction) (x y : List ℕ) → PathFits 256 c → PathFits 256 d → path-bytes c ++ x ≡ path-bytes d ++ y → (c ≡ d) × (x ≡ y)
 path-split c d x y f g e =
     let n = same-head (length (c .keys)) (length (d .keys)) _ _ e in
@@ -68,7 +68,7 @@ module _ {A : Type 0} (m : ℕ) (L : A → List ℕ) (fine : A → Type 0) (tail
   no-apply : leaf-tag m ≡ literal-tag m + 1 → ⊥
   no-apply e = eqb-false (literal-tag m + 1) (leaf-tag m) apply-not-leaf (sym e)
 
-  -- a term, and where it ends
+  -- A TERM IS SEEN FROM ITS BYTES, and where it ends
   pub term-split : (t u : Term A) (x y : List ℕ) → Every fine t → Every fine u → text t ++ x ≡ text u ++ y → (t ≡ u) × (x ≡ y)
   term-split (leaf a) (leaf b) x y f g e = let r = leaf-split a b x y f g e in (ap leaf (r .0), r .1)
   term-split (leaf a) (literal k) x y f g e = absurd (no-literal (leaf-first a (literal-tag m) x _ e))

@@ -57,7 +57,7 @@ unfolding read
 handed-on mode zero s w n = rw (ne-eqb (w .code) 0 n) refl
 handed-on mode (suc left) s w n = rw (ne-eqb (w .code) 0 n, read) refl
 
--- a state that is another is accepted where that is
+-- of two equal states one is accepted where the other is
 pub accepted-as : {v w : Progress} → v ≡ w → v .code ≡ 0 → w .code ≡ 0
 accepted-as p e = sym (ap (λ (x : Progress). x .code) p) ∙ e
 

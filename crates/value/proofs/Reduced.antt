@@ -144,7 +144,7 @@ snoc : (r : ℕ) (p : Partial) (rows : List Row) (row : Row) → foldl (step r) 
 snoc r p [] row = refl
 snoc r p (x ∷ rows) row = snoc r (step r p (x .value)) rows row
 
--- one row more
+-- one row more is one step
 pub after-next : (r : ℕ) (rows : List Row) (i : ℕ) (d : Row) → i < length rows → step r (after r rows i) (getD rows i d .value) ≡ after r rows (i + 1)
 unfolding after
 after-next r rows i d h = sym (rw (add-one, take-suc rows i d) (snoc r Empty (take i rows) (getD rows i d)))
@@ -156,7 +156,7 @@ take-min n m rows e = go (decLe n m)
     go (yes h) = ap (λ (k : ℕ). take k rows) (let k : min n m ≡ n = omega arith in k)
     go (no h) = take-all (min n m) rows (omega arith) ∙ sym (take-all n rows (omega arith))
 
--- all rows
+-- after all rows it is the reduction over the first n
 pub after-all : (r : ℕ) (rows : List Row) (n : ℕ) → length rows ≡ 256 → finish (after r rows (min n 256)) ≡ reduce r (values (take n rows))
 unfolding after
 after-all r rows n e = reduced r (values (take (min n 256) rows)) ∙ ap (λ (l : List Row). reduce r (values l)) (take-min n 256 rows e)

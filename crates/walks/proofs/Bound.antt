@@ -15,7 +15,7 @@ use Rattle.walks.proofs.Rounds.{state-optimal}
 use Rattle.walks.proofs.Short.{short}
 
 module _ (N : Network) (ks : List ℕ) (ok : T (in-order ks)) (fits : Fits N) where
-  -- so many rounds leave the best of all walks, the figures of the meaning, and change nothing after
+  -- from round 2n - 1 on a vertex holds the best over all walks, as figures (`settled-figures`), and no round changes it (`settled-quiet`)
   settled-optimal : (r : ℕ) → 2 * N .vertices ≤ suc r → (v : ℕ) → Optimal N ks (AllTo N v) (state N ks r v)
   settled-optimal r h v =
       optimal-larger N ks (Within N r v) (AllTo N v) (state N ks r v) (state-optimal N ks ok r v) (λ s w p. (p .0, p .1)) matched

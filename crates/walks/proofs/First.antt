@@ -51,7 +51,7 @@ module _ (q : ℕ → Bool) where
   first-finds zero r j h g t = at-once r (subst (λ (x : ℕ). T (q x)) (let e : j ≡ r = omega arith in e) t)
   first-finds (suc d) r j h g t = step d r j h t (λ l. first-finds d (suc r) j l (omega arith) t) (q r) refl
 
-  -- no passing round comes before it; so there is one
+  -- no passing round comes before it; so it is unique
   pub first-le : (r a j : ℕ) → First q r a → r ≤ j → T (q j) → a ≤ suc j
   first-le r a j f h t =
       let n : ¬ (j < f .at) = λ l. f .none-before j h l t in

@@ -30,7 +30,7 @@ cons-trans k ks x y z xs ys zs f (inl p) (inr q) = inl (rw (← (q .0)) p)
 cons-trans k ks x y z xs ys zs f (inr p) (inl q) = inl (rw (p .0) q)
 cons-trans k ks x y z xs ys zs f (inr p) (inr q) = inr (p .0 ∙ q .0, f (p .1) (q .1))
 
--- at least as good, from one to the next
+-- what is at least as good as the better one is at least as good as the other
 pub lex-trans : (ks : List ℕ) (xs ys zs : List ℕ) → Lex ks xs ys → Lex ks ys zs → Lex ks xs zs
 lex-trans [] [] [] zs p q = q
 lex-trans [] [] (y ∷ ys) zs p q = absurd p
@@ -49,7 +49,7 @@ cons-anti k ks x y xs ys f (inl p) (inr q) = absurd (better-not-good (kept k) x 
 cons-anti k ks x y xs ys f (inr p) (inl q) = absurd (better-not-good (kept k) y x q (good-of-eq (kept k) x y (p .0)))
 cons-anti k ks x y xs ys f (inr p) (inr q) = cc (p .0, f (p .1) (q .1))
 
--- each at least as good as the other: equal
+-- lists that are at least as good as each other are equal
 pub lex-anti : (ks : List ℕ) (xs ys : List ℕ) → Lex ks xs ys → Lex ks ys xs → xs ≡ ys
 lex-anti [] [] [] p q = refl
 lex-anti [] [] (y ∷ ys) p q = absurd p

@@ -1,4 +1,4 @@
--- Tests that hold, and how they join; cited all over. Assumes nothing.
+-- Tests that hold: how they join, and equal numbers as a test. Assumes nothing.
 use Prim.Native.Nat.{ℕ, suc, _≤_}
 use mathlib.Core.Path.{_≡_}
 use mathlib.Core.Bool.{Bool, true, false, _&&_, _||_}

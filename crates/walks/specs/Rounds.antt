@@ -34,7 +34,7 @@ extend-all [] e xs = []
 extend-all (k ∷ ks) e [] = []
 extend-all (k ∷ ks) e (x ∷ xs) = extend (measure k) e x ∷ extend-all ks e xs
 
--- and where there is no such walk
+-- the same where there may be no walk
 abbrev pub through : List ℕ → Edge → Option (List ℕ) → Option (List ℕ)
 through ks e none = none
 through ks e (some xs) = some (extend-all ks e xs)

@@ -27,7 +27,7 @@ pub marked-trials : (map (found pull) trials ≡ map (λ (t : Trial). t .expecte
     × (map (found push) trials ≡ map (λ (t : Trial). t .expected) trials)
     × (map (λ (r : Reading). query-code (r .bytes)) readings ≡ map (λ (r : Reading). r .number) readings)
     × (map (λ (f : Fusing). fuse-reply (f .query-bytes) 560) fusings ≡ map (λ (f : Fusing). done (f .plan-bytes)) fusings)
-unfolding run stopped rounds first state marked gather best row query-scan header-code ended started blank read term-step leaf-step leaf-tag literal-tag path-step path-code keys-code kept-path slot-of advanced path-word reduce-step query-form.read-after query-form.blank-reading nodes-read collected term-at next-at fuse-reply fused-form put-part put-term fused-term entry-term final-term index-of size reduces fusion.started entries-of write-reply form-bytes texts term-text row-text plan-scan rows-scan row-step row-code row-word body-scan moved entries-scan entry-scan final-scan index-step compute combine
+unfolding run stopped rounds first state marked gather best row query-scan header-code ended started blank read term-step leaf-step leaf-tag literal-tag path-step path-code keys-code kept-path slot-of advanced path-word reduce-step query-form.read-after nodes-read collected term-at next-at fuse-reply fused-form put-part put-term fused-term entry-term final-term index-of size reduces fusion.started entries-of write-reply form-bytes texts term-text row-text plan-scan rows-scan row-step row-code row-word body-scan moved entries-scan entry-scan final-scan index-step compute combine
 marked-trials = (refl, refl, refl, refl)
 
 -- operators and reductions

@@ -64,7 +64,7 @@ module _ (q : Query) (legal : QueryLegal 256 q) (m : List ℕ) (bytes : Bytes m)
       ∙ ap (λ (k : ℕ). fitted (answer.encode (at16 m 5) k o) room) (kind-fused q)
 
   -- A LEGAL QUERY: fused into a buffer of 560 bytes or more, and run into one that the answer fits
-  pub answers-legal : (plan-before plan-after : List ℕ) (fused : ℕ) (before after : List ℕ) (number : ℕ) → Called (query.encode q) m plan-before plan-after fused before after number
+  answers-legal : (plan-before plan-after : List ℕ) (fused : ℕ) (before after : List ℕ) (number : ℕ) → Called (query.encode q) m plan-before plan-after fused before after number
       → 560 ≤ length plan-before → length (answer.encode (at16 m 5) (query-kind q) (outcome Quiet (graph-of m) (fuse q))) ≤ length before
       → Answers q m before after number
   answers-legal plan-before plan-after fused before after number c room long =
@@ -84,7 +84,7 @@ module _ (q : Query) (legal : QueryLegal 256 q) (m : List ℕ) (bytes : Bytes m)
       }
 
   -- how long the answer is: 10 bytes and 9 for each row
-  pub answer-long : length (answer.encode (at16 m 5) (query-kind q) (outcome Quiet (graph-of m) (fuse q))) ≡ answer-size (at16 m 5) (query-kind q)
+  answer-long : length (answer.encode (at16 m 5) (query-kind q) (outcome Quiet (graph-of m) (fuse q))) ≡ answer-size (at16 m 5) (query-kind q)
   answer-long = encode-length (at16 m 5) (query-kind q) o ∙ ap (λ (k : ℕ). 10 + 9 * k) (rows-counted q (graph-of m) (rounds-done Quiet (graph-of m) (fuse q .paths)))
 
   -- DEMAND 2 over queries: stopped after r rounds, the fused plan is answered by the meaning over walks of at most r edges, and r is reported

@@ -116,7 +116,7 @@ module _ (k : ℕ) where
         at b (inl e) = (x, inl refl, sym e)
         at b (inr a) = a
 
--- a walk that is sifted out is in the list and passes the test
+-- a walk that `sift` keeps is in the list and passes the test
 pub in-sift : (p : Walk → Bool) (ws : List Walk) (x : Walk) → In x (sift p ws) → In x ws × (p x ≡ true)
 in-sift p [] x i = absurd i
 in-sift p (w ∷ ws) x i = go (p w) refl i (in-sift p ws x)
@@ -126,7 +126,7 @@ in-sift p (w ∷ ws) x i = go (p w) refl i (in-sift p ws x)
     go true e (inr j) f = (inr (f j .0), f j .1)
     go false e j f = (inr (f j .0), f j .1)
 
--- and one in the list that passes it is sifted out
+-- and one in the list that passes it is kept
 pub sift-in : (p : Walk → Bool) (ws : List Walk) (x : Walk) → In x ws → p x ≡ true → In x (sift p ws)
 sift-in p [] x i e = absurd i
 sift-in p (w ∷ ws) x (inl q) e = let t : p w ≡ true = sym (ap p q) ∙ e in rw t (inl q)

@@ -45,11 +45,11 @@ type File = [u8; 560];
 // The numbers of up to six edges, four an edge: from, to, weight, capacity. An edge that is not there leads to no vertex.
 type Rows = [u16; 24];
 
-// A case. What it may be like: whether its file is a query, how many vertices, the kind, how many path reductions its terms are chosen
-// from, how many entries a plan of kind 1 has, how many terms more than its root each expression may have, the deepest depth, of eight
-// terms how many are operators, of 64 sources how many are not a vertex. Its file as far as it is written: where the next byte goes,
-// how many terms may still be added to those that are due, how many terms, path reductions and vertex reductions are written, the
-// least depth left that was met, the last term's tag.
+// A case. What it may be like: whether its file is a query, how many vertices and at most how many rounds, the kind, how many path
+// reductions its terms are chosen from, how many entries a plan of kind 1 has, how many terms more than its root each expression may
+// have, the deepest depth, of eight terms how many are operators. Its file as far as it is written: where the next byte goes, how many
+// terms may still be added to those that are due, how many terms, path reductions and vertex reductions are written, the least depth
+// left that was met, the last term's tag, where the last expression starts.
 struct Case {
     seed: u64,
     query: bool,
@@ -192,7 +192,7 @@ fn byte(q: &File, i: usize) -> u8 {
     if i < 560 { q[i] } else { 0 }
 }
 
-// The number that so many bytes have, up to seven.
+// The number that so many bytes have, up to six.
 fn number_at(q: &File, at: usize, size: usize) -> u64 {
     let mut x: u64 = 0;
     let mut i = size;
@@ -314,7 +314,7 @@ fn random_number(i: usize, n: u16, seed: u64) -> u16 {
     (seed / 16 % 4) as u16 + (j - 2)
 }
 
-// A graph of up to six edges: its numbers in `rows`, four an edge, and its file.
+// A graph of up to six edges: its numbers and its file. Returns the seed.
 fn random_graph(graph: &mut File, rows: &mut Rows, n: u16, seed: u64) -> u64 {
     let edges = seed % 7;
     let count = 4 * edges as usize;
@@ -521,7 +521,8 @@ const NO_VERTEX: u8 = 1;
 
 const CHANGED: u8 = 2;
 
-// Is a path reduction the number x, has it a source that is none of the n vertices, or do walks of one edge more than x change a figure?
+// Is a path reduction the number x, has it a source that is none of the n vertices (anywhere counts as vertex 0, which is always there),
+// or do walks of one edge more than x change a figure?
 fn is_so(test: u8, path: u64, x: u64, rows: &Rows, n: u16) -> bool {
     if test == EQUAL {
         return path == x;
@@ -529,11 +530,7 @@ fn is_so(test: u8, path: u64, x: u64, rows: &Rows, n: u16) -> bool {
     if test == CHANGED {
         return !walked::unchanged(rows, n, path_of(path), x as usize);
     }
-    let source = path / SOURCE;
-    if source == ANYWHERE {
-        return false;
-    }
-    wide(n) <= source
+    wide(n) <= path / SOURCE % ANYWHERE
 }
 
 // Is it so of a path reduction of the plan?

@@ -3,7 +3,6 @@
 // there are of each kind, and how many differ.
 use engine::Limit;
 ghost use Rattle.io.specs.Counts.{Counts};
-ghost use mathlib.Core.Path.{_≡_};
 ghost use Prim.Native.Nat.{_≤_, _<_};
 ghost use lib.ListN.{length};
 

@@ -7,6 +7,7 @@ use lib.ListN.{take}
 use Rattle.meaning.specs.Meaning.{Outcome}
 use Rattle.value.specs.declared.Value.{Value}
 use Rattle.value.specs.declared.Value.the-variants.{Absent, Number}
+use Rattle.wire.specs.Header.{header-bytes}
 use Rattle.wire.specs.Wire.{Reply, fitted, le16, le64, unless}
 
 -- "A row is a byte, 1 for a number and 0 for absent, and 64 bits, 0 when absent."
@@ -19,13 +20,9 @@ unfoldable pub rows-bytes : List Value → List ℕ
 rows-bytes [] = []
 rows-bytes (v ∷ vs) = row-bytes v ++ rows-bytes vs
 
--- "three letters", here `LPA`
-abbrev pub letters : List ℕ
-letters = 0x4c ∷ 0x50 ∷ 0x41 ∷ []
-
 -- "three letters and a 16-bit version, 1", "n (16 bits), rounds (16 bits), kind byte"
 abbrev pub head-bytes : ℕ → ℕ → ℕ → List ℕ
-head-bytes n rounds kind = letters ++ le16 1 ++ le16 n ++ le16 rounds ++ (kind ∷ [])
+head-bytes n rounds kind = header-bytes 0x41 ++ le16 n ++ le16 rounds ++ (kind ∷ [])
 
 -- THE BYTES OF AN ANSWER on n vertices
 abbrev pub encode : ℕ → ℕ → Outcome → List ℕ

@@ -13,7 +13,7 @@ use Rattle.fusion.specs.Fusion.{entry-term, final-term, reduces, size}
 abbrev Among : List ℕ → Term → Type 0
 Among ks t = OneOf ks (tagOf the-type t)
 
--- in the entries the others are nothing
+-- the entries have nothing of the other terms
 pub entry-others : (table : List ℕ) (t : Term) → Among (0 ∷ 5 ∷ 6 ∷ 7 ∷ 8 ∷ 9 ∷ []) t → entry-term table t ≡ Empty
 unfolding entry-term
 entry-others table Empty h = refl
@@ -27,7 +27,7 @@ entry-others table (PathIndex i) h = refl
 entry-others table (EntryIndex i) h = refl
 entry-others table (Entry o) h = refl
 
--- in the final expression too
+-- nor has the final expression
 pub final-others : (k : ℕ) (t : Term) → Among (0 ∷ 1 ∷ 2 ∷ 3 ∷ 7 ∷ 8 ∷ 9 ∷ []) t → final-term k t ≡ Empty
 unfolding final-term
 final-others k Empty h = refl
@@ -41,7 +41,7 @@ final-others k (PathIndex i) h = refl
 final-others k (EntryIndex i) h = refl
 final-others k (Entry o) h = refl
 
--- every other term takes one node
+-- every term but the empty one takes one node
 pub size-others : (t : Term) → Among (1 ∷ 2 ∷ 3 ∷ 4 ∷ 5 ∷ 6 ∷ 7 ∷ 8 ∷ 9 ∷ []) t → size t ≡ 1
 unfolding size
 size-others Empty h = absurd (miss (1 ∷ 2 ∷ 3 ∷ 4 ∷ 5 ∷ 6 ∷ 7 ∷ 8 ∷ 9 ∷ []) 0 tt h)
@@ -55,7 +55,7 @@ size-others (PathIndex i) h = refl
 size-others (EntryIndex i) h = refl
 size-others (Entry o) h = refl
 
--- and is no reduction
+-- no other term is a reduction
 pub reduces-others : (t : Term) → Among (0 ∷ 1 ∷ 2 ∷ 3 ∷ 5 ∷ 6 ∷ 7 ∷ 8 ∷ 9 ∷ []) t → reduces t ≡ 0
 unfolding reduces
 reduces-others Empty h = refl

@@ -13,7 +13,7 @@ use Rattle.nodes.specs.Nodes.{node}
 use Rattle.fusion.specs.declared.Written.{Written}
 use Rattle.fusion.specs.Fusion.{fused-term, index-of, put-part, put-term, reduces, size}
 
--- the search from index i on, of which what was passed is added
+-- the search from index i on: i is added to what it finds there
 module _ (w : ℕ) (table : List ℕ) (i : ℕ) (h : i < length table) where
   -- the number stands at i
   pub index-here : getD table i 0 ≡ w → i + index-of w (drop i table) ≡ i

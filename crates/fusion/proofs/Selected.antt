@@ -30,13 +30,13 @@ unfoldable pub reduced : List Node → ℕ
 reduced [] = 0
 reduced (n ∷ l) = reduces (n .term) + reduced l
 
--- those of two lists, added up
+-- of two lists, added up
 pub reduced-append : (l m : List Node) → reduced (l ++ m) ≡ reduced l + reduced m
 unfolding reduced
 reduced-append [] m = omega arith
 reduced-append (n ∷ l) m = omega (arith, reduced-append l m)
 
--- of two lists, one behind the other
+-- the nodes of two lists are one behind the other; the second stands behind the reductions of the first
 pub selected-append : (part : ℕ) (table : List ℕ) (k : ℕ) (l m : List Node)
     → selected part table k (l ++ m) ≡ selected part table k l ++ selected part table (k + reduced l) m
 unfolding selected reduced
@@ -109,7 +109,7 @@ module _ (d : Written) (l : List Node) (h : Holds d l) where
         len = omega (arith, h .len, n);
       })
 
-  -- either way
+  -- any term, while there is room
   holds-term : (t : Term) → length l + size t ≤ 72 → Holds (put-term d t) (l ++ one t)
   holds-term t r = go (size-cases t)
     where

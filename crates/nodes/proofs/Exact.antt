@@ -77,6 +77,7 @@ result-size = count-term result-leaves reduction-nodes 1 (λ e. ap suc (vertex-s
 
 -- ---- expressions of a plan: the leaves are indices, of two bytes
 
+-- `made` is the term of an index: what its tag is read as, and the next term starts two bytes on; its text is the tag and the index
 module _ (m count : ℕ) (made : ℕ → single.Term) (is : (s : List ℕ) (i : ℕ) → tagged (leaf-tag m) s i ≡ made (getD s (i + 1) 0)) (on : (s : List ℕ) (i : ℕ) → passed (leaf-tag m) s i ≡ i + 2)
     (text : (j : ℕ) → term-text (made j) ≡ leaf-tag m ∷ j ∷ []) where
   abbrev index-nodes : ℕ → List Node

@@ -35,14 +35,14 @@ abbrev inner : Body → List ℕ
 inner (each-vertex t) = 0 ∷ expression-bytes 2 t
 inner (one-result es t) = entries-bytes es ++ expression-bytes 3 t
 
--- are behind one byte
+-- those of a plan's body are its entry count and these
 body-is : (b : Body) → body-bytes b ≡ entry-count b ∷ inner b
 body-is (each-vertex t) = refl
 body-is (one-result es t) = refl
 
 -- THE NODES ARE COLLECTED
 module _ (s : List ℕ) (count : ℕ) where
-  -- of entries
+  -- those of entries, where their bytes stand, and the terms behind them
   entries-collected : (es : List (VertexReduction ℕ)) → All (EntryLegal count) es → (i k : ℕ) (rest : List ℕ) → drop i s ≡ entries-bytes es ++ rest
       → collected (entry-terms es + length es + k) s i ≡ entries-nodes es ++ collected k s (i + length (entries-bytes es))
   entries-collected [] f i k rest d = ap₂ (λ (n j : ℕ). collected n s j) (let e : 0 + k ≡ k = omega arith in e) (let e : i ≡ i + 0 = omega arith in e)
@@ -63,7 +63,7 @@ module _ (s : List ℕ) (count : ℕ) where
       (p ∙ ap (λ (l : List Node). entry-nodes (e .body) ++ l) (q ∙ ap (λ (j : ℕ). entries-nodes es ++ collected k s j) end)
       ∙ sym (append-assoc (entry-nodes (e .body)) (entries-nodes es) (collected k s (i + suc (length (b ++ entries-bytes es))))))
 
--- of a whole plan
+-- those of a whole body
 body-collected : (s : List ℕ) (count : ℕ) (b : Body) → BodyLegal count b → (i : ℕ) → drop i s ≡ inner b
     → (j : ℕ) × (collected (plan-terms b + entry-count b + 0) s i ≡ body-nodes b ++ collected 0 s j)
 body-collected s count (each-vertex t) l i d =
@@ -93,12 +93,12 @@ inner-there p =
     ap (λ (i : ℕ). drop i s) (let z : 8 + 6 * length (p .paths) ≡ 7 + n + 1 = omega (arith, rows-size (p .paths)) in z)
     ∙ drop-on s (7 + n) 1 (entry-count (p .body) ∷ []) (inner (p .body)) d refl
 
--- a legal plan has at most eight
+-- a legal plan has at most eight entries
 pub few-entries : (count : ℕ) (b : Body) → BodyLegal count b → entry-count b ≤ 8
 few-entries count (each-vertex t) l = omega arith
 few-entries count (one-result es t) l = l .0
 
--- so they are read as the nodes of the plan
+-- the nodes read from a legal plan's bytes are the plan's
 nodes-are : (p : Plan) → PlanLegal 256 p → nodes-read (plan-terms (p .body) + entry-count (p .body)) (encode p) (8 + 6 * length (p .paths)) ≡ padded (body-nodes (p .body))
 nodes-are p l =
     let b = body-collected (encode p) (length (p .paths)) (p .body) (l .body-legal) (8 + 6 * length (p .paths)) (inner-there p) in
@@ -147,7 +147,7 @@ entries-size : (es : List (VertexReduction ℕ)) → length (entries-nodes es) �
 entries-size [] = refl
 entries-size (e ∷ es) = omega (arith, length-append (entry-nodes (e .body)) (entries-nodes es), entry-size (e .body), entries-size es)
 
--- and so for a whole plan
+-- of a whole body
 pub body-size : (b : Body) → length (body-nodes b) ≡ plan-terms b + entry-count b
 body-size (each-vertex t) = omega (arith, entry-size t)
 body-size (one-result es t) = omega (arith, length-append (entries-nodes es) (final-nodes t), entries-size es, final-size t)

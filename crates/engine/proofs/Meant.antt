@@ -60,6 +60,7 @@ module _ (n : ℕ) where
       go false true p q z = inl (ltb-true (c .source) n q)
       go false false p q z = absurd (omega arith)
 
+  -- so of a list
   pub sources-fit : (cs : List PathReduction) → All (PathFits 256) cs → sources-code n cs ≡ 0 → All (PathFits n) cs
   unfolding sources-code
   sources-fit [] f e = tt
@@ -78,6 +79,7 @@ module _ (n : ℕ) where
       go (inl h) false p = rw (p, lt-ltb (c .source) n h) refl
       go (inr h) false p = absurd (eqb-false (c .source) anywhere p h)
 
+  -- and back: sources that fit are accepted
   pub sources-accepted : (cs : List PathReduction) → All (PathFits n) cs → sources-code n cs ≡ 0
   unfolding sources-code
   sources-accepted [] f = refl
@@ -205,6 +207,7 @@ run-judged limit s m room =
     let c = sources-code (at16 m 5) (paths-of (plan-scan s)) in
     sym (unless-then (plan-code s) (then (graph-code m) c) A ∙ ap (unless (plan-code s)) (unless-then (graph-code m) c A))
 
+-- where there is a first number, the run is refused by it
 pub run-refused : (limit : Limit) (s m : List ℕ) (room k : ℕ) → k ≡ run-code (plan-scan s) m → (k ≡ 0 → ⊥) → run-reply limit s m room ≡ refused k
 run-refused limit s m room k e h = run-judged limit s m room ∙ rw (← e, ne-eqb k 0 h) refl
 
@@ -213,6 +216,7 @@ module _ (p : Plan) (legal : PlanLegal 256 p) (m : List ℕ) (bytes : Bytes m) (
   paths-are-its : paths-of (plan-scan (encode p)) ≡ p .paths
   paths-are-its = paths-held (plan-scan (encode p)) (p .paths) (read-complete p legal .table)
 
+  -- by the definition of a run
   pub run-answers : All (PathFits (at16 m 5)) (p .paths) → (limit : Limit) (room : ℕ)
       → run-reply limit (encode p) m room ≡ fitted (answer.encode (at16 m 5) (kind-of (p .body)) (outcome limit (graph-of m) p)) room
   unfolding run-code
@@ -241,6 +245,7 @@ run-means s m bs bm z =
     let fits = sources-fit (at16 m 5) (p .paths) (r .1 .paths-legal) (subst (λ (cs : List PathReduction). sources-code (at16 m 5) cs ≡ 0) its (subst (λ (t : List ℕ). sources-code (at16 m 5) (paths-of (plan-scan t)) ≡ 0) (sym (r .2)) (b .1))) in
     (p, r .1, r .2, λ limit room. ap (λ (t : List ℕ). run-reply limit t m room) (sym (r .2)) ∙ run-answers p (r .1) m bm (b .0) fits limit room)
 
+-- THE PROGRAM'S REPLY IS THE RUN'S, for all bytes that are not refused before 15
 pub finished-meant : (push given : Bool) (r : ℕ) (limit : Limit) → limit ≡ meant given r → (s m : List ℕ) (room : ℕ) → r < 65536 → Bytes s → Bytes m → run-code (plan-scan s) m ≡ 0
     → run-reply limit s m room ≡ finished push given r s (plan-scan s) m room
 unfolding run-code

@@ -20,17 +20,19 @@ use Rattle.wire.specs.Wire.{Reply, unless}
 use Rattle.engine.specs.declared.Limit.{Limit}
 use Rattle.engine.specs.declared.Limit.the-variants.{Quiet, Rounds}
 
--- a path reduction by its six bytes as one number (`path-of-number`, proofs/Numbers: it is the one with that number); those of a worksheet
+-- a path reduction by its six bytes as one number (`path-of-number`, proofs/Numbers: it is the one with that number)
 unfoldable pub path-of : ℕ → PathReduction
 path-of w = record { keys = take (w % 256) (w / 256 % 256 ∷ w / 65536 % 256 ∷ w / 16777216 % 256 ∷ []); source = w / 4294967296 }
 
+-- those of a worksheet, as its reader holds them
 abbrev pub paths-of : Progress → List PathReduction
 paths-of w = map path-of (take (w .paths) (w .table))
 
--- "13 | start | .. at a run n or more other than 65,535", "starts in chain order"
+-- "13 | start | .. at a run n or more other than 65,535"
 abbrev pub outside-code : ℕ → ℕ → ℕ
 outside-code n source = cond (eqb source anywhere) 0 (cond (ltb source n) 0 13)
 
+-- "starts in chain order"
 unfoldable pub sources-code : ℕ → List PathReduction → ℕ
 sources-code n [] = 0
 sources-code n (c ∷ cs) = then (outside-code n (c .source)) (sources-code n cs)
@@ -45,6 +47,7 @@ rounds-done (Rounds r) g cs = r
 unfoldable pub rows-after : List ℕ → Graph → List PathReduction → ℕ → List Value
 rows-after s g cs r = values (body-found s (λ v. eight (values-at (pull g) cs r v)) (g .vertices))
 
+-- the answer: its rows after the rounds that are done, or 15
 unfoldable pub answered : Limit → List ℕ → Graph → List PathReduction → ℕ → Reply
 answered limit s g cs room = answer-reply (g .vertices) (rounds-done limit g cs) (getD s 5 0) (rows-after s g cs (rounds-done limit g cs)) room
 

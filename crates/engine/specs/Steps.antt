@@ -19,19 +19,23 @@ use Rattle.engine.specs.Run.{paths-of, sources-code}
 unfoldable pub run-code : Progress → List ℕ → ℕ
 run-code w m = then (w .code) (then (graph-code m) (sources-code (at16 m 5) (paths-of w)))
 
--- the limit as document 01 has it; at most so many rounds are done; so many are reported
+-- the limit of which the program keeps whether a number is given, and that number
 abbrev pub meant : Bool → ℕ → Limit
 meant given limit = cond given (Rounds limit) Quiet
 
+-- at most so many rounds are done: the number given, or 2n
 abbrev pub limit-of : Bool → ℕ → ℕ → ℕ
 limit-of given limit n = cond given limit (2 * n)
 
+-- so many are reported: the number given, or those done
 abbrev pub count-of : Bool → ℕ → ℕ → ℕ
 count-of given limit count = cond given limit count
 
+-- the table of figures and the rounds done, as the run in code leaves them
 abbrev pub table-after : Bool → Bool → ℕ → Progress → List ℕ → Ran
 table-after push given limit w m = ran push m (min (w .paths) 8) (w .table) (limit-of given limit (at16 m 5)) (replicate 8192 0)
 
+-- the reply where nothing is refused before 15
 unfoldable pub finished : Bool → Bool → ℕ → List ℕ → Progress → List ℕ → ℕ → Reply
 finished push given limit s w m room =
     let n = at16 m 5 in

@@ -32,7 +32,7 @@ use Rattle.rounds_laws.specs.Ways.{way}
 use Rattle.rows.specs.Rows.{body-read, final-found, many, body-count, rows-at}
 use Rattle.rows.proofs.Exact.{Holds, answer-rows, rows-length}
 use Rattle.term_text.proofs.Table.{Table}
-use Rattle.terms.specs.declared.Progress.{Progress}
+use Rattle.progress.specs.declared.Progress.{Progress}
 use Rattle.value.specs.declared.Row.{Row}
 use Rattle.value.specs.declared.Value.{Value}
 use Rattle.value.specs.declared.Value.the-variants.{Absent}

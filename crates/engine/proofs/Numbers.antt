@@ -12,7 +12,7 @@ use Rattle.nodes.proofs.Fields.{path-digits}
 use Rattle.term_text.specs.Text.{path-number}
 use Rattle.term_text.proofs.Paths.{legal-parts}
 use Rattle.term_text.proofs.Table.{Table}
-use Rattle.terms.specs.declared.Progress.{Progress}
+use Rattle.progress.specs.declared.Progress.{Progress}
 use Rattle.walks.specs.Lists.{All}
 use Rattle.engine.specs.Run.{path-of, paths-of}
 

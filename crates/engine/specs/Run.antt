@@ -10,7 +10,7 @@ use Rattle.graph.specs.Graph.{graph-code, graph-of}
 use Rattle.meaning.specs.Query.{PathReduction, anywhere}
 use Rattle.meaning.specs.Run.{pull, values-at}
 use Rattle.plan.specs.Plan.{plan-code, plan-scan}
-use Rattle.terms.specs.declared.Progress.{Progress}
+use Rattle.progress.specs.declared.Progress.{Progress}
 use Rattle.value.specs.declared.Value.{Value}
 use Rattle.value.specs.Value.{values}
 use Rattle.walks.specs.Rounds.{rounds}

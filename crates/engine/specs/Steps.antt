@@ -7,7 +7,7 @@ use Rattle.answer.specs.Answer.{answer-reply}
 use Rattle.graph.specs.Graph.{graph-code}
 use Rattle.rounds.specs.Run.{Ran, ran}
 use Rattle.rows.specs.Rows.{body-read, many, rows-at}
-use Rattle.terms.specs.declared.Progress.{Progress}
+use Rattle.progress.specs.declared.Progress.{Progress}
 use Rattle.value.specs.Value.{values}
 use Rattle.wire.specs.Header.{then}
 use Rattle.wire.specs.Wire.{Reply, at16}

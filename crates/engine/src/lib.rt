@@ -1,5 +1,5 @@
 // Runs (document 01): a worksheet on a map, bytes to bytes, by pull and by push, to the first quiet round or for a given number of rounds.
-use terms::Progress;
+use progress::Progress;
 ghost use mathlib.Core.Path.{_≡_};
 ghost use mathlib.Core.List.{map};
 ghost use Prim.Native.Nat.{_≤_};

@@ -14,7 +14,7 @@ use Rattle.fusion.specs.Fusion.{fuse-reply}
 use Rattle.graph.specs.Graph.{graph-code}
 use Rattle.plan.specs.Plan.{plan-code}
 use Rattle.query.specs.Query.{query-code}
-use Rattle.terms.specs.declared.Progress.{Progress}
+use Rattle.progress.specs.declared.Progress.{Progress}
 use Rattle.wire.specs.Wire.{Reply, unless}
 use Rattle.first_bytes.proofs.Graph as graph
 use Rattle.first_bytes.proofs.Query as query

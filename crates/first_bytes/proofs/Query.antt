@@ -10,8 +10,9 @@ use lib.Dec.{leb, ltb, eqb}
 use lib.ListN.{length, getD, set}
 use Rattle.fields.specs.Fields.{code-of, key-code, keys-code, opening-code, path-code, path-word, source-code}
 use Rattle.terms.specs.declared.Step.{Step}
-use Rattle.terms.specs.declared.Progress.{Progress}
-use Rattle.terms.specs.Terms.{advanced, apply-step, blank, ended, index-step, kept-path, leaf-step, leaf-tag, literal-step, literal-tag, path-step, read, reduce-step, slot-of, started, stopped, term-step}
+use Rattle.progress.specs.declared.Progress.{Progress}
+use Rattle.terms.specs.Terms.{advanced, apply-step, index-step, kept-path, leaf-step, leaf-tag, literal-step, literal-tag, path-step, read, reduce-step, slot-of, stopped, term-step}
+use Rattle.progress.specs.Progress.{blank, ended, started}
 use Rattle.term_text.proofs.Paths.{code-range}
 use Rattle.query.specs.Query.{query-code, query-scan}
 use Rattle.wire.specs.Header.{header-code, then}

@@ -8,7 +8,7 @@ use lib.Dec.{eqb}
 use Rattle.plan_form.specs.Form.{write-reply}
 use Rattle.query.specs.Query.{query-code, query-scan}
 use Rattle.query_form.specs.Form.{query-reading, read-after}
-use Rattle.terms.specs.declared.Progress.{Progress}
+use Rattle.progress.specs.declared.Progress.{Progress}
 use Rattle.wire.specs.Wire.{refused}
 use Rattle.fusion.specs.Fusion.{fuse-reply, fused-form}
 

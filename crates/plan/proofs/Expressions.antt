@@ -10,8 +10,9 @@ use lib.ListN.{length, getD, drop, length-append}
 use Rattle.meaning.specs.Limits.{terms, EntryLegal, Expression, entry-terms, unit}
 use Rattle.meaning.specs.Plan.{put-all}
 use Rattle.meaning.specs.Query.{PathReduction, Term, VertexReduction}
-use Rattle.terms.specs.declared.Progress.{Progress}
-use Rattle.terms.specs.Terms.{blank, index-step, leaf-step, leaf-tag, literal-tag, read}
+use Rattle.progress.specs.declared.Progress.{Progress}
+use Rattle.terms.specs.Terms.{index-step, leaf-step, leaf-tag, literal-tag, read}
+use Rattle.progress.specs.Progress.{blank}
 use Rattle.terms.proofs.Laws.{accepted-as}
 use Rattle.term_text.specs.Text.{expression-bytes}
 use Rattle.term_text.proofs.Exact.{expression-complete, expression-sound, index-count, index-leaves, index-paths}

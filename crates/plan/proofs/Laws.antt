@@ -6,7 +6,7 @@ use mathlib.Core.List.{List}
 use native.Mathlib.Omega.{arith}
 use native.Mathlib.Nat.{not-suc-le-zero}
 use lib.Dec.{eqb}
-use Rattle.terms.specs.declared.Progress.{Progress}
+use Rattle.progress.specs.declared.Progress.{Progress}
 use Rattle.plan.specs.Plan.{entries-scan, entry-scan, row-step, rows-scan}
 
 pub rows-next : (k : ℕ) (s : List ℕ) (w : Progress) → 0 < k → rows-scan k s w ≡ cond (eqb (w .code) 0) (rows-scan (k - 1) s (row-step s w)) w

@@ -12,9 +12,9 @@ use lib.Seq.{set-at, append-snoc}
 use Rattle.meaning.specs.Limits.{PathFits}
 use Rattle.meaning.specs.Query.{PathReduction}
 use Rattle.meaning.proofs.Lists.{all-append, map-append}
-use Rattle.terms.specs.declared.Progress.{Progress}
+use Rattle.progress.specs.declared.Progress.{Progress}
 use Rattle.fields.specs.Fields.{code-of, source-code}
-use Rattle.terms.specs.Terms.{blank}
+use Rattle.progress.specs.Progress.{blank}
 use Rattle.terms.proofs.Laws.{accepted-as}
 use Rattle.term_text.specs.Text.{path-number}
 use Rattle.wire.proofs.Past.{getD-any}

@@ -4,9 +4,10 @@ use mathlib.Core.Bool.{cond}
 use mathlib.Core.List.{List}
 use lib.Dec.{leb, ltb, eqb}
 use lib.ListN.{length, getD, set}
-use Rattle.terms.specs.declared.Progress.{Progress}
+use Rattle.progress.specs.declared.Progress.{Progress}
 use Rattle.fields.specs.Fields.{code-of, key-code, opening-code, packed, source-code}
-use Rattle.terms.specs.Terms.{blank, ended, read, started}
+use Rattle.terms.specs.Terms.{read}
+use Rattle.progress.specs.Progress.{blank, ended, started}
 use Rattle.wire.specs.Header.{then}
 
 -- "an illegal .. filler byte": an unused key byte, or the reduction byte of kind 0, is 0

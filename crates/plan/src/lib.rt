@@ -1,5 +1,5 @@
 // Plans (document 01, worksheet `LPW`): judged and read.
-use terms::Progress;
+use progress::Progress;
 ghost use mathlib.Core.Path.{_≡_};
 ghost use Prim.Native.Nat.{_+_, _≤_, _<_};
 ghost use lib.ListN.{length};
@@ -79,14 +79,14 @@ fn row_step_of(s: &[u8], w: Progress) -> Progress
     let at = w.at;
     let i = w.paths;
     if s.len() <= at {
-        return terms::blank_of(1);
+        return progress::blank_of(1);
     }
     let c = row_code_of(s, at);
     if c != 0 {
-        return terms::blank_of(c);
+        return progress::blank_of(c);
     }
     if 8 <= i {
-        return terms::blank_of(14);
+        return progress::blank_of(14);
     }
     let mut r = w;
     r.at = at + 6;
@@ -127,11 +127,11 @@ fn entry(s: &[u8], w: Progress, kind: u16) -> Progress
 {
     let at = w.at;
     if s.len() <= at {
-        return terms::blank_of(1);
+        return progress::blank_of(1);
     }
     let c = reduction_code_of(kind, fields::byte(s, at));
     if c != 0 {
-        return terms::blank_of(c);
+        return progress::blank_of(c);
     }
     let mut next = w;
     next.at = at + 1;
@@ -194,10 +194,10 @@ fn body(s: &[u8], w: Progress, kind: u16) -> Progress
     let e = fields::byte(s, at);
     let c = count_code_of(kind, e);
     if c != 0 {
-        return terms::blank_of(c);
+        return progress::blank_of(c);
     }
     if s.len() <= at {
-        return terms::blank_of(1);
+        return progress::blank_of(1);
     }
     let mut next = w;
     next.at = at + 1;
@@ -211,18 +211,18 @@ pub fn scan(s: &[u8]) -> Progress
 {
     let c = fields::opening_code(s, 0x57);
     if c != 0 {
-        return terms::blank_of(c);
+        return progress::blank_of(c);
     }
     let kind = fields::byte(s, 5);
     let count = fields::byte(s, 6);
     if 255 < count {
-        return terms::blank_of(1);
+        return progress::blank_of(1);
     }
     if 8 < count {
-        return terms::blank_of(14);
+        return progress::blank_of(14);
     }
-    let paths = rows(s, terms::start(7), count as usize);
-    terms::finish(s, body(s, paths, kind))
+    let paths = rows(s, progress::start(7), count as usize);
+    progress::finish(s, body(s, paths, kind))
 }
 
 // The number of the first refusal, 0 where the bytes are accepted.

@@ -12,8 +12,9 @@ use Rattle.meaning.specs.Plan.{put-all}
 use Rattle.meaning.specs.Query.{PathReduction, Query, Term, each, single, written-paths}
 use Rattle.fields.specs.Fields.{opening-code}
 use Rattle.fields.proofs.Opening.{opening-found}
-use Rattle.terms.specs.declared.Progress.{Progress}
-use Rattle.terms.specs.Terms.{blank, ended, read, started}
+use Rattle.progress.specs.declared.Progress.{Progress}
+use Rattle.terms.specs.Terms.{read}
+use Rattle.progress.specs.Progress.{blank, ended, started}
 use Rattle.term_text.specs.Text.{term-bytes}
 use Rattle.term_text.proofs.Exact.{result-complete, result-count, result-leaves, result-paths, result-sound, vertex-complete, vertex-count, vertex-leaves, vertex-paths, vertex-sound}
 use Rattle.term_text.proofs.Ends.{ended-code, ended-whole, no-rest, started-table}

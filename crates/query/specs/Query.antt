@@ -6,8 +6,9 @@ use lib.Dec.{eqb}
 use lib.ListN.{getD}
 use Rattle.meaning.specs.Query.{Query, each, single}
 use Rattle.fields.specs.Fields.{opening-code}
-use Rattle.terms.specs.declared.Progress.{Progress}
-use Rattle.terms.specs.Terms.{blank, ended, read, started}
+use Rattle.progress.specs.declared.Progress.{Progress}
+use Rattle.terms.specs.Terms.{read}
+use Rattle.progress.specs.Progress.{blank, ended, started}
 use Rattle.term_text.specs.Text.{result-bytes, vertex-bytes}
 use Rattle.wire.specs.Header.{header-bytes}
 

@@ -1,5 +1,5 @@
 // Queries (document 01, question `LPQ`): judged and read.
-use terms::Progress;
+use progress::Progress;
 ghost use mathlib.Core.Path.{_≡_};
 ghost use Rattle.query.specs.Query.{query-scan, query-code};
 
@@ -9,11 +9,11 @@ pub fn scan(s: &[u8]) -> Progress
 {
     let c = fields::opening_code(s, 0x51);
     if c != 0 {
-        return terms::blank_of(c);
+        return progress::blank_of(c);
     }
     let kind = fields::byte(s, 5);
-    let read = terms::read_term(s, terms::start(6), kind as u8, 16);
-    terms::finish(s, read)
+    let read = terms::read_term(s, progress::start(6), kind as u8, 16);
+    progress::finish(s, read)
 }
 
 // The number of the first refusal, 0 where the bytes are accepted.

@@ -11,7 +11,7 @@ use Rattle.nodes.specs.Text.{nodes-text}
 use Rattle.nodes.specs.Nodes.{node, nodes-read, padded}
 use Rattle.nodes.specs.Tree.{result-nodes, vertex-nodes}
 use Rattle.query.specs.Query.{query-code, query-scan}
-use Rattle.terms.specs.declared.Progress.{Progress}
+use Rattle.progress.specs.declared.Progress.{Progress}
 use Rattle.wire.specs.Header.{header-bytes}
 use Rattle.wire.specs.Wire.{Reply, fitted, unless}
 use Rattle.query_form.specs.declared.Form.{Form}

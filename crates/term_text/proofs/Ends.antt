@@ -7,8 +7,8 @@ use native.Mathlib.Omega.{arith}
 use borrow.Author.Tests.{ltb-false, eqb-false, le-ltb}
 use lib.Dec.{ltb, eqb}
 use lib.ListN.{length, replicate}
-use Rattle.terms.specs.declared.Progress.{Progress}
-use Rattle.terms.specs.Terms.{blank, ended, started}
+use Rattle.progress.specs.declared.Progress.{Progress}
+use Rattle.progress.specs.Progress.{blank, ended, started}
 use Rattle.term_text.proofs.Table.{Table}
 
 -- before the first term the table is empty

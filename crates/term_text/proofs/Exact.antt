@@ -13,9 +13,10 @@ use Rattle.meaning.specs.Plan.{put-all}
 use Rattle.meaning.specs.Query.{PathReduction, ResultTerm, Term, VertexReduction, VertexTerm, apply, bodies, leaf, leaves, literal}
 use Rattle.meaning.proofs.Lists.{bodies-append}
 use Rattle.wire.specs.Wire.{Bytes, le16}
-use Rattle.terms.specs.declared.Progress.{Progress}
+use Rattle.progress.specs.declared.Progress.{Progress}
 use Rattle.fields.specs.Fields.{code-of, path-code}
-use Rattle.terms.specs.Terms.{advanced, blank, index-step, kept-path, leaf-step, leaf-tag, literal-tag, path-step, read, reduce-step, term-step}
+use Rattle.terms.specs.Terms.{advanced, index-step, kept-path, leaf-step, leaf-tag, literal-tag, path-step, read, reduce-step, term-step}
+use Rattle.progress.specs.Progress.{blank}
 use Rattle.terms.proofs.Laws.{accepted-as}
 use Rattle.term_text.specs.Text.{path-bytes, path-number, vertex-bytes}
 use Rattle.wire.proofs.Past.{getD-any}

@@ -13,7 +13,7 @@ use Rattle.meaning.specs.Plan.{among, put, put-all}
 use Rattle.meaning.specs.Query.{PathReduction, Term, apply, leaf, literal}
 use Rattle.meaning.proofs.Paths.{put-all-append}
 use Rattle.wire.specs.Wire.{Bytes, le32}
-use Rattle.terms.specs.declared.Progress.{Progress}
+use Rattle.progress.specs.declared.Progress.{Progress}
 use Rattle.fields.specs.Fields.{code-of}
 use Rattle.terms.specs.Terms.{advanced, apply-step, leaf-tag, literal-step, literal-tag, read, term-step}
 use Rattle.term_text.specs.Text.{term-bytes}

@@ -11,8 +11,9 @@ use lib.Seq.{drop-drop, drop-append-seam}
 use Rattle.meaning.specs.Query.{PathReduction}
 use Rattle.wire.specs.Wire.{le32}
 use Rattle.terms.specs.declared.Step.{Step}
-use Rattle.terms.specs.declared.Progress.{Progress}
-use Rattle.terms.specs.Terms.{advanced, apply-step, blank, leaf-step, leaf-tag, literal-step, literal-tag, read, stopped, term-step}
+use Rattle.progress.specs.declared.Progress.{Progress}
+use Rattle.terms.specs.Terms.{advanced, apply-step, leaf-step, leaf-tag, literal-step, literal-tag, read, stopped, term-step}
+use Rattle.progress.specs.Progress.{blank}
 use Rattle.terms.proofs.Laws.{accepted-as, read-next}
 use Rattle.term_text.proofs.Paths.{digits, nth, two-bytes}
 use Rattle.term_text.proofs.Table.{Table}

@@ -16,8 +16,9 @@ use Rattle.meaning.proofs.Lists.{all-append, map-append}
 use Rattle.meaning.proofs.Paths.{path-refl, path-same, position-at, position-below}
 use Rattle.walks.specs.Lists.{All}
 use Rattle.walks.proofs.Tests.{T-of}
-use Rattle.terms.specs.declared.Progress.{Progress}
-use Rattle.terms.specs.Terms.{blank, kept-path, slot-of}
+use Rattle.progress.specs.declared.Progress.{Progress}
+use Rattle.terms.specs.Terms.{kept-path, slot-of}
+use Rattle.progress.specs.Progress.{blank}
 use Rattle.terms.proofs.Laws.{accepted-as}
 use Rattle.term_text.specs.Text.{path-number}
 use Rattle.term_text.proofs.Paths.{number-same}

@@ -9,7 +9,7 @@ use borrow.Author.Tests.{eqb-true, eqb-false, ne-eqb}
 use lib.Dec.{leb, eqb}
 use lib.ListN.{getD}
 use Rattle.terms.specs.declared.Step.{Step}
-use Rattle.terms.specs.declared.Progress.{Progress}
+use Rattle.progress.specs.declared.Progress.{Progress}
 use Rattle.terms.specs.Terms.{read, slot-of, term-step}
 
 -- one index of the table

@@ -3,14 +3,11 @@ use Prim.Native.Nat.{ℕ, zero, suc, _+_, max}
 use mathlib.Core.Bool.{true, false, cond}
 use mathlib.Core.List.{List}
 use lib.Dec.{leb, ltb, eqb}
-use lib.ListN.{length, getD, set, replicate}
+use lib.ListN.{length, getD, set}
 use Rattle.terms.specs.declared.Step.{Step}
-use Rattle.terms.specs.declared.Progress.{Progress}
+use Rattle.progress.specs.declared.Progress.{Progress}
+use Rattle.progress.specs.Progress.{blank}
 use Rattle.fields.specs.Fields.{code-of, path-code, path-word}
-
--- the state after a refusal
-unfoldable pub blank : ℕ → Progress
-blank code = record { code = code; at = 0; terms = 0; paths = 0; reductions = 0; table = replicate 8 0 }
 
 -- the step of a refusal
 abbrev pub stopped : ℕ → Step
@@ -106,11 +103,3 @@ read mode (suc left) s w =
       ]
       | false ↦ w
     ]
-
--- the state before the first term, at byte `at`
-unfoldable pub started : ℕ → Progress
-started at = record { code = 0; at = at; terms = 0; paths = 0; reductions = 0; table = replicate 8 0 }
-
--- "Left-over bytes come last": 6
-unfoldable pub ended : List ℕ → Progress → Progress
-ended s w = cond (eqb (w .code) 0) (cond (ltb (w .at) (length s)) (blank 6) w) w

@@ -1,20 +1,10 @@
 // The reader of terms, of questions and worksheets alike (document 01, "Layouts"): bytes judged left to right, each term by the
 // numbers 1, 12, 11, 9 and then its fields. The result is how far the reading has come, or one blank state with the refusal.
+use progress::Progress;
 ghost use mathlib.Core.Path.{_≡_};
 ghost use Prim.Native.Nat.{_+_, _≤_, _<_, max};
 ghost use lib.ListN.{length};
-ghost use Rattle.terms.specs.Terms.{blank, stopped, slot-of, kept-path, advanced, path-step, reduce-step, index-step, leaf-step, literal-step, apply-step, leaf-tag, literal-tag, term-step, read, started, ended};
-
-// How far a reading has come. `code` is 0, or the number of the refusal; `paths` and `reductions` count what has been met, or, in a
-// worksheet, what there is; `table` holds the different path reductions, each as its six worksheet bytes in one number.
-pub struct Progress {
-    pub code: u8,
-    pub at: usize,
-    pub terms: usize,
-    pub paths: usize,
-    pub reductions: usize,
-    pub table: [u64; 8],
-}
+ghost use Rattle.terms.specs.Terms.{stopped, slot-of, kept-path, advanced, path-step, reduce-step, index-step, leaf-step, literal-step, apply-step, leaf-tag, literal-tag, term-step, read};
 
 // A term read without those that it contains, and how many follow.
 pub struct Step {
@@ -48,27 +38,12 @@ fn slot(table: [u64; 8], paths: usize, word: u64) -> usize
     i
 }
 
-// The state after a refusal: its number, and nothing read.
-pub fn blank_of(code: u8) -> Progress
-    ensures { λ r. ⌜ r ≡ blank code ⌝ }
-{
-    let table = [0u64; 8];
-    Progress {
-        code,
-        at: 0,
-        terms: 0,
-        paths: 0,
-        reductions: 0,
-        table,
-    }
-}
-
 // No term, for the reason that the number gives.
 fn stop(code: u8) -> Step
     ensures { λ r. ⌜ r ≡ stopped code ⌝ }
 {
     Step {
-        progress: blank_of(code),
+        progress: progress::blank_of(code),
         follow: 0,
     }
 }
@@ -98,7 +73,7 @@ fn keep_path(w: Progress, word: u64) -> Progress
     let table = w.table;
     let i = slot(table, w.paths, word);
     if 8 <= i {
-        return blank_of(14);
+        return progress::blank_of(14);
     }
     let mut r = w;
     r.table[i] = word;
@@ -291,32 +266,4 @@ pub fn read_term(s: &[u8], w: Progress, mode: u8, left: usize) -> Progress
     }
     let first = read_term(s, next, mode, left - 1);
     read_term(s, first, mode, left - 1)
-}
-
-// The state before the first term, at byte `at`.
-pub fn start(at: usize) -> Progress
-    ensures { λ r. ⌜ r ≡ started at ⌝ }
-{
-    let table = [0u64; 8];
-    Progress {
-        code: 0,
-        at,
-        terms: 0,
-        paths: 0,
-        reductions: 0,
-        table,
-    }
-}
-
-// The state after the last term: 6 where bytes are left over.
-pub fn finish(s: &[u8], w: Progress) -> Progress
-    ensures { λ r. ⌜ r ≡ ended (now (s .entry)) w ⌝ }
-{
-    if w.code != 0 {
-        return w;
-    }
-    if w.at < s.len() {
-        return blank_of(6);
-    }
-    w
 }

@@ -1,7 +1,7 @@
 -- `query::judge` meets its contract. Assumes nothing.
 use borrow.Author.Needs.{needs}
 use mathlib.Core.Path.{ap}
-use Rattle.terms.specs.declared.Progress.{Progress}
+use Rattle.progress.specs.declared.Progress.{Progress}
 use Rattle.query.proofs.judge.Statement.{statement}
 use Rattle.query.proofs.judge.Tie as tie
 

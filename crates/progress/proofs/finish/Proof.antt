@@ -1,9 +1,9 @@
--- `terms::finish` meets its contract. Assumes nothing.
+-- `progress::finish` meets its contract. Assumes nothing.
 use borrow.Author.Needs.{needs}
 use borrow.Author.Tests.{eq-eqb, le-ltb, lt-ltb, ne-eqb}
-use Rattle.terms.specs.Terms.{ended}
-use Rattle.terms.proofs.finish.Statement.{statement}
-use Rattle.terms.proofs.finish.Tie as tie
+use Rattle.progress.specs.Progress.{ended}
+use Rattle.progress.proofs.finish.Statement.{statement}
+use Rattle.progress.proofs.finish.Tie as tie
 
 returns : tie.Need-returns
 unfolding ended

@@ -8,7 +8,8 @@ use native.Mathlib.Omega.{arith}
 use borrow.Author.Tests.{eqb-true, eqb-false, leb-false, lt-leb, lt-ltb, le-ltb}
 use lib.Dec.{leb, ltb, eqb}
 use lib.ListN.{length, getD, set}
-use Rattle.fields.specs.Fields.{code-of, key-code, keys-code, opening-code, path-code, path-word, source-code}
+use Rattle.fields.specs.Fields.{code-of, key-code, opening-code, source-code}
+use Rattle.path_fields.specs.Paths.{keys-code, path-code, path-word}
 use Rattle.terms.specs.declared.Step.{Step}
 use Rattle.progress.specs.declared.Progress.{Progress}
 use Rattle.terms.specs.Terms.{advanced, apply-step, index-step, kept-path, leaf-step, leaf-tag, literal-step, literal-tag, path-step, read, reduce-step, slot-of, stopped, term-step}

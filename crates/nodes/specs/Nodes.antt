@@ -4,7 +4,7 @@ use mathlib.Core.Bool.{cond}
 use mathlib.Core.List.{List, [], _∷_, _++_}
 use lib.Dec.{leb, ltb, eqb}
 use lib.ListN.{length, getD, replicate}
-use Rattle.fields.specs.Fields.{path-word}
+use Rattle.path_fields.specs.Paths.{path-word}
 use Rattle.wire.specs.Wire.{at32}
 use Rattle.nodes.specs.declared.Node.{Node}
 use Rattle.nodes.specs.declared.Term.{Term}

@@ -37,7 +37,7 @@ fn term_of(s: &[u8], i: usize) -> Term
     }
     let tag = s[i];
     if tag == 0x10 {
-        return Term::Path(fields::path_word(s, i + 1));
+        return Term::Path(path_fields::path_word(s, i + 1));
     }
     if tag == 0x11 {
         return Term::Literal(wire::word(s, i + 1));

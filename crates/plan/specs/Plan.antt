@@ -5,7 +5,8 @@ use mathlib.Core.List.{List}
 use lib.Dec.{leb, ltb, eqb}
 use lib.ListN.{length, getD, set}
 use Rattle.progress.specs.declared.Progress.{Progress}
-use Rattle.fields.specs.Fields.{code-of, key-code, opening-code, packed, source-code}
+use Rattle.fields.specs.Fields.{code-of, key-code, opening-code, source-code}
+use Rattle.path_fields.specs.Paths.{packed}
 use Rattle.terms.specs.Terms.{read}
 use Rattle.progress.specs.Progress.{blank, ended, started}
 use Rattle.wire.specs.Header.{then}

@@ -62,7 +62,7 @@ fn row_word_of(s: &[u8], at: usize) -> u64
     let first = fields::byte(s, at + 1);
     let second = fields::byte(s, at + 2);
     let third = fields::byte(s, at + 3);
-    fields::pack(
+    path_fields::pack(
         fields::byte(s, at),
         first,
         second,

@@ -1,18 +1,10 @@
 // Rounds of all path reductions of a plan on one flat table (document 01: pull run, push run). Path reduction j has the numbers from 1,024 * j on (crate cells).
-use value::Value;
 ghost use mathlib.Core.Path.{_≡_};
 ghost use Prim.Native.Nat.{_*_, _<_, _≤_};
 ghost use lib.ListN.{length};
 ghost use Rattle.wire.specs.Wire.{at16};
 ghost use Rattle.graph.specs.Graph.{graph-code};
-ghost use Rattle.rounds.specs.Run.{initialized-at, initialized-upto, stepped, step-takes, turned, turned-upto, since-of, rounds-from, ran, value-in};
-
-// A figure as a value's number.
-fn wide(x: u32) -> u64
-    ensures { λ r. ⌜ r ≡ x ⌝ }
-{
-    x as u64
-}
+ghost use Rattle.rounds.specs.Run.{initialized-at, initialized-upto, stepped, step-takes, turned, turned-upto, since-of, rounds-from, ran};
 
 // How many vertices an accepted graph has.
 fn vertices(graph: &[u8]) -> usize
@@ -178,24 +170,4 @@ pub fn run(
         figures,
         &mut buffer[..w],
     )
-}
-
-// The value of path reduction j at vertex v; absent outside the table.
-pub fn value_at(figures: &[u32], j: usize, v: usize) -> Value
-    ensures { λ r. ⌜ r ≡ value-in (now (figures .entry)) j v ⌝ }
-{
-    if 8 <= j {
-        return Value::Absent;
-    }
-    if 256 <= v {
-        return Value::Absent;
-    }
-    let at = 1024 * j + 4 * v;
-    if figures.len() <= at + 3 {
-        return Value::Absent;
-    }
-    if figures[at + 3] == 0 {
-        return Value::Absent;
-    }
-    Value::Number(wide(figures[at + 2]))
 }

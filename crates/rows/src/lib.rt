@@ -8,6 +8,7 @@ ghost use Prim.Native.Nat.{_+_, _≤_, min};
 ghost use lib.ListN.{length, getD};
 ghost use Rattle.value.specs.Value.{reduce, values};
 ghost use Rattle.eval.specs.Body.{count-at, eight, entries-end, entry-rows, results, row};
+ghost use Rattle.rounds.specs.Run.{value-in};
 ghost use Rattle.rows.specs.Rows.{body-read, final-found, many, rows-at};
 
 // The results of the entries, and where the entries end.
@@ -30,6 +31,33 @@ fn count_at(plan: &[u8]) -> usize
     7 + 6 * wide(wire::byte(plan, 6))
 }
 
+// A figure as a value's number.
+fn number(x: u32) -> u64
+    ensures { λ r. ⌜ r ≡ x ⌝ }
+{
+    x as u64
+}
+
+// The value of path reduction j at vertex v; absent outside the table.
+fn value_at(figures: &[u32], j: usize, v: usize) -> Value
+    ensures { λ r. ⌜ r ≡ value-in (now (figures .entry)) j v ⌝ }
+{
+    if 8 <= j {
+        return Value::Absent;
+    }
+    if 256 <= v {
+        return Value::Absent;
+    }
+    let at = 1024 * j + 4 * v;
+    if figures.len() <= at + 3 {
+        return Value::Absent;
+    }
+    if figures[at + 3] == 0 {
+        return Value::Absent;
+    }
+    Value::Number(number(figures[at + 2]))
+}
+
 // The values of the path reductions at the vertex v.
 fn values_at(figures: &[u32], paths: usize, v: usize) -> [Row; 8]
     ensures { λ r. ⌜ r ≡ rows-at (now (figures .entry)) paths v ⌝ }
@@ -42,7 +70,7 @@ fn values_at(figures: &[u32], paths: usize, v: usize) -> [Row; 8]
     let mut j: usize = 0;
     while j < count {
         let one = Row {
-            value: rounds::value_at(figures, j, v),
+            value: value_at(figures, j, v),
         };
         rows[j] = one;
         j += 1;

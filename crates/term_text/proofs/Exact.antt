@@ -14,7 +14,8 @@ use Rattle.meaning.specs.Query.{PathReduction, ResultTerm, Term, VertexReductio
 use Rattle.meaning.proofs.Lists.{bodies-append}
 use Rattle.wire.specs.Wire.{Bytes, le16}
 use Rattle.progress.specs.declared.Progress.{Progress}
-use Rattle.fields.specs.Fields.{code-of, path-code}
+use Rattle.fields.specs.Fields.{code-of}
+use Rattle.path_fields.specs.Paths.{path-code}
 use Rattle.terms.specs.Terms.{advanced, index-step, kept-path, leaf-step, leaf-tag, literal-tag, path-step, read, reduce-step, term-step}
 use Rattle.progress.specs.Progress.{blank}
 use Rattle.terms.proofs.Laws.{accepted-as}

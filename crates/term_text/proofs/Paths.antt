@@ -18,7 +18,8 @@ use Rattle.walks.proofs.Tests.{and-both, and-left, and-right}
 use Rattle.wire.specs.Header.{then}
 use Rattle.wire.specs.Wire.{Bytes, le16}
 use Rattle.wire.proofs.Codes.{then-both, then-zero}
-use Rattle.fields.specs.Fields.{as-word, code-of, key-code, keys-code, packed, path-code, path-word, source-code, used}
+use Rattle.fields.specs.Fields.{code-of, key-code, source-code}
+use Rattle.path_fields.specs.Paths.{as-word, keys-code, packed, path-code, path-word, used}
 use Rattle.term_text.specs.Text.{path-bytes, path-number}
 use Rattle.wire.proofs.Past.{getD-any, getD-past}
 

@@ -4,7 +4,7 @@ use mathlib.Core.List.{List, [], _∷_, _++_}
 use lib.ListN.{length, getD}
 use Rattle.meaning.specs.Query.{PathReduction, ResultTerm, Term, VertexTerm, apply, leaf, literal}
 use Rattle.wire.specs.Wire.{le16, le32}
-use Rattle.fields.specs.Fields.{as-word}
+use Rattle.path_fields.specs.Paths.{as-word}
 use Rattle.terms.specs.Terms.{leaf-tag, literal-tag}
 
 -- "key count 1 to 3, the keys, a 16-bit start"

@@ -7,7 +7,8 @@ use lib.ListN.{length, getD, set}
 use Rattle.terms.specs.declared.Step.{Step}
 use Rattle.progress.specs.declared.Progress.{Progress}
 use Rattle.progress.specs.Progress.{blank}
-use Rattle.fields.specs.Fields.{code-of, path-code, path-word}
+use Rattle.fields.specs.Fields.{code-of}
+use Rattle.path_fields.specs.Paths.{path-code, path-word}
 
 -- the step of a refusal
 abbrev pub stopped : ℕ → Step

@@ -87,12 +87,12 @@ fn path_step_of(s: &[u8], w: Progress) -> Step
     ensures { λ r. ⌜ r ≡ path-step (now (s .entry)) w ⌝ }
 {
     let at = w.at + 1;
-    let c = fields::path_code(s, at);
+    let c = path_fields::path_code(s, at);
     if c != 0 {
         return stop(c);
     }
     let n = fields::byte(s, at);
-    let word = fields::path_word(s, at);
+    let word = path_fields::path_word(s, at);
     Step {
         progress: keep_path(advance(w, at + 3 + (n as usize)), word),
         follow: 0,

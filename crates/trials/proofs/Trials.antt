@@ -12,7 +12,7 @@ use Rattle.nodes.specs.Nodes.{collected, next-at, nodes-read, term-at}
 use Rattle.nodes.specs.Text.{term-text}
 use Rattle.draft.specs.Draft.{texts}
 use Rattle.wire.specs.Wire.{done}
-use Rattle.fields.specs.Fields.{keys-code, path-code, path-word}
+use Rattle.path_fields.specs.Paths.{keys-code, path-code, path-word}
 use Rattle.terms.specs.Terms.{advanced, kept-path, leaf-step, leaf-tag, literal-tag, path-step, read, reduce-step, index-step, literal-step, slot-of, term-step}
 use Rattle.progress.specs.Progress.{blank, ended, started}
 use Rattle.value.specs.declared.Value.{Value}

@@ -8,7 +8,8 @@ use native.Mathlib.Nat.{not-suc-le-zero}
 use lib.Dec.{eqb, eqb·suc-suc}
 use lib.ListN.{getD}
 use Rattle.wire.specs.Header.{then}
-use Rattle.fields.specs.Fields.{key-code, keys-code}
+use Rattle.fields.specs.Fields.{key-code}
+use Rattle.path_fields.specs.Paths.{keys-code}
 
 -- one key, and those after it
 pub keys-next : (n : ℕ) (s : List ℕ) (i : ℕ) → 0 < n → keys-code n s i ≡ then (key-code (getD s i 256) (eqb n 1)) (keys-code (n - 1) s (i + 1))

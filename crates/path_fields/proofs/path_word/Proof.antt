@@ -1,12 +1,12 @@
--- `fields::path_word` meets its contract. Assumes nothing.
+-- `path_fields::path_word` meets its contract. Assumes nothing.
 use Prim.Native.Nat.{_+_}
 use mathlib.Core.Path.{refl, _∙_}
 use borrow.Author.Needs.{needs}
 use native.Mathlib.Omega.{arith}
-use Rattle.fields.specs.Fields.{path-word}
+use Rattle.path_fields.specs.Paths.{path-word}
 use Rattle.wire.proofs.Past.{getD-past}
-use Rattle.fields.proofs.path_word.Statement.{statement}
-use Rattle.fields.proofs.path_word.Tie as tie
+use Rattle.path_fields.proofs.path_word.Statement.{statement}
+use Rattle.path_fields.proofs.path_word.Tie as tie
 
 pack-requires : tie.Need-pack-requires
 pack-requires c κs = search needs

@@ -1,14 +1,15 @@
--- `fields::path_code` meets its contract. Assumes nothing.
+-- `path_fields::path_code` meets its contract. Assumes nothing.
 use Prim.Native.Nat.{_+_}
 use mathlib.Core.Path.{_≡_, refl, _∙_}
 use borrow.Author.Needs.{needs}
 use native.Mathlib.Omega.{arith}
 use borrow.Author.Tests.{eq-eqb, ne-eqb}
 use lib.ListN.{getD}
-use Rattle.fields.specs.Fields.{code-of, keys-code, path-code}
+use Rattle.fields.specs.Fields.{code-of}
+use Rattle.path_fields.specs.Paths.{keys-code, path-code}
 use Rattle.wire.proofs.Past.{getD-past}
-use Rattle.fields.proofs.path_code.Statement.{statement}
-use Rattle.fields.proofs.path_code.Tie as tie
+use Rattle.path_fields.proofs.path_code.Statement.{statement}
+use Rattle.path_fields.proofs.path_code.Tie as tie
 
 returns : tie.Need-returns
 unfolding path-code

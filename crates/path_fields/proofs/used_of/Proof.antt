@@ -1,7 +1,7 @@
--- `fields::used_of` meets its contract. Assumes nothing.
-use Rattle.fields.proofs.used_of.Statement.{statement}
+-- `path_fields::used_of` meets its contract. Assumes nothing.
+use Rattle.path_fields.proofs.used_of.Statement.{statement}
 use borrow.Author.Tests.{le-ltb, lt-ltb}
-use Rattle.fields.proofs.used_of.Tie as tie
+use Rattle.path_fields.proofs.used_of.Tie as tie
 
 returns : tie.Need-returns
 returns c = rw (lt-ltb _ _ (c .if1 .taken))

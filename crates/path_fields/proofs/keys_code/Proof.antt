@@ -1,14 +1,15 @@
--- `fields::keys_code` meets its contract: the keys that are left are judged as all are. Assumes nothing.
+-- `path_fields::keys_code` meets its contract: the keys that are left are judged as all are. Assumes nothing.
 use Prim.Native.Nat.{ℕ, _+_}
 use mathlib.Core.Path.{_≡_, refl, ap, _∙_}
 use native.Mathlib.Omega.{arith}
 use borrow.Author.Needs.{needs}
 use borrow.Author.Tests.{eq-eqb, ne-eqb}
 use lib.Dec.{eqb}
-use Rattle.fields.specs.Fields.{key-code, keys-code}
-use Rattle.fields.proofs.Laws.{keys-next}
-use Rattle.fields.proofs.keys_code.Statement.{statement}
-use Rattle.fields.proofs.keys_code.Tie as tie
+use Rattle.fields.specs.Fields.{key-code}
+use Rattle.path_fields.specs.Paths.{keys-code}
+use Rattle.path_fields.proofs.Laws.{keys-next}
+use Rattle.path_fields.proofs.keys_code.Statement.{statement}
+use Rattle.path_fields.proofs.keys_code.Tie as tie
 
 abbrev Inv-loop : tie.InvT-loop
 Inv-loop s at n i₀ left₀ i left = (i + left ≡ at + n) × (keys-code n s at ≡ keys-code left s i)

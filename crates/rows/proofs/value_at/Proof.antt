@@ -1,9 +1,9 @@
--- `rounds::value_at` meets its contract. Assumes nothing.
+-- `rows::value_at` meets its contract. Assumes nothing.
 use borrow.Author.Tests.{eq-eqb, ne-eqb, le-leb, lt-leb}
 use Rattle.rounds.specs.Run.{value-in}
 use borrow.Author.Needs.{needs}
-use Rattle.rounds.proofs.value_at.Statement.{statement}
-use Rattle.rounds.proofs.value_at.Tie as tie
+use Rattle.rows.proofs.value_at.Statement.{statement}
+use Rattle.rows.proofs.value_at.Tie as tie
 
 returns : tie.Need-returns
 unfolding value-in
@@ -42,21 +42,21 @@ returns-4 : tie.Need-returns-4
 unfolding value-in
 returns-4 c = rw (lt-leb _ _ (c .before .before .before .before .if1 .left), lt-leb _ _ (c .before .before .before .if2 .left), lt-leb _ _ (c .before .before .if3 .left), eq-eqb _ _ (c .if4 .taken))
 
-add-wide : tie.Need-add-wide
-add-wide c = search needs
+add-number : tie.Need-add-number
+add-number c = search needs
 
-mul-wide : tie.Need-mul-wide
-mul-wide c = search needs
+mul-number : tie.Need-mul-number
+mul-number c = search needs
 
-shared-slice-read-wide : tie.Need-shared-slice-read-wide
-shared-slice-read-wide c = search needs
+shared-slice-read-number : tie.Need-shared-slice-read-number
+shared-slice-read-number c = search needs
 
-wide-requires : tie.Need-wide-requires
-wide-requires c κs = search needs
+number-requires : tie.Need-number-requires
+number-requires c κs = search needs
 
 returns-5 : tie.Need-returns-5
 unfolding value-in
-returns-5 c = rw (lt-leb _ _ (c .before .before .before .before .before .before .if1 .left), lt-leb _ _ (c .before .before .before .before .before .if2 .left), lt-leb _ _ (c .before .before .before .before .if3 .left), ne-eqb _ _ (c .before .before .if4 .left), c .wide .ensures)
+returns-5 c = rw (lt-leb _ _ (c .before .before .before .before .before .before .if1 .left), lt-leb _ _ (c .before .before .before .before .before .if2 .left), lt-leb _ _ (c .before .before .before .before .if3 .left), ne-eqb _ _ (c .before .before .if4 .left), c .number .ensures)
 
 pub value-at-spec : {M : Type 1} → statement M
 value-at-spec =
@@ -73,8 +73,8 @@ value-at-spec =
     mul-if4
     shared-slice-read-if4
     returns-4
-    add-wide
-    mul-wide
-    shared-slice-read-wide
-    wide-requires
+    add-number
+    mul-number
+    shared-slice-read-number
+    number-requires
     returns-5)

@@ -5,15 +5,9 @@ use Rattle.answer.specs.Answer.{answer-code}
 use Rattle.answer.proofs.judge.Statement.{statement}
 use Rattle.answer.proofs.judge.Tie as tie
 
-fields-code-requires : tie.Need-fields-code-requires
-fields-code-requires c κs = search needs
-
 returns : tie.Need-returns
 unfolding answer-code
 returns c = rw (← c .before .fields-code .ensures, ne-eqb _ _ (c .if1 .taken))
-
-size-requires : tie.Need-size-requires
-size-requires c κs = search needs
 
 returns-2 : tie.Need-returns-2
 unfolding answer-code
@@ -24,4 +18,4 @@ unfolding answer-code
 returns-3 c = rw (← c .before .before .before .fields-code .ensures, eq-eqb _ _ (c .before .before .if1 .left), ← c .before .size .ensures, le-ltb _ _ (c .if2 .left))
 
 pub judge-spec : {M : Type 1} → statement M
-judge-spec = tie.close (tie.spec fields-code-requires returns size-requires returns-2 returns-3)
+judge-spec = tie.close (tie.spec (λ c κs. search needs) returns (λ c κs. search needs) returns-2 returns-3)

@@ -7,18 +7,6 @@ use lib.ListN.{length-set}
 use Rattle.answer.proofs.put_row.Statement.{statement}
 use Rattle.answer.proofs.put_row.Tie as tie
 
-enum-known-v : tie.Need-enum-known-v
-enum-known-v c = search needs
-
-enum-told : tie.Need-enum-told
-enum-told c = search needs
-
-slice-write-out : tie.Need-slice-write-out
-slice-write-out c = search needs
-
-add-put64 : tie.Need-add-put64
-add-put64 c = search needs
-
 put64-requires : tie.Need-put64-requires
 put64-requires c κs = simp length-set (omega arith)
 
@@ -27,12 +15,6 @@ same-length c = c .before .before .put64 .kept .0 ∙ simp length-set
 
 returns : tie.Need-returns
 returns c = rw (c .before .before .before .before .enum-told .given .1, c .before .before .put64 .ensures, add-one (c .before .before .before .before .before .before .before .args .at))
-
-slice-write-out-2 : tie.Need-slice-write-out-2
-slice-write-out-2 c = search needs
-
-add-put64-2 : tie.Need-add-put64-2
-add-put64-2 c = search needs
 
 put64-requires-2 : tie.Need-put64-requires-2
 put64-requires-2 c κs = simp length-set (omega arith)
@@ -46,4 +28,4 @@ returns-2 c = rw (c .before .before .before .before .before .v .given .1, c .bef
 pub put-row-spec : {M : Type 1} → statement M
 put-row-spec =
     tie.close
-    (tie.spec enum-known-v enum-told slice-write-out add-put64 put64-requires same-length returns slice-write-out-2 add-put64-2 put64-requires-2 same-length-2 returns-2)
+    (tie.spec (λ c. search needs) (λ c. search needs) (λ c. search needs) (λ c. search needs) put64-requires same-length returns (λ c. search needs) (λ c. search needs) put64-requires-2 same-length-2 returns-2)

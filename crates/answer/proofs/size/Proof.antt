@@ -5,17 +5,11 @@ use Rattle.answer.proofs.Bytes.{count-most}
 use Rattle.answer.proofs.size.Statement.{statement}
 use Rattle.answer.proofs.size.Tie as tie
 
-row-count-requires : tie.Need-row-count-requires
-row-count-requires c κs = search needs
-
 mul-result : tie.Need-mul-result
 mul-result c = omega (arith, count-most (c .before .args .n) (c .before .args .kind) 65535 (omega arith) (omega arith))
 
 add-result : tie.Need-add-result
 add-result c = omega (arith, count-most (c .before .args .n) (c .before .args .kind) 65535 (omega arith) (omega arith))
 
-returns : tie.Need-returns
-returns c = search needs
-
 pub size-spec : {M : Type 1} → statement M
-size-spec = tie.close (tie.spec row-count-requires mul-result add-result returns)
+size-spec = tie.close (tie.spec (λ c κs. search needs) mul-result add-result (λ c. search needs))

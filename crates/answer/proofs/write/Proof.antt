@@ -14,15 +14,6 @@ use Rattle.answer.proofs.write.Tie as tie
 full : (rows : List Row) → length rows ≡ 256 → length (values rows) ≡ 256
 full rows e = length-map rows (λ (r : Row). r .value) ∙ e
 
-judge-requires : tie.Need-judge-requires
-judge-requires c κs = search needs
-
-cast-result : tie.Need-cast-result
-cast-result c = search needs
-
-add-result : tie.Need-add-result
-add-result c = search needs
-
 returns : tie.Need-returns
 returns c =
     let a = c .before .before .before .args in
@@ -34,25 +25,16 @@ put-head-requires c κs =
     let a = c .before .before .before .before .args in
     omega (arith, judged-right (a .n) (a .kind) (length (a .out .now)) (sym (c .before .before .judge .ensures) ∙ c .before .if1 .left) .1)
 
-row-count-requires : tie.Need-row-count-requires
-row-count-requires c κs = search needs
-
 put-rows-requires : tie.Need-put-rows-requires
 put-rows-requires c κs =
     let a = c .before .before .before .before .before .before .before .before .before .args in
     let j = judged-right (a .n) (a .kind) (length (a .out .now)) (sym (c .before .before .before .before .before .before .before .judge .ensures) ∙ c .before .before .before .before .before .before .if1 .left) in
     omega (arith, j .1, count-most (a .n) (a .kind) 256 (j .0 .few-vertices) (omega arith))
 
-size-requires : tie.Need-size-requires
-size-requires c κs = search needs
-
 cast-result-2 : tie.Need-cast-result-2
 cast-result-2 c =
     let a = c .before .before .before .before .before .before .before .before .before .before .before .before .before .args in
     omega (arith, count-most (a .n) (a .kind) 65535 (omega arith) (omega arith))
-
-same-length : tie.Need-same-length
-same-length c = search needs
 
 returns-2 : tie.Need-returns-2
 returns-2 c =
@@ -71,4 +53,4 @@ returns-2 c =
 pub write-spec : {M : Type 1} → statement M
 write-spec =
     tie.close
-    (tie.spec judge-requires cast-result add-result returns put-head-requires row-count-requires put-rows-requires size-requires cast-result-2 same-length returns-2)
+    (tie.spec (λ c κs. search needs) (λ c. search needs) (λ c. search needs) returns put-head-requires (λ c κs. search needs) put-rows-requires (λ c κs. search needs) cast-result-2 (λ c. search needs) returns-2)

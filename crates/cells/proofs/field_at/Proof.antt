@@ -17,8 +17,5 @@ add-read16-2 c = let h = accepted _ (c .before .pre .0) in omega (arith, h .exac
 read16-requires : tie.Need-read16-requires
 read16-requires c κs = let h = accepted _ (c .before .pre .0) in omega (arith, h .exact)
 
-returns : tie.Need-returns
-returns c = search needs
-
 pub field-at-spec : {M : Type 1} → statement M
-field-at-spec = tie.close (tie.spec mul-read16 add-read16 add-read16-2 read16-requires returns)
+field-at-spec = tie.close (tie.spec mul-read16 add-read16 add-read16-2 read16-requires (λ c. search needs))

@@ -8,9 +8,6 @@ use Rattle.cells.proofs.Rows.{ends}
 use Rattle.cells.proofs.from_at.Statement.{statement}
 use Rattle.cells.proofs.from_at.Tie as tie
 
-field-at-requires : tie.Need-field-at-requires
-field-at-requires c κs = search needs
-
 returns : tie.Need-returns
 returns c =
     let s = c .before .before in
@@ -21,4 +18,4 @@ returns c =
     (e, omega (arith, e, h), omega (arith, e, h, g .sizes .few-vertices))
 
 pub from-at-spec : {M : Type 1} → statement M
-from-at-spec = tie.close (tie.spec field-at-requires returns)
+from-at-spec = tie.close (tie.spec (λ c κs. search needs) returns)

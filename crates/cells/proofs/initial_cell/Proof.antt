@@ -7,27 +7,12 @@ use borrow.Author.Needs.{needs}
 use Rattle.cells.proofs.initial_cell.Statement.{statement}
 use Rattle.cells.proofs.initial_cell.Tie as tie
 
-wide-requires : tie.Need-wide-requires
-wide-requires c κs = search needs
-
-starts-here-requires : tie.Need-starts-here-requires
-starts-here-requires c κs = search needs
-
 returns : tie.Need-returns
 unfolding initial-cell
 returns c =
     let s = c .before .before .before in
     let e : starts-here (s .args .source) (s .args .v) ≡ false = sym (c .before .starts-here .ensures ∙ rw (c .before .before .wide .ensures .0)) ∙ not-true _ (c .if1 .taken) in
     rw e
-
-base-of-requires : tie.Need-base-of-requires
-base-of-requires c κs = search needs
-
-base-of-requires-2 : tie.Need-base-of-requires-2
-base-of-requires-2 c κs = search needs
-
-base-of-requires-3 : tie.Need-base-of-requires-3
-base-of-requires-3 c κs = search needs
 
 returns-2 : tie.Need-returns-2
 unfolding initial-cell
@@ -40,10 +25,10 @@ pub initial-cell-spec : {M : Type 1} → statement M
 initial-cell-spec =
     tie.close
     (tie.spec
-    wide-requires
-    starts-here-requires
+    (λ c κs. search needs)
+    (λ c κs. search needs)
     returns
-    base-of-requires
-    base-of-requires-2
-    base-of-requires-3
+    (λ c κs. search needs)
+    (λ c κs. search needs)
+    (λ c κs. search needs)
     returns-2)

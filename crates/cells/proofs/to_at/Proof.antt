@@ -6,9 +6,6 @@ use Rattle.cells.proofs.Rows.{ends}
 use Rattle.cells.proofs.to_at.Statement.{statement}
 use Rattle.cells.proofs.to_at.Tie as tie
 
-field-at-requires : tie.Need-field-at-requires
-field-at-requires c κs = search needs
-
 returns : tie.Need-returns
 returns c =
     let s = c .before .before in
@@ -17,4 +14,4 @@ returns c =
     (c .field-at .ensures .0, omega (arith, c .field-at .ensures .0, h), omega (arith, c .field-at .ensures .0, h, g .sizes .few-vertices))
 
 pub to-at-spec : {M : Type 1} → statement M
-to-at-spec = tie.close (tie.spec field-at-requires returns)
+to-at-spec = tie.close (tie.spec (λ c κs. search needs) returns)

@@ -4,11 +4,8 @@ use borrow.Author.Needs.{needs}
 use Rattle.counted.proofs.counted.Statement.{statement}
 use Rattle.counted.proofs.counted.Tie as tie
 
-counted-requires : tie.Need-counted-requires
-counted-requires c κs = search needs
-
 returns : tie.Need-returns
 returns c = (refl, c .counted .ensures)
 
 pub counted-spec : {M : Type 1} → statement M
-counted-spec = tie.close (tie.spec counted-requires returns)
+counted-spec = tie.close (tie.spec (λ c κs. search needs) returns)

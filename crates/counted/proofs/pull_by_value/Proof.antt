@@ -7,15 +7,6 @@ use borrow.Author.Needs.{needs}
 use Rattle.counted.proofs.pull_by_value.Statement.{statement}
 use Rattle.counted.proofs.pull_by_value.Tie as tie
 
-pull-requires : tie.Need-pull-requires
-pull-requires c κs = search needs
-
-counted-requires : tie.Need-counted-requires
-counted-requires c κs = search needs
-
-same-length : tie.Need-same-length
-same-length c = search needs
-
 returns : tie.Need-returns
 returns c =
     let a = c .before .before .before .before .before .before .before .before .args in
@@ -24,4 +15,4 @@ returns c =
     (e .0 ∙ run .0, run .1, e .1 ∙ counted-told Quiet (a .plan .now) (a .graph .now) (length (a .out .now)) (a .c) _ (run .0))
 
 pub pull-by-value-spec : {M : Type 1} → statement M
-pull-by-value-spec = tie.close (tie.spec pull-requires counted-requires same-length returns)
+pull-by-value-spec = tie.close (tie.spec (λ c κs. search needs) (λ c κs. search needs) (λ c. search needs) returns)

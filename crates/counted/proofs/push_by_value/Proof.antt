@@ -7,15 +7,6 @@ use borrow.Author.Needs.{needs}
 use Rattle.counted.proofs.push_by_value.Statement.{statement}
 use Rattle.counted.proofs.push_by_value.Tie as tie
 
-push-requires : tie.Need-push-requires
-push-requires c κs = search needs
-
-counted-requires : tie.Need-counted-requires
-counted-requires c κs = search needs
-
-same-length : tie.Need-same-length
-same-length c = search needs
-
 returns : tie.Need-returns
 returns c =
     let a = c .before .before .before .before .before .before .before .before .args in
@@ -24,4 +15,4 @@ returns c =
     (e .0 ∙ run .0, run .1, e .1 ∙ counted-told Quiet (a .plan .now) (a .graph .now) (length (a .out .now)) (a .c) _ (run .0))
 
 pub push-by-value-spec : {M : Type 1} → statement M
-push-by-value-spec = tie.close (tie.spec push-requires counted-requires same-length returns)
+push-by-value-spec = tie.close (tie.spec (λ c κs. search needs) (λ c κs. search needs) (λ c. search needs) returns)

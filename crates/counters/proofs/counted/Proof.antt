@@ -15,23 +15,11 @@ returns-2 c = let a = c .before .before .before .before .args in sym (answered-f
 returns-3 : tie.Need-returns-3
 returns-3 c = let a = c .before .before .before .before .before .before .args in sym (refused-full (a .c) (a .done) (c .if3 .taken))
 
-add-t4 : tie.Need-add-t4
-add-t4 c = search needs
-
-add-t5 : tie.Need-add-t5
-add-t5 c = search needs
-
 returns-4 : tie.Need-returns-4
 returns-4 c = sym (one-counted _ _ (c .before .before .before .before .before .before .before .if1 .left) (c .before .before .before .before .before .if2 .left) (c .before .before .before .if3 .left) ∙ ap (one-more _) (c .before .before .if4 .taken))
-
-add-t6 : tie.Need-add-t6
-add-t6 c = search needs
-
-add-t7 : tie.Need-add-t7
-add-t7 c = search needs
 
 returns-5 : tie.Need-returns-5
 returns-5 c = sym (one-counted _ _ (c .before .before .before .before .before .before .before .if1 .left) (c .before .before .before .before .before .if2 .left) (c .before .before .before .if3 .left) ∙ ap (one-more _) (c .before .before .if4 .left))
 
 pub counted-spec : {M : Type 1} → statement M
-counted-spec = tie.close (tie.spec returns returns-2 returns-3 add-t4 add-t5 returns-4 add-t6 add-t7 returns-5)
+counted-spec = tie.close (tie.spec returns returns-2 returns-3 (λ c. search needs) (λ c. search needs) returns-4 (λ c. search needs) (λ c. search needs) returns-5)

@@ -7,9 +7,6 @@ use Rattle.draft.proofs.Texts.{take-least}
 use Rattle.draft.proofs.front.Statement.{statement}
 use Rattle.draft.proofs.front.Tie as tie
 
-lesser-requires : tie.Need-lesser-requires
-lesser-requires c κs = search needs
-
 slice-aggregate-result : tie.Need-slice-aggregate-result
 slice-aggregate-result c = simp length-take (omega arith)
 
@@ -19,4 +16,4 @@ returns c =
     take-least (a .len) (length (a .s .now)) (c .before .lesser .result) (a .s .now) refl (c .before .lesser .ensures .0)
 
 pub front-spec : {M : Type 1} → statement M
-front-spec = tie.close (tie.spec lesser-requires slice-aggregate-result returns)
+front-spec = tie.close (tie.spec (λ c κs. search needs) slice-aggregate-result returns)

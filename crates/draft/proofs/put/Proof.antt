@@ -10,15 +10,9 @@ returns : tie.Need-returns
 unfolding put-byte
 returns c = rw (le-leb _ _ (c .if1 .taken))
 
-element-write-r : tie.Need-element-write-r
-element-write-r c = search needs
-
-add-r : tie.Need-add-r
-add-r c = search needs
-
 returns-2 : tie.Need-returns-2
 unfolding put-byte
 returns-2 c = rw (lt-leb _ _ (c .if1 .left)) refl
 
 pub put-spec : {M : Type 1} → statement M
-put-spec = tie.close (tie.spec returns element-write-r add-r returns-2)
+put-spec = tie.close (tie.spec returns (λ c. search needs) (λ c. search needs) returns-2)

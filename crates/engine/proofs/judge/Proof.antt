@@ -9,21 +9,9 @@ returns : tie.Need-returns
 unfolding run-code
 returns c = rw (ne-eqb _ _ (c .if1 .taken))
 
-judge-requires : tie.Need-judge-requires
-judge-requires c κs = search needs
-
 returns-2 : tie.Need-returns-2
 unfolding run-code
 returns-2 c = rw (eq-eqb _ _ (c .before .before .if1 .left), ← c .before .judge .ensures, ne-eqb _ _ (c .if2 .taken))
-
-vertices-requires : tie.Need-vertices-requires
-vertices-requires c κs = search needs
-
-cast-sources-code : tie.Need-cast-sources-code
-cast-sources-code c = search needs
-
-sources-code-requires : tie.Need-sources-code-requires
-sources-code-requires c κs = search needs
 
 returns-3 : tie.Need-returns-3
 unfolding run-code
@@ -34,9 +22,9 @@ judge-spec =
     tie.close
     (tie.spec
     returns
-    judge-requires
+    (λ c κs. search needs)
     returns-2
-    vertices-requires
-    cast-sources-code
-    sources-code-requires
+    (λ c κs. search needs)
+    (λ c. search needs)
+    (λ c κs. search needs)
     returns-3)

@@ -4,14 +4,8 @@ use borrow.Author.Needs.{needs}
 use Rattle.engine.proofs.most.Statement.{statement}
 use Rattle.engine.proofs.most.Tie as tie
 
-returns : tie.Need-returns
-returns c = search needs
-
-mul-result : tie.Need-mul-result
-mul-result c = search needs
-
 returns-2 : tie.Need-returns-2
 returns-2 c = rw (c .if1 .left) refl
 
 pub most-spec : {M : Type 1} → statement M
-most-spec = tie.close (tie.spec returns mul-result returns-2)
+most-spec = tie.close (tie.spec (λ c. search needs) (λ c. search needs) returns-2)

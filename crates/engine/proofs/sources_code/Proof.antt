@@ -19,9 +19,6 @@ Inv-loop paths n table count i₀ i = (i ≤ count) × (left n table count i ≡
 abbrev μ-loop : tie.MeasureT-loop
 μ-loop paths n table count i₀ i = count - i
 
-lesser-requires : tie.Need-lesser-requires Inv-loop μ-loop
-lesser-requires c κs = search needs
-
 loop-holds : tie.Need-loop-holds Inv-loop μ-loop
 loop-holds c = (omega arith, rw sub-zero)
 
@@ -30,9 +27,6 @@ mul-word c = omega arith
 
 array-read-word : tie.Need-array-read-word Inv-loop μ-loop
 array-read-word c = omega arith
-
-outside-code-requires : tie.Need-outside-code-requires Inv-loop μ-loop
-outside-code-requires c κs = search needs
 
 whole : (c : tie.After-lesser Inv-loop μ-loop) → sources-code (c .before .args .n) (map path-of (take (c .lesser .result) (c .before .args .t1))) ≡ sources-code (c .before .args .n) (map path-of (take (c .before .args .paths) (c .before .args .t1)))
 whole c = ap (λ (l : List ℕ). sources-code (c .before .args .n) (map path-of l)) (take-least (c .before .args .paths) 8 (c .lesser .result) (c .before .args .t1) (omega arith) (c .lesser .ensures .0))
@@ -69,11 +63,11 @@ sources-code-spec =
     (tie.spec
     Inv-loop
     μ-loop
-    lesser-requires
+    (λ c κs. search needs)
     loop-holds
     mul-word
     array-read-word
-    outside-code-requires
+    (λ c κs. search needs)
     returns
     add-i
     loop-less

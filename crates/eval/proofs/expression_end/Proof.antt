@@ -6,12 +6,9 @@ use Rattle.eval.specs.Body.{expression-end}
 use Rattle.eval.proofs.expression_end.Statement.{statement}
 use Rattle.eval.proofs.expression_end.Tie as tie
 
-evaluate-requires : tie.Need-evaluate-requires
-evaluate-requires c κs = search needs
-
 returns : tie.Need-returns
 unfolding expression-end
 returns c = ap (λ (f : Found). f .next) (c .evaluate .ensures)
 
 pub expression-end-spec : {M : Type 1} → statement M
-expression-end-spec = tie.close (tie.spec evaluate-requires returns)
+expression-end-spec = tie.close (tie.spec (λ c κs. search needs) returns)

@@ -6,12 +6,6 @@ use Rattle.eval.proofs.Laws.{row-none, row-value}
 use Rattle.eval.proofs.value_at.Statement.{statement}
 use Rattle.eval.proofs.value_at.Tie as tie
 
-mul-row : tie.Need-mul-row
-mul-row c = search needs
-
-array-copy-out-row : tie.Need-array-copy-out-row
-array-copy-out-row c = search needs
-
 returns : tie.Need-returns
 returns c = let a = c .before .before .args in sym (row-value (a .t1) (a .i))
 
@@ -19,4 +13,4 @@ returns-2 : tie.Need-returns-2
 returns-2 c = let a = c .before .args in sym (row-none (a .t1) (a .i) (omega arith))
 
 pub value-at-spec : {M : Type 1} → statement M
-value-at-spec = tie.close (tie.spec mul-row array-copy-out-row returns returns-2)
+value-at-spec = tie.close (tie.spec (λ c. search needs) (λ c. search needs) returns returns-2)

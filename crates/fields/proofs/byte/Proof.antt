@@ -5,9 +5,6 @@ use Rattle.wire.proofs.Past.{getD-any, getD-past}
 use Rattle.fields.proofs.byte.Statement.{statement}
 use Rattle.fields.proofs.byte.Tie as tie
 
-shared-slice-read-result : tie.Need-shared-slice-read-result
-shared-slice-read-result c = search needs
-
 cast-result : tie.Need-cast-result
 cast-result c = omega (arith, c .shared-slice-known .given (c .before .before .args .i))
 
@@ -20,4 +17,4 @@ returns-2 : tie.Need-returns-2
 returns-2 c = (getD-past (c .before .args .s .now) (c .before .args .i) 256 (c .if1 .left), omega arith)
 
 pub byte-spec : {M : Type 1} → statement M
-byte-spec = tie.close (tie.spec shared-slice-read-result cast-result returns returns-2)
+byte-spec = tie.close (tie.spec (λ c. search needs) cast-result returns returns-2)

@@ -9,17 +9,8 @@ use Rattle.fields.proofs.key_code.Tie as tie
 returns : tie.Need-returns
 returns c = rw (lt-ltb _ _ (c .if1 .taken))
 
-cast-key : tie.Need-cast-key
-cast-key c = search needs
-
-known-key-requires : tie.Need-known-key-requires
-known-key-requires c κs = search needs
-
 returns-2 : tie.Need-returns-2
 returns-2 c = rw (le-ltb _ _ (c .before .before .before .if1 .left), ← c .before .before .known-key .ensures, c .before .if2 .taken, c .if3 .taken)
-
-key-row-requires : tie.Need-key-row-requires
-key-row-requires c κs = search needs
 
 returns-3 : tie.Need-returns-3
 returns-3 c = rw (le-ltb _ _ (c .before .before .before .before .before .if1 .left), ← c .before .before .before .before .known-key .ensures, c .before .before .before .if2 .taken, c .before .before .if3 .left, sym (ap (λ (r : KeyRow). r .early) (c .before .key-row .ensures)) ∙ c .if4 .taken)
@@ -35,10 +26,10 @@ key-code-spec =
     tie.close
     (tie.spec
     returns
-    cast-key
-    known-key-requires
+    (λ c. search needs)
+    (λ c κs. search needs)
     returns-2
-    key-row-requires
+    (λ c κs. search needs)
     returns-3
     returns-4
     returns-5)

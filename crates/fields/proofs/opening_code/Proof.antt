@@ -6,14 +6,8 @@ use lib.ListN.{getD}
 use Rattle.fields.proofs.opening_code.Statement.{statement}
 use Rattle.fields.proofs.opening_code.Tie as tie
 
-judge-header-requires : tie.Need-judge-header-requires
-judge-header-requires c κs = search needs
-
 returns : tie.Need-returns
 returns c = rw (← c .before .judge-header .ensures, ne-eqb _ _ (c .if1 .taken))
-
-byte-requires : tie.Need-byte-requires
-byte-requires c κs = search needs
 
 kind-is : (c : tie.After-byte) → c .byte .result ≡ getD (c .before .before .before .before .args .s .now) 5 256
 kind-is c = c .byte .ensures .0
@@ -29,4 +23,4 @@ returns-4 c = rw (← c .before .before .before .before .judge-header .ensures, 
 
 pub opening-code-spec : {M : Type 1} → statement M
 opening-code-spec =
-    tie.close (tie.spec judge-header-requires returns byte-requires returns-2 returns-3 returns-4)
+    tie.close (tie.spec (λ c κs. search needs) returns (λ c κs. search needs) returns-2 returns-3 returns-4)

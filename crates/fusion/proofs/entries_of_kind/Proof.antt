@@ -10,15 +10,9 @@ returns : tie.Need-returns
 unfolding entries-of
 returns c = rw (eq-eqb _ _ (c .if1 .taken)) refl
 
-lesser-requires : tie.Need-lesser-requires
-lesser-requires c κs = search needs
-
-cast-result : tie.Need-cast-result
-cast-result c = search needs
-
 returns-2 : tie.Need-returns-2
 unfolding entries-of
 returns-2 c = rw (ne-eqb _ _ (c .before .if1 .left), c .lesser .ensures .0) refl
 
 pub entries-of-kind-spec : {M : Type 1} → statement M
-entries-of-kind-spec = tie.close (tie.spec returns lesser-requires cast-result returns-2)
+entries-of-kind-spec = tie.close (tie.spec returns (λ c κs. search needs) (λ c. search needs) returns-2)

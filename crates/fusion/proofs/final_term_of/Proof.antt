@@ -6,15 +6,6 @@ use Rattle.fusion.proofs.Arms.{final-others}
 use Rattle.fusion.proofs.final_term_of.Statement.{statement}
 use Rattle.fusion.proofs.final_term_of.Tie as tie
 
-enum-known-t : tie.Need-enum-known-t
-enum-known-t c = search needs
-
-enum-known-t-2 : tie.Need-enum-known-t-2
-enum-known-t-2 c = search needs
-
-enum-known-t-3 : tie.Need-enum-known-t-3
-enum-known-t-3 c = search needs
-
 returns : tie.Need-returns
 unfolding final-term
 returns c = rw (c .before .t .given .1) refl
@@ -31,4 +22,4 @@ returns-4 : tie.Need-returns-4
 returns-4 c = rw (final-others _ _ (c .match .keys4)) refl
 
 pub final-term-of-spec : {M : Type 1} → statement M
-final-term-of-spec = tie.close (tie.spec enum-known-t enum-known-t-2 enum-known-t-3 returns returns-2 returns-3 returns-4)
+final-term-of-spec = tie.close (tie.spec (λ c. search needs) (λ c. search needs) (λ c. search needs) returns returns-2 returns-3 returns-4)

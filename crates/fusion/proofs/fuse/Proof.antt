@@ -12,15 +12,6 @@ use Rattle.fusion.proofs.Refusal.{reply-refused, reply-written}
 use Rattle.fusion.proofs.fuse.Statement.{statement}
 use Rattle.fusion.proofs.fuse.Tie as tie
 
-read-requires : tie.Need-read-requires
-read-requires c κs = search needs
-
-cast-result : tie.Need-cast-result
-cast-result c = search needs
-
-add-result : tie.Need-add-result
-add-result c = search needs
-
 returns : tie.Need-returns
 returns c =
     let r = c .before .read in
@@ -29,15 +20,6 @@ returns c =
     let n : query-reading (a .query .now) .code ≡ 0 → ⊥ = subst (λ (x : Reading). x .code ≡ 0 → ⊥) (r .ensures) (c .if1 .taken) in
     let e : fuse-reply (a .query .now) room ≡ refused (r .result .code) = reply-refused (a .query .now) room n ∙ ap (λ (x : Reading). refused (x .code)) (sym (r .ensures)) in
     rw e (refl, refl)
-
-fused-form-of-requires : tie.Need-fused-form-of-requires
-fused-form-of-requires c κs = search needs
-
-write-requires : tie.Need-write-requires
-write-requires c κs = search needs
-
-same-length : tie.Need-same-length
-same-length c = search needs
 
 returns-2 : tie.Need-returns-2
 returns-2 c =
@@ -53,4 +35,4 @@ returns-2 c =
 pub fuse-spec : {M : Type 1} → statement M
 fuse-spec =
     tie.close
-    (tie.spec read-requires cast-result add-result returns fused-form-of-requires write-requires same-length returns-2)
+    (tie.spec (λ c κs. search needs) (λ c. search needs) (λ c. search needs) returns (λ c κs. search needs) (λ c κs. search needs) (λ c. search needs) returns-2)

@@ -5,24 +5,6 @@ use Rattle.fusion.specs.Fusion.{fused-form}
 use Rattle.fusion.proofs.fused_form_of.Statement.{statement}
 use Rattle.fusion.proofs.fused_form_of.Tie as tie
 
-start-of-requires : tie.Need-start-of-requires
-start-of-requires c κs = search needs
-
-put-part-requires : tie.Need-put-part-requires
-put-part-requires c κs = search needs
-
-put-part-requires-2 : tie.Need-put-part-requires-2
-put-part-requires-2 c κs = search needs
-
-lesser-requires : tie.Need-lesser-requires
-lesser-requires c κs = search needs
-
-cast-t12 : tie.Need-cast-t12
-cast-t12 c = search needs
-
-entries-of-kind-requires : tie.Need-entries-of-kind-requires
-entries-of-kind-requires c κs = search needs
-
 returns : tie.Need-returns
 unfolding fused-form
 returns c =
@@ -32,4 +14,4 @@ returns c =
 pub fused-form-of-spec : {M : Type 1} → statement M
 fused-form-of-spec =
     tie.close
-    (tie.spec start-of-requires put-part-requires put-part-requires-2 lesser-requires cast-t12 entries-of-kind-requires returns)
+    (tie.spec (λ c κs. search needs) (λ c κs. search needs) (λ c κs. search needs) (λ c κs. search needs) (λ c. search needs) (λ c κs. search needs) returns)

@@ -6,19 +6,13 @@ use Rattle.fusion.specs.Fusion.{fused-term}
 use Rattle.fusion.proofs.fused_term_of.Statement.{statement}
 use Rattle.fusion.proofs.fused_term_of.Tie as tie
 
-entry-term-of-requires : tie.Need-entry-term-of-requires
-entry-term-of-requires c κs = search needs
-
 returns : tie.Need-returns
 unfolding fused-term
 returns c = rw (eq-eqb _ _ (c .before .if1 .taken), c .entry-term-of .ensures) refl
-
-final-term-of-requires : tie.Need-final-term-of-requires
-final-term-of-requires c κs = search needs
 
 returns-2 : tie.Need-returns-2
 unfolding fused-term
 returns-2 c = rw (ne-eqb _ _ (c .before .if1 .left), c .final-term-of .ensures) refl
 
 pub fused-term-of-spec : {M : Type 1} → statement M
-fused-term-of-spec = tie.close (tie.spec entry-term-of-requires returns final-term-of-requires returns-2)
+fused-term-of-spec = tie.close (tie.spec (λ c κs. search needs) returns (λ c κs. search needs) returns-2)

@@ -20,9 +20,6 @@ Inv-loop part table count nodes n list₀ len₀ k₀ i₀ list len k i =
 abbrev μ-loop : tie.MeasureT-loop
 μ-loop part table count nodes n list₀ len₀ k₀ i₀ list len k i = n - i
 
-lesser-requires : tie.Need-lesser-requires Inv-loop μ-loop
-lesser-requires c κs = search needs
-
 loop-holds : tie.Need-loop-holds Inv-loop μ-loop
 loop-holds c = (omega arith, omega arith, rw sub-zero)
 
@@ -40,23 +37,14 @@ mul-node c = omega arith
 array-copy-out-node : tie.Need-array-copy-out-node Inv-loop μ-loop
 array-copy-out-node c = omega arith
 
-fused-term-of-requires : tie.Need-fused-term-of-requires Inv-loop μ-loop
-fused-term-of-requires c κs = search needs
-
 mul-list : tie.Need-mul-list Inv-loop μ-loop
 mul-list c = omega arith
 
 array-set-from-list : tie.Need-array-set-from-list Inv-loop μ-loop
 array-set-from-list c = omega arith
 
-size-of-requires : tie.Need-size-of-requires Inv-loop μ-loop
-size-of-requires c κs = search needs
-
 add-len : tie.Need-add-len Inv-loop μ-loop
 add-len c = omega (arith, c .size-of .ensures .1)
-
-reduces-of-requires : tie.Need-reduces-of-requires Inv-loop μ-loop
-reduces-of-requires c κs = search needs
 
 add-k : tie.Need-add-k Inv-loop μ-loop
 add-k c = omega (arith, c .reduces-of .ensures .1)
@@ -93,17 +81,17 @@ put-part-spec =
     (tie.spec
     Inv-loop
     μ-loop
-    lesser-requires
+    (λ c κs. search needs)
     loop-holds
     returns
     mul-node
     array-copy-out-node
-    fused-term-of-requires
+    (λ c κs. search needs)
     mul-list
     array-set-from-list
-    size-of-requires
+    (λ c κs. search needs)
     add-len
-    reduces-of-requires
+    (λ c κs. search needs)
     add-k
     add-i
     loop-less

@@ -7,9 +7,6 @@ use Rattle.fusion.proofs.Arms.{reduces-others}
 use Rattle.fusion.proofs.reduces_of.Statement.{statement}
 use Rattle.fusion.proofs.reduces_of.Tie as tie
 
-enum-known-t : tie.Need-enum-known-t
-enum-known-t c = search needs
-
 returns : tie.Need-returns
 unfolding reduces
 returns c = (rw (c .before .t .given .1) refl, omega arith)
@@ -18,4 +15,4 @@ returns-2 : tie.Need-returns-2
 returns-2 c = (rw (reduces-others _ (c .match .keys2)) refl, omega arith)
 
 pub reduces-of-spec : {M : Type 1} → statement M
-reduces-of-spec = tie.close (tie.spec enum-known-t returns returns-2)
+reduces-of-spec = tie.close (tie.spec (λ c. search needs) returns returns-2)

@@ -7,9 +7,6 @@ use Rattle.fusion.proofs.Arms.{size-others}
 use Rattle.fusion.proofs.size_of.Statement.{statement}
 use Rattle.fusion.proofs.size_of.Tie as tie
 
-enum-told : tie.Need-enum-told
-enum-told c = search needs
-
 returns : tie.Need-returns
 unfolding size
 returns c = (rw (c .enum-told .given .1) refl, omega arith)
@@ -18,4 +15,4 @@ returns-2 : tie.Need-returns-2
 returns-2 c = (rw (size-others _ (c .match .keys2)) refl, omega arith)
 
 pub size-of-spec : {M : Type 1} → statement M
-size-of-spec = tie.close (tie.spec enum-told returns returns-2)
+size-of-spec = tie.close (tie.spec (λ c. search needs) returns returns-2)

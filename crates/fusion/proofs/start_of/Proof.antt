@@ -10,12 +10,9 @@ returns : tie.Need-returns
 unfolding started
 returns c = rw (ne-eqb _ _ (c .if1 .taken)) refl
 
-array-set-from-list : tie.Need-array-set-from-list
-array-set-from-list c = search needs
-
 returns-2 : tie.Need-returns-2
 unfolding started
 returns-2 c = rw (eq-eqb _ _ (c .if1 .left)) refl
 
 pub start-of-spec : {M : Type 1} → statement M
-start-of-spec = tie.close (tie.spec returns array-set-from-list returns-2)
+start-of-spec = tie.close (tie.spec returns (λ c. search needs) returns-2)

@@ -21,9 +21,6 @@ loop-holds c = (omega arith, refl)
 edge-at-requires : tie.Need-edge-at-requires Inv-loop μ-loop
 edge-at-requires c κs = omega arith
 
-edge-code-requires : tie.Need-edge-code-requires Inv-loop μ-loop
-edge-code-requires c κs = search needs
-
 returns : tie.Need-returns Inv-loop μ-loop
 returns c =
     let l = c .before .before .before .before .loop in
@@ -57,4 +54,4 @@ returns-2 c =
 pub bytes-code-spec : {M : Type 1} → statement M
 bytes-code-spec =
     tie.close
-    (tie.spec Inv-loop μ-loop loop-holds edge-at-requires edge-code-requires returns add-i loop-less loop-again returns-2)
+    (tie.spec Inv-loop μ-loop loop-holds edge-at-requires (λ c κs. search needs) returns add-i loop-less loop-again returns-2)

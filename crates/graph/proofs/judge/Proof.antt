@@ -10,9 +10,6 @@ use Rattle.graph.specs.Graph.{graph-code}
 use Rattle.graph.proofs.judge.Statement.{statement}
 use Rattle.graph.proofs.judge.Tie as tie
 
-judge-header-requires : tie.Need-judge-header-requires
-judge-header-requires c κs = search needs
-
 returns : tie.Need-returns
 unfolding graph-code
 returns c =
@@ -25,28 +22,13 @@ read16-requires c κs = omega (arith, header-long 0x4d 9 _ (sym (c .before .judg
 read16-requires-2 : tie.Need-read16-requires-2
 read16-requires-2 c κs = omega (arith, header-long 0x4d 9 _ (sym (c .before .before .judge-header .ensures) ∙ c .before .if1 .left))
 
-counts-code-requires : tie.Need-counts-code-requires
-counts-code-requires c κs = search needs
-
 returns-2 : tie.Need-returns-2
 unfolding graph-code
 returns-2 c = rw (← c .before .before .before .before .before .judge-header .ensures, eq-eqb _ _ (c .before .before .before .before .if1 .left), ← c .before .before .before .read16 .ensures, ← c .before .before .read162 .ensures, ← c .before .counts-code .ensures, ne-eqb _ _ (c .if2 .taken))
 
-cast-count : tie.Need-cast-count
-cast-count c = search needs
-
-mul-if3 : tie.Need-mul-if3
-mul-if3 c = search needs
-
-add-if3 : tie.Need-add-if3
-add-if3 c = search needs
-
 returns-3 : tie.Need-returns-3
 unfolding graph-code
 returns-3 c = rw (← c .before .before .before .before .before .before .judge-header .ensures, eq-eqb _ _ (c .before .before .before .before .before .if1 .left), ← c .before .before .before .before .read16 .ensures, ← c .before .before .before .read162 .ensures, ← c .before .before .counts-code .ensures, eq-eqb _ _ (c .before .if2 .left), ne-eqb _ (9 + 8 * c .before .before .before .read162 .result) (c .if3 .taken))
-
-bytes-code-requires : tie.Need-bytes-code-requires
-bytes-code-requires c κs = search needs
 
 returns-4 : tie.Need-returns-4
 unfolding graph-code
@@ -55,4 +37,4 @@ returns-4 c = rw (← c .before .before .before .before .before .before .before 
 pub judge-spec : {M : Type 1} → statement M
 judge-spec =
     tie.close
-    (tie.spec judge-header-requires returns read16-requires read16-requires-2 counts-code-requires returns-2 cast-count mul-if3 add-if3 returns-3 bytes-code-requires returns-4)
+    (tie.spec (λ c κs. search needs) returns read16-requires read16-requires-2 (λ c κs. search needs) returns-2 (λ c. search needs) (λ c. search needs) (λ c. search needs) returns-3 (λ c κs. search needs) returns-4)

@@ -7,9 +7,6 @@ use Rattle.graph.proofs.Accepted.{counts}
 use Rattle.graph.proofs.judge_table.Statement.{statement}
 use Rattle.graph.proofs.judge_table.Tie as tie
 
-counts-code-requires : tie.Need-counts-code-requires
-counts-code-requires c κs = search needs
-
 returns : tie.Need-returns
 unfolding table-code
 returns c = rw (← c .before .counts-code .ensures, ne-eqb _ _ (c .if1 .taken))
@@ -22,4 +19,4 @@ unfolding table-code
 returns-2 c = rw (← c .before .before .counts-code .ensures, eq-eqb _ _ (c .before .if1 .left)) (c .rows-code .ensures)
 
 pub judge-table-spec : {M : Type 1} → statement M
-judge-table-spec = tie.close (tie.spec counts-code-requires returns rows-code-requires returns-2)
+judge-table-spec = tie.close (tie.spec (λ c κs. search needs) returns rows-code-requires returns-2)

@@ -6,9 +6,6 @@ use lib.ListN.{length-set}
 use Rattle.graph.proofs.put_head.Statement.{statement}
 use Rattle.graph.proofs.put_head.Tie as tie
 
-slice-write-out : tie.Need-slice-write-out
-slice-write-out c = search needs
-
 slice-write-out-2 : tie.Need-slice-write-out-2
 slice-write-out-2 c = simp length-set (omega arith)
 
@@ -36,4 +33,4 @@ returns c = rw (c .before .before .put162 .ensures, c .before .before .before .b
 pub put-head-spec : {M : Type 1} → statement M
 put-head-spec =
     tie.close
-    (tie.spec slice-write-out slice-write-out-2 slice-write-out-3 slice-write-out-4 slice-write-out-5 put16-requires put16-requires-2 same-length returns)
+    (tie.spec (λ c. search needs) slice-write-out-2 slice-write-out-3 slice-write-out-4 slice-write-out-5 put16-requires put16-requires-2 same-length returns)

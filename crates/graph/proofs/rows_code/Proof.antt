@@ -28,9 +28,6 @@ mul-row c = omega arith
 array-copy-out-row : tie.Need-array-copy-out-row Inv-loop μ-loop
 array-copy-out-row c = omega arith
 
-edge-code-requires : tie.Need-edge-code-requires Inv-loop μ-loop
-edge-code-requires c κs = search needs
-
 returns : tie.Need-returns Inv-loop μ-loop
 returns c =
     let a = c .before .before .before .before .before .args in
@@ -64,4 +61,4 @@ returns-2 c =
 pub rows-code-spec : {M : Type 1} → statement M
 rows-code-spec =
     tie.close
-    (tie.spec Inv-loop μ-loop loop-holds mul-row array-copy-out-row edge-code-requires returns add-i loop-less loop-again returns-2)
+    (tie.spec Inv-loop μ-loop loop-holds mul-row array-copy-out-row (λ c κs. search needs) returns add-i loop-less loop-again returns-2)

@@ -5,9 +5,6 @@ use Rattle.draft.specs.Draft.{put-list}
 use Rattle.nodes.proofs.put_key.Statement.{statement}
 use Rattle.nodes.proofs.put_key.Tie as tie
 
-put-requires : tie.Need-put-requires
-put-requires c κs = search needs
-
 returns : tie.Need-returns
 unfolding put-list
 returns c = rw (lt-ltb _ _ (c .before .if1 .taken)) (c .put .ensures)
@@ -17,4 +14,4 @@ unfolding put-list
 returns-2 c = rw (le-ltb _ _ (c .if1 .left))
 
 pub put-key-spec : {M : Type 1} → statement M
-put-key-spec = tie.close (tie.spec put-requires returns returns-2)
+put-key-spec = tie.close (tie.spec (λ c κs. search needs) returns returns-2)

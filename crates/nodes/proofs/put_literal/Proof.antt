@@ -5,18 +5,9 @@ use Rattle.draft.specs.Draft.{put-list}
 use Rattle.nodes.proofs.put_literal.Statement.{statement}
 use Rattle.nodes.proofs.put_literal.Tie as tie
 
-put-requires : tie.Need-put-requires
-put-requires c κs = search needs
-
-put16-requires : tie.Need-put16-requires
-put16-requires c κs = search needs
-
-put16-requires-2 : tie.Need-put16-requires-2
-put16-requires-2 c κs = search needs
-
 returns : tie.Need-returns
 unfolding put-list
 returns c = c .put162 .ensures ∙ rw (c .before .put16 .ensures, c .before .before .put .ensures) refl
 
 pub put-literal-spec : {M : Type 1} → statement M
-put-literal-spec = tie.close (tie.spec put-requires put16-requires put16-requires-2 returns)
+put-literal-spec = tie.close (tie.spec (λ c κs. search needs) (λ c κs. search needs) (λ c κs. search needs) returns)

@@ -20,9 +20,6 @@ Inv-loop count nodes n r₀ k₀ r k = (k ≤ n) × (put-list r (left node-text 
 abbrev μ-loop : tie.MeasureT-loop
 μ-loop count nodes n r₀ k₀ r k = n - k
 
-lesser-requires : tie.Need-lesser-requires Inv-loop μ-loop
-lesser-requires c κs = search needs
-
 loop-holds : tie.Need-loop-holds Inv-loop μ-loop
 loop-holds c = (omega arith, rw sub-zero)
 
@@ -31,9 +28,6 @@ mul-node c = omega arith
 
 array-copy-out-node : tie.Need-array-copy-out-node Inv-loop μ-loop
 array-copy-out-node c = omega arith
-
-put-term-requires : tie.Need-put-term-requires Inv-loop μ-loop
-put-term-requires c κs = search needs
 
 add-k : tie.Need-add-k Inv-loop μ-loop
 add-k c = omega arith
@@ -60,11 +54,11 @@ put-nodes-spec =
     (tie.spec
     Inv-loop
     μ-loop
-    lesser-requires
+    (λ c κs. search needs)
     loop-holds
     mul-node
     array-copy-out-node
-    put-term-requires
+    (λ c κs. search needs)
     add-k
     loop-less
     loop-again

@@ -13,23 +13,14 @@ Inv-loop s at count nodes₀ n next₀ i₀ nodes next i = Held s at n nodes nex
 abbrev μ-loop : tie.MeasureT-loop
 μ-loop s at count nodes₀ n next₀ i₀ nodes next i = n - i
 
-lesser-requires : tie.Need-lesser-requires Inv-loop μ-loop
-lesser-requires c κs = search needs
-
 loop-holds : tie.Need-loop-holds Inv-loop μ-loop
 loop-holds c = held-none _ _ _
-
-term-of-requires : tie.Need-term-of-requires Inv-loop μ-loop
-term-of-requires c κs = search needs
 
 mul-nodes : tie.Need-mul-nodes Inv-loop μ-loop
 mul-nodes c = omega arith
 
 array-set-from-nodes : tie.Need-array-set-from-nodes Inv-loop μ-loop
 array-set-from-nodes c = omega arith
-
-next-of-requires : tie.Need-next-of-requires Inv-loop μ-loop
-next-of-requires c κs = search needs
 
 add-i : tie.Need-add-i Inv-loop μ-loop
 add-i c = omega arith
@@ -55,12 +46,12 @@ read-nodes-spec =
     (tie.spec
     Inv-loop
     μ-loop
-    lesser-requires
+    (λ c κs. search needs)
     loop-holds
-    term-of-requires
+    (λ c κs. search needs)
     mul-nodes
     array-set-from-nodes
-    next-of-requires
+    (λ c κs. search needs)
     add-i
     loop-less
     loop-again

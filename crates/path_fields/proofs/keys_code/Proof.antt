@@ -20,27 +20,12 @@ abbrev μ-loop : tie.MeasureT-loop
 loop-holds : tie.Need-loop-holds Inv-loop μ-loop
 loop-holds c = (refl, refl)
 
-byte-requires : tie.Need-byte-requires Inv-loop μ-loop
-byte-requires c κs = search needs
-
-key-code-requires : tie.Need-key-code-requires Inv-loop μ-loop
-key-code-requires c κs = search needs
-
 returns : tie.Need-returns Inv-loop μ-loop
 returns c =
     let a = c .before .before .before .before .before .before .args in
     let l = c .before .before .before .before .loop in
     let e = c .before .key-code .ensures ∙ ap (λ (b : ℕ). key-code b (eqb (l .left) 1)) (c .before .before .byte .ensures .0) in
     rw (l .inv .1, keys-next (l .left) (a .s .now) (l .i) (c .before .before .before .loop-test .taken), ← e, ne-eqb _ _ (c .if1 .taken)) refl
-
-add-i : tie.Need-add-i Inv-loop μ-loop
-add-i c = search needs
-
-sub-left : tie.Need-sub-left Inv-loop μ-loop
-sub-left c = search needs
-
-loop-less : tie.Need-loop-less Inv-loop μ-loop
-loop-less c = search needs
 
 loop-again : tie.Need-loop-again Inv-loop μ-loop
 loop-again c =
@@ -60,4 +45,4 @@ returns-2 c =
 
 pub keys-code-spec : {M : Type 1} → statement M
 keys-code-spec =
-    tie.close (tie.spec Inv-loop μ-loop loop-holds byte-requires key-code-requires returns add-i sub-left loop-less loop-again returns-2)
+    tie.close (tie.spec Inv-loop μ-loop loop-holds (λ c κs. search needs) (λ c κs. search needs) returns (λ c. search needs) (λ c. search needs) (λ c. search needs) loop-again returns-2)

@@ -5,31 +5,13 @@ use Rattle.plan.specs.Plan.{entry-scan, moved}
 use Rattle.plan.proofs.entry.Statement.{statement}
 use Rattle.plan.proofs.entry.Tie as tie
 
-blank-of-requires : tie.Need-blank-of-requires
-blank-of-requires c κs = search needs
-
 returns : tie.Need-returns
 unfolding entry-scan moved
 returns c = rw (le-leb _ _ (c .before .if1 .taken)) (c .blank-of .ensures)
 
-byte-requires : tie.Need-byte-requires
-byte-requires c κs = search needs
-
-reduction-code-of-requires : tie.Need-reduction-code-of-requires
-reduction-code-of-requires c κs = search needs
-
-blank-of-requires-2 : tie.Need-blank-of-requires-2
-blank-of-requires-2 c κs = search needs
-
 returns-2 : tie.Need-returns-2
 unfolding entry-scan moved
 returns-2 c = rw (lt-leb _ _ (c .before .before .before .before .if1 .left), ← c .before .before .before .byte .ensures .0, ← c .before .before .reduction-code-of .ensures, ne-eqb _ _ (c .before .if2 .taken)) (c .blank-of2 .ensures)
-
-add-next : tie.Need-add-next
-add-next c = search needs
-
-read-term-requires : tie.Need-read-term-requires
-read-term-requires c κs = search needs
 
 returns-3 : tie.Need-returns-3
 unfolding entry-scan moved
@@ -39,12 +21,12 @@ pub entry-spec : {M : Type 1} → statement M
 entry-spec =
     tie.close
     (tie.spec
-    blank-of-requires
+    (λ c κs. search needs)
     returns
-    byte-requires
-    reduction-code-of-requires
-    blank-of-requires-2
+    (λ c κs. search needs)
+    (λ c κs. search needs)
+    (λ c κs. search needs)
     returns-2
-    add-next
-    read-term-requires
+    (λ c. search needs)
+    (λ c κs. search needs)
     returns-3)

@@ -9,12 +9,9 @@ returns : tie.Need-returns
 unfolding final-scan
 returns c = rw (eq-eqb _ _ (c .if1 .taken))
 
-read-term-requires : tie.Need-read-term-requires
-read-term-requires c κs = search needs
-
 returns-2 : tie.Need-returns-2
 unfolding final-scan
 returns-2 c = rw (ne-eqb _ _ (c .before .if1 .left)) (c .read-term .ensures)
 
 pub final-of-spec : {M : Type 1} → statement M
-final-of-spec = tie.close (tie.spec returns read-term-requires returns-2)
+final-of-spec = tie.close (tie.spec returns (λ c κs. search needs) returns-2)

@@ -4,18 +4,12 @@ use borrow.Author.Tests.{eq-eqb, ne-eqb}
 use Rattle.plan.proofs.reduction_code_of.Statement.{statement}
 use Rattle.plan.proofs.reduction_code_of.Tie as tie
 
-filler-code-of-requires : tie.Need-filler-code-of-requires
-filler-code-of-requires c κs = search needs
-
 returns : tie.Need-returns
 returns c = rw (eq-eqb _ _ (c .before .if1 .taken)) (c .filler-code-of .ensures)
-
-code-of-requires : tie.Need-code-of-requires
-code-of-requires c κs = search needs
 
 returns-2 : tie.Need-returns-2
 returns-2 c = rw (ne-eqb _ _ (c .before .if1 .left)) (c .code-of .ensures)
 
 pub reduction-code-of-spec : {M : Type 1} → statement M
 reduction-code-of-spec =
-    tie.close (tie.spec filler-code-of-requires returns code-of-requires returns-2)
+    tie.close (tie.spec (λ c κs. search needs) returns (λ c κs. search needs) returns-2)

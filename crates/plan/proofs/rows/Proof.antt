@@ -23,15 +23,6 @@ returns c =
     let l = c .before .before .before .loop in
     sym (l .inv ∙ rows-next (l .left) (a .s .now) (l .state) (c .before .before .loop-test .taken) ∙ rw (ne-eqb _ _ (c .if1 .taken)) refl)
 
-row-step-of-requires : tie.Need-row-step-of-requires Inv-loop μ-loop
-row-step-of-requires c κs = search needs
-
-sub-left : tie.Need-sub-left Inv-loop μ-loop
-sub-left c = search needs
-
-loop-less : tie.Need-loop-less Inv-loop μ-loop
-loop-less c = search needs
-
 loop-again : tie.Need-loop-again Inv-loop μ-loop
 loop-again c =
     let a = c .before .before .before .before .before .before .args in
@@ -45,4 +36,4 @@ returns-2 c =
     sym (l .inv ∙ rows-none (l .left) (a .s .now) (l .state) (omega arith))
 
 pub rows-spec : {M : Type 1} → statement M
-rows-spec = tie.close (tie.spec Inv-loop μ-loop loop-holds returns row-step-of-requires sub-left loop-less loop-again returns-2)
+rows-spec = tie.close (tie.spec Inv-loop μ-loop loop-holds returns (λ c κs. search needs) (λ c. search needs) (λ c. search needs) loop-again returns-2)

@@ -4,21 +4,12 @@ use borrow.Author.Tests.{le-ltb, lt-ltb}
 use Rattle.plan.proofs.slot_code_of.Statement.{statement}
 use Rattle.plan.proofs.slot_code_of.Tie as tie
 
-add-key-code : tie.Need-add-key-code
-add-key-code c = search needs
-
-key-code-requires : tie.Need-key-code-requires
-key-code-requires c κs = search needs
-
 returns : tie.Need-returns
 returns c = rw (lt-ltb _ _ (c .before .if1 .taken)) (c .key-code .ensures)
-
-filler-code-of-requires : tie.Need-filler-code-of-requires
-filler-code-of-requires c κs = search needs
 
 returns-2 : tie.Need-returns-2
 returns-2 c = rw (le-ltb _ _ (c .before .if1 .left)) (c .filler-code-of .ensures)
 
 pub slot-code-of-spec : {M : Type 1} → statement M
 slot-code-of-spec =
-    tie.close (tie.spec add-key-code key-code-requires returns filler-code-of-requires returns-2)
+    tie.close (tie.spec (λ c. search needs) (λ c κs. search needs) returns (λ c κs. search needs) returns-2)

@@ -6,18 +6,9 @@ use Rattle.plan_form.specs.Form.{row-text}
 use Rattle.plan_form.proofs.put_row.Statement.{statement}
 use Rattle.plan_form.proofs.put_row.Tie as tie
 
-put16-requires : tie.Need-put16-requires
-put16-requires c κs = search needs
-
-put16-requires-2 : tie.Need-put16-requires-2
-put16-requires-2 c κs = search needs
-
-put16-requires-3 : tie.Need-put16-requires-3
-put16-requires-3 c κs = search needs
-
 returns : tie.Need-returns
 unfolding put-list row-text
 returns c = c .put163 .ensures ∙ rw (c .before .put162 .ensures, c .before .before .put16 .ensures) refl
 
 pub put-row-spec : {M : Type 1} → statement M
-put-row-spec = tie.close (tie.spec put16-requires put16-requires-2 put16-requires-3 returns)
+put-row-spec = tie.close (tie.spec (λ c κs. search needs) (λ c κs. search needs) (λ c κs. search needs) returns)

@@ -18,9 +18,6 @@ Inv-loop paths table n r₀ i₀ r i = (i ≤ n) × (put-list r (left row-text t
 abbrev μ-loop : tie.MeasureT-loop
 μ-loop paths table n r₀ i₀ r i = n - i
 
-lesser-requires : tie.Need-lesser-requires Inv-loop μ-loop
-lesser-requires c κs = search needs
-
 loop-holds : tie.Need-loop-holds Inv-loop μ-loop
 loop-holds c = (omega arith, rw sub-zero)
 
@@ -29,9 +26,6 @@ mul-w c = omega arith
 
 array-read-w : tie.Need-array-read-w Inv-loop μ-loop
 array-read-w c = omega arith
-
-put-row-requires : tie.Need-put-row-requires Inv-loop μ-loop
-put-row-requires c κs = search needs
 
 add-i : tie.Need-add-i Inv-loop μ-loop
 add-i c = omega arith
@@ -58,11 +52,11 @@ put-rows-spec =
     (tie.spec
     Inv-loop
     μ-loop
-    lesser-requires
+    (λ c κs. search needs)
     loop-holds
     mul-w
     array-read-w
-    put-row-requires
+    (λ c κs. search needs)
     add-i
     loop-less
     loop-again

@@ -9,9 +9,6 @@ returns : tie.Need-returns
 unfolding ended
 returns c = rw (ne-eqb _ _ (c .if1 .taken))
 
-blank-of-requires : tie.Need-blank-of-requires
-blank-of-requires c κs = search needs
-
 returns-2 : tie.Need-returns-2
 unfolding ended
 returns-2 c = rw (eq-eqb _ _ (c .before .before .before .if1 .left), lt-ltb _ _ (c .before .if2 .taken)) (c .blank-of .ensures)
@@ -21,4 +18,4 @@ unfolding ended
 returns-3 c = rw (eq-eqb _ _ (c .before .before .if1 .left), le-ltb _ _ (c .if2 .left))
 
 pub finish-spec : {M : Type 1} → statement M
-finish-spec = tie.close (tie.spec returns blank-of-requires returns-2 returns-3)
+finish-spec = tie.close (tie.spec returns (λ c κs. search needs) returns-2 returns-3)

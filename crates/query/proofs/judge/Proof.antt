@@ -5,11 +5,8 @@ use Rattle.progress.specs.declared.Progress.{Progress}
 use Rattle.query.proofs.judge.Statement.{statement}
 use Rattle.query.proofs.judge.Tie as tie
 
-scan-requires : tie.Need-scan-requires
-scan-requires c κs = search needs
-
 returns : tie.Need-returns
 returns c = ap (λ (w : Progress). w .code) (c .scan .ensures)
 
 pub judge-spec : {M : Type 1} → statement M
-judge-spec = tie.close (tie.spec scan-requires returns)
+judge-spec = tie.close (tie.spec (λ c κs. search needs) returns)

@@ -9,33 +9,15 @@ use Rattle.query.specs.Query.{query-scan}
 use Rattle.query.proofs.scan.Statement.{statement}
 use Rattle.query.proofs.scan.Tie as tie
 
-opening-code-requires : tie.Need-opening-code-requires
-opening-code-requires c κs = search needs
-
 opening-is : (c : tie.After-opening-code) → c .opening-code .result ≡ opening-code 0x51 (c .before .before .args .s .now)
 opening-is c = c .opening-code .ensures
-
-blank-of-requires : tie.Need-blank-of-requires
-blank-of-requires c κs = search needs
 
 returns : tie.Need-returns
 unfolding query-scan
 returns c = rw (← opening-is (c .before .before), ne-eqb _ _ (c .before .if1 .taken)) (c .blank-of .ensures)
 
-byte-requires : tie.Need-byte-requires
-byte-requires c κs = search needs
-
-start-requires : tie.Need-start-requires
-start-requires c κs = search needs
-
 cast-read-term : tie.Need-cast-read-term
 cast-read-term c = omega (arith, c .before .byte .ensures .0, opening-found 0x51 _ (sym (opening-is (c .before .before .before)) ∙ c .before .before .if1 .left) .1)
-
-read-term-requires : tie.Need-read-term-requires
-read-term-requires c κs = search needs
-
-finish-requires : tie.Need-finish-requires
-finish-requires c κs = search needs
 
 returns-2 : tie.Need-returns-2
 unfolding query-scan
@@ -47,12 +29,12 @@ pub scan-spec : {M : Type 1} → statement M
 scan-spec =
     tie.close
     (tie.spec
-    opening-code-requires
-    blank-of-requires
+    (λ c κs. search needs)
+    (λ c κs. search needs)
     returns
-    byte-requires
-    start-requires
+    (λ c κs. search needs)
+    (λ c κs. search needs)
     cast-read-term
-    read-term-requires
-    finish-requires
+    (λ c κs. search needs)
+    (λ c κs. search needs)
     returns-2)

@@ -8,15 +8,6 @@ use Rattle.query_form.specs.Form.{form-bytes}
 use Rattle.query_form.proofs.draft_of.Statement.{statement}
 use Rattle.query_form.proofs.draft_of.Tie as tie
 
-header-requires : tie.Need-header-requires
-header-requires c κs = search needs
-
-put-requires : tie.Need-put-requires
-put-requires c κs = search needs
-
-put-nodes-requires : tie.Need-put-nodes-requires
-put-nodes-requires c κs = search needs
-
 made : (c : tie.After-put-nodes) → c .put-nodes .result ≡ put-list empty-draft (form-bytes (c .before .before .before .before .args .form))
 unfolding put-list form-bytes
 made c = c .put-nodes .ensures .0 ∙ rw (c .before .put .ensures, c .before .before .header .ensures) refl
@@ -26,4 +17,4 @@ unfolding form-bytes
 returns c = drafted (form-bytes (c .before .before .before .before .args .form)) (omega (arith, c .put-nodes .ensures .1)) (c .put-nodes .result) (made c)
 
 pub draft-of-spec : {M : Type 1} → statement M
-draft-of-spec = tie.close (tie.spec header-requires put-requires put-nodes-requires returns)
+draft-of-spec = tie.close (tie.spec (λ c κs. search needs) (λ c κs. search needs) (λ c κs. search needs) returns)

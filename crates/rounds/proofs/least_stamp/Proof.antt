@@ -4,9 +4,6 @@ use borrow.Author.Needs.{needs}
 use Rattle.rounds.proofs.least_stamp.Statement.{statement}
 use Rattle.rounds.proofs.least_stamp.Tie as tie
 
-add-result : tie.Need-add-result
-add-result c = search needs
-
 returns : tie.Need-returns
 returns c = rw (c .if1 .taken) (omega arith, omega arith)
 
@@ -14,4 +11,4 @@ returns-2 : tie.Need-returns-2
 returns-2 c = rw (c .if1 .left) (omega arith, omega arith)
 
 pub least-stamp-spec : {M : Type 1} → statement M
-least-stamp-spec = tie.close (tie.spec add-result returns returns-2)
+least-stamp-spec = tie.close (tie.spec (λ c. search needs) returns returns-2)

@@ -28,23 +28,11 @@ loop-holds c =
     let a = c .before .before .args in
     (omega arith, sym (fill-none 256 (entry-row (a .plan .now) (rows-at (a .figures .now) (a .paths)) (a .at)) (row Absent)))
 
-values-at-requires : tie.Need-values-at-requires Inv-loop μ-loop
-values-at-requires c κs = search needs
-
-evaluate-requires : tie.Need-evaluate-requires Inv-loop μ-loop
-evaluate-requires c κs = search needs
-
 mul-rows : tie.Need-mul-rows Inv-loop μ-loop
 mul-rows c = omega (arith, c .before .before .before .before .before .before .pre)
 
 array-set-from-rows : tie.Need-array-set-from-rows Inv-loop μ-loop
 array-set-from-rows c = omega (arith, c .before .before .before .before .before .before .pre)
-
-add-v : tie.Need-add-v Inv-loop μ-loop
-add-v c = search needs
-
-loop-less : tie.Need-loop-less Inv-loop μ-loop
-loop-less c = search needs
 
 loop-again : tie.Need-loop-again Inv-loop μ-loop
 loop-again c =
@@ -68,4 +56,4 @@ returns c =
 pub entry-rows-spec : {M : Type 1} → statement M
 entry-rows-spec =
     tie.close
-    (tie.spec Inv-loop μ-loop loop-holds values-at-requires evaluate-requires mul-rows array-set-from-rows add-v loop-less loop-again returns)
+    (tie.spec Inv-loop μ-loop loop-holds (λ c κs. search needs) (λ c κs. search needs) mul-rows array-set-from-rows (λ c. search needs) (λ c. search needs) loop-again returns)

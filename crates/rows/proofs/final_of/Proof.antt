@@ -7,12 +7,6 @@ use Rattle.rows.specs.Rows.{final-found}
 use Rattle.rows.proofs.final_of.Statement.{statement}
 use Rattle.rows.proofs.final_of.Tie as tie
 
-results-of-requires : tie.Need-results-of-requires
-results-of-requires c κs = search needs
-
-evaluate-requires : tie.Need-evaluate-requires
-evaluate-requires c κs = search needs
-
 returns : tie.Need-returns
 unfolding final-found
 returns c =
@@ -21,4 +15,4 @@ returns c =
     ap (λ (f : Found). f .value) (c .evaluate .ensures ∙ ap₂ (evaluated 16 (a .plan .now)) (entries .0) (entries .1))
 
 pub final-of-spec : {M : Type 1} → statement M
-final-of-spec = tie.close (tie.spec results-of-requires evaluate-requires returns)
+final-of-spec = tie.close (tie.spec (λ c κs. search needs) (λ c κs. search needs) returns)

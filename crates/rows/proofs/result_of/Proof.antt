@@ -11,18 +11,6 @@ use Rattle.rows.proofs.Laws.{entry-taken}
 use Rattle.rows.proofs.result_of.Statement.{statement}
 use Rattle.rows.proofs.result_of.Tie as tie
 
-add-entry-rows : tie.Need-add-entry-rows
-add-entry-rows c = search needs
-
-entry-rows-requires : tie.Need-entry-rows-requires
-entry-rows-requires c κs = search needs
-
-byte-requires : tie.Need-byte-requires
-byte-requires c κs = search needs
-
-reduce-rows-requires : tie.Need-reduce-rows-requires
-reduce-rows-requires c κs = search needs
-
 returns : tie.Need-returns
 returns c =
     let a = c .before .before .before .before .before .args in
@@ -30,4 +18,4 @@ returns c =
     c .reduce-rows .ensures ∙ ap₂ (λ (reduction : ℕ) (l : List Row). reduce reduction (values l)) (c .before .byte .ensures) rows
 
 pub result-of-spec : {M : Type 1} → statement M
-result-of-spec = tie.close (tie.spec add-entry-rows entry-rows-requires byte-requires reduce-rows-requires returns)
+result-of-spec = tie.close (tie.spec (λ c. search needs) (λ c κs. search needs) (λ c κs. search needs) (λ c κs. search needs) returns)

@@ -20,26 +20,11 @@ Inv-loop figures paths v count rows₀ j₀ rows j = (j ≤ count) × (rows ≡ 
 abbrev μ-loop : tie.MeasureT-loop
 μ-loop figures paths v count rows₀ j₀ rows j = count - j
 
-lesser-requires : tie.Need-lesser-requires Inv-loop μ-loop
-lesser-requires c κs = search needs
-
 loop-holds : tie.Need-loop-holds Inv-loop μ-loop
 loop-holds c = let a = c .before .before .args in (omega arith, sym (fill-none 8 (value-row (a .figures .now) (a .v)) (row Absent)))
 
-value-at-requires : tie.Need-value-at-requires Inv-loop μ-loop
-value-at-requires c κs = search needs
-
-mul-rows : tie.Need-mul-rows Inv-loop μ-loop
-mul-rows c = search needs
-
 array-set-from-rows : tie.Need-array-set-from-rows Inv-loop μ-loop
 array-set-from-rows c = omega (arith, c .before .before .before .lesser .ensures .0)
-
-add-j : tie.Need-add-j Inv-loop μ-loop
-add-j c = search needs
-
-loop-less : tie.Need-loop-less Inv-loop μ-loop
-loop-less c = search needs
 
 loop-again : tie.Need-loop-again Inv-loop μ-loop
 loop-again c =
@@ -61,4 +46,4 @@ returns c =
 pub values-at-spec : {M : Type 1} → statement M
 values-at-spec =
     tie.close
-    (tie.spec Inv-loop μ-loop lesser-requires loop-holds value-at-requires mul-rows array-set-from-rows add-j loop-less loop-again returns)
+    (tie.spec Inv-loop μ-loop (λ c κs. search needs) loop-holds (λ c κs. search needs) (λ c. search needs) array-set-from-rows (λ c. search needs) (λ c. search needs) loop-again returns)

@@ -5,12 +5,9 @@ use Rattle.terms.specs.Terms.{advanced}
 use Rattle.terms.proofs.advance.Statement.{statement}
 use Rattle.terms.proofs.advance.Tie as tie
 
-add-r : tie.Need-add-r
-add-r c = search needs
-
 returns : tie.Need-returns
 unfolding advanced
 returns c = refl
 
 pub advance-spec : {M : Type 1} → statement M
-advance-spec = tie.close (tie.spec add-r returns)
+advance-spec = tie.close (tie.spec (λ c. search needs) returns)

@@ -6,34 +6,13 @@ use Rattle.terms.specs.Terms.{index-step}
 use Rattle.terms.proofs.index_step_of.Statement.{statement}
 use Rattle.terms.proofs.index_step_of.Tie as tie
 
-add-at : tie.Need-add-at
-add-at c = search needs
-
-byte-requires : tie.Need-byte-requires
-byte-requires c κs = search needs
-
-stop-requires : tie.Need-stop-requires
-stop-requires c κs = search needs
-
 returns : tie.Need-returns
 unfolding index-step
 returns c = rw (← c .before .before .byte .ensures .0, lt-ltb _ _ (c .before .if1 .taken)) (c .stop .ensures)
 
-cast-if2 : tie.Need-cast-if2
-cast-if2 c = search needs
-
-stop-requires-2 : tie.Need-stop-requires-2
-stop-requires-2 c κs = search needs
-
 returns-2 : tie.Need-returns-2
 unfolding index-step
 returns-2 c = rw (← c .before .before .before .byte .ensures .0, le-ltb _ _ (c .before .before .if1 .left), le-leb _ _ (c .before .if2 .taken)) (c .stop2 .ensures)
-
-add-advance : tie.Need-add-advance
-add-advance c = search needs
-
-advance-requires : tie.Need-advance-requires
-advance-requires c κs = search needs
 
 returns-3 : tie.Need-returns-3
 unfolding index-step
@@ -43,13 +22,13 @@ pub index-step-of-spec : {M : Type 1} → statement M
 index-step-of-spec =
     tie.close
     (tie.spec
-    add-at
-    byte-requires
-    stop-requires
+    (λ c. search needs)
+    (λ c κs. search needs)
+    (λ c κs. search needs)
     returns
-    cast-if2
-    stop-requires-2
+    (λ c. search needs)
+    (λ c κs. search needs)
     returns-2
-    add-advance
-    advance-requires
+    (λ c. search needs)
+    (λ c κs. search needs)
     returns-3)

@@ -5,29 +5,17 @@ use Rattle.terms.specs.Terms.{leaf-step}
 use Rattle.terms.proofs.leaf_step_of.Statement.{statement}
 use Rattle.terms.proofs.leaf_step_of.Tie as tie
 
-path-step-of-requires : tie.Need-path-step-of-requires
-path-step-of-requires c κs = search needs
-
 returns : tie.Need-returns
 unfolding leaf-step
 returns c = rw (eq-eqb _ _ (c .before .if1 .taken)) (c .path-step-of .ensures)
-
-reduce-step-of-requires : tie.Need-reduce-step-of-requires
-reduce-step-of-requires c κs = search needs
 
 returns-2 : tie.Need-returns-2
 unfolding leaf-step
 returns-2 c = rw (ne-eqb _ _ (c .before .before .if1 .left), eq-eqb _ _ (c .before .if2 .taken)) (c .reduce-step-of .ensures)
 
-index-step-of-requires : tie.Need-index-step-of-requires
-index-step-of-requires c κs = search needs
-
 returns-3 : tie.Need-returns-3
 unfolding leaf-step
 returns-3 c = rw (ne-eqb _ _ (c .before .before .before .if1 .left), ne-eqb _ _ (c .before .before .if2 .left), eq-eqb _ _ (c .before .if3 .taken)) (c .index-step-of .ensures)
-
-index-step-of-requires-2 : tie.Need-index-step-of-requires-2
-index-step-of-requires-2 c κs = search needs
 
 returns-4 : tie.Need-returns-4
 unfolding leaf-step
@@ -37,11 +25,11 @@ pub leaf-step-of-spec : {M : Type 1} → statement M
 leaf-step-of-spec =
     tie.close
     (tie.spec
-    path-step-of-requires
+    (λ c κs. search needs)
     returns
-    reduce-step-of-requires
+    (λ c κs. search needs)
     returns-2
-    index-step-of-requires
+    (λ c κs. search needs)
     returns-3
-    index-step-of-requires-2
+    (λ c κs. search needs)
     returns-4)

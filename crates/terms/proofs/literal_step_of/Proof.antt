@@ -6,24 +6,9 @@ use Rattle.terms.specs.Terms.{literal-step}
 use Rattle.terms.proofs.literal_step_of.Statement.{statement}
 use Rattle.terms.proofs.literal_step_of.Tie as tie
 
-add-last : tie.Need-add-last
-add-last c = search needs
-
-byte-requires : tie.Need-byte-requires
-byte-requires c κs = search needs
-
-stop-requires : tie.Need-stop-requires
-stop-requires c κs = search needs
-
 returns : tie.Need-returns
 unfolding literal-step
 returns c = rw (← c .before .before .byte .ensures .0, lt-ltb _ _ (c .before .if1 .taken)) (c .stop .ensures)
-
-add-advance : tie.Need-add-advance
-add-advance c = search needs
-
-advance-requires : tie.Need-advance-requires
-advance-requires c κs = search needs
 
 returns-2 : tie.Need-returns-2
 unfolding literal-step
@@ -32,4 +17,4 @@ returns-2 c = rw (← c .before .before .byte .ensures .0, le-ltb _ _ (c .before
 pub literal-step-of-spec : {M : Type 1} → statement M
 literal-step-of-spec =
     tie.close
-    (tie.spec add-last byte-requires stop-requires returns add-advance advance-requires returns-2)
+    (tie.spec (λ c. search needs) (λ c κs. search needs) (λ c κs. search needs) returns (λ c. search needs) (λ c κs. search needs) returns-2)

@@ -23,22 +23,10 @@ returns c =
     let l = c .before .before .loop in
     (rw (l .inv .1, slot-next (8 - l .i) _ _ _ (l .i) (omega arith), le-leb _ _ (c .if1 .taken)) refl, omega arith)
 
-mul-if2 : tie.Need-mul-if2 Inv-loop μ-loop
-mul-if2 c = search needs
-
-array-read-if2 : tie.Need-array-read-if2 Inv-loop μ-loop
-array-read-if2 c = search needs
-
 returns-2 : tie.Need-returns-2 Inv-loop μ-loop
 returns-2 c =
     let l = c .before .before .before .loop in
     (rw (l .inv .1, slot-next (8 - l .i) _ _ _ (l .i) (omega arith), lt-leb _ _ (c .before .if1 .left), eq-eqb _ _ (c .if2 .taken)) refl, omega arith)
-
-add-i : tie.Need-add-i Inv-loop μ-loop
-add-i c = search needs
-
-loop-less : tie.Need-loop-less Inv-loop μ-loop
-loop-less c = search needs
 
 loop-again : tie.Need-loop-again Inv-loop μ-loop
 loop-again c =
@@ -54,4 +42,4 @@ returns-3 c =
     (rw (l .inv .1, e) refl, omega arith)
 
 pub slot-spec : {M : Type 1} → statement M
-slot-spec = tie.close (tie.spec Inv-loop μ-loop loop-holds returns mul-if2 array-read-if2 returns-2 add-i loop-less loop-again returns-3)
+slot-spec = tie.close (tie.spec Inv-loop μ-loop loop-holds returns (λ c. search needs) (λ c. search needs) returns-2 (λ c. search needs) (λ c. search needs) loop-again returns-3)

@@ -4,11 +4,8 @@ use mathlib.Core.Path.{refl}
 use Rattle.terms.proofs.stop.Statement.{statement}
 use Rattle.terms.proofs.stop.Tie as tie
 
-blank-of-requires : tie.Need-blank-of-requires
-blank-of-requires c κs = search needs
-
 returns : tie.Need-returns
 returns c = rw (c .blank-of .ensures) refl
 
 pub stop-spec : {M : Type 1} → statement M
-stop-spec = tie.close (tie.spec blank-of-requires returns)
+stop-spec = tie.close (tie.spec (λ c κs. search needs) returns)

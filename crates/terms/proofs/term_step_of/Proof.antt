@@ -5,62 +5,29 @@ use Rattle.terms.specs.Terms.{term-step}
 use Rattle.terms.proofs.term_step_of.Statement.{statement}
 use Rattle.terms.proofs.term_step_of.Tie as tie
 
-stop-requires : tie.Need-stop-requires
-stop-requires c κs = search needs
-
 returns : tie.Need-returns
 unfolding term-step
 returns c = rw (le-leb _ _ (c .before .if1 .taken)) (c .stop .ensures)
-
-stop-requires-2 : tie.Need-stop-requires-2
-stop-requires-2 c κs = search needs
 
 returns-2 : tie.Need-returns-2
 unfolding term-step
 returns-2 c = rw (lt-leb _ _ (c .before .before .before .if1 .left), le-leb _ _ (c .before .if2 .taken)) (c .stop2 .ensures)
 
-stop-requires-3 : tie.Need-stop-requires-3
-stop-requires-3 c κs = search needs
-
 returns-3 : tie.Need-returns-3
 unfolding term-step
 returns-3 c = rw (lt-leb _ _ (c .before .before .before .before .if1 .left), lt-leb _ _ (c .before .before .if2 .left), eq-eqb _ _ (c .before .if3 .taken)) (c .stop3 .ensures)
-
-shared-slice-read-tag : tie.Need-shared-slice-read-tag
-shared-slice-read-tag c = search needs
-
-leaf-tag-of-requires : tie.Need-leaf-tag-of-requires
-leaf-tag-of-requires c κs = search needs
-
-leaf-step-of-requires : tie.Need-leaf-step-of-requires
-leaf-step-of-requires c κs = search needs
 
 returns-4 : tie.Need-returns-4
 unfolding term-step
 returns-4 c = rw (lt-leb _ _ (c .before .before .before .before .before .before .before .if1 .left), lt-leb _ _ (c .before .before .before .before .before .if2 .left), ne-eqb _ _ (c .before .before .before .before .if3 .left), ← c .before .before .leaf-tag-of .ensures, eq-eqb _ _ (c .before .if4 .taken)) (c .leaf-step-of .ensures)
 
-literal-tag-of-requires : tie.Need-literal-tag-of-requires
-literal-tag-of-requires c κs = search needs
-
-literal-step-of-requires : tie.Need-literal-step-of-requires
-literal-step-of-requires c κs = search needs
-
 returns-5 : tie.Need-returns-5
 unfolding term-step
 returns-5 c = rw (lt-leb _ _ (c .before .before .before .before .before .before .before .before .before .if1 .left), lt-leb _ _ (c .before .before .before .before .before .before .before .if2 .left), ne-eqb _ _ (c .before .before .before .before .before .before .if3 .left), ← c .before .before .before .before .leaf-tag-of .ensures, ne-eqb _ _ (c .before .before .before .if4 .left), ← c .before .before .literal-tag-of .ensures .0, eq-eqb _ _ (c .before .if5 .taken)) (c .literal-step-of .ensures)
 
-add-if6 : tie.Need-add-if6
-add-if6 c = search needs
-
-apply-step-of-requires : tie.Need-apply-step-of-requires
-apply-step-of-requires c κs = search needs
-
 returns-6 : tie.Need-returns-6
 unfolding term-step
 returns-6 c = rw (lt-leb _ _ (c .before .before .before .before .before .before .before .before .before .before .if1 .left), lt-leb _ _ (c .before .before .before .before .before .before .before .before .if2 .left), ne-eqb _ _ (c .before .before .before .before .before .before .before .if3 .left), ← c .before .before .before .before .before .leaf-tag-of .ensures, ne-eqb _ _ (c .before .before .before .before .if4 .left), ← c .before .before .before .literal-tag-of .ensures .0, ne-eqb _ _ (c .before .before .if5 .left), eq-eqb _ _ (c .before .if6 .taken)) (c .apply-step-of .ensures)
-
-stop-requires-4 : tie.Need-stop-requires-4
-stop-requires-4 c κs = search needs
 
 returns-7 : tie.Need-returns-7
 unfolding term-step
@@ -70,21 +37,21 @@ pub term-step-of-spec : {M : Type 1} → statement M
 term-step-of-spec =
     tie.close
     (tie.spec
-    stop-requires
+    (λ c κs. search needs)
     returns
-    stop-requires-2
+    (λ c κs. search needs)
     returns-2
-    stop-requires-3
+    (λ c κs. search needs)
     returns-3
-    shared-slice-read-tag
-    leaf-tag-of-requires
-    leaf-step-of-requires
+    (λ c. search needs)
+    (λ c κs. search needs)
+    (λ c κs. search needs)
     returns-4
-    literal-tag-of-requires
-    literal-step-of-requires
+    (λ c κs. search needs)
+    (λ c κs. search needs)
     returns-5
-    add-if6
-    apply-step-of-requires
+    (λ c. search needs)
+    (λ c κs. search needs)
     returns-6
-    stop-requires-4
+    (λ c κs. search needs)
     returns-7)

@@ -8,11 +8,8 @@ use Rattle.value.proofs.both_of.Tie as tie
 returns : tie.Need-returns
 returns c = rw (eq-eqb _ _ (c .if1 .taken)) refl
 
-truth-of-requires : tie.Need-truth-of-requires
-truth-of-requires c κs = search needs
-
 returns-2 : tie.Need-returns-2
 returns-2 c = rw (ne-eqb _ _ (c .before .if1 .left)) (c .truth-of .ensures)
 
 pub both-of-spec : {M : Type 1} → statement M
-both-of-spec = tie.close (tie.spec returns truth-of-requires returns-2)
+both-of-spec = tie.close (tie.spec returns (λ c κs. search needs) returns-2)

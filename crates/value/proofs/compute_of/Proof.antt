@@ -6,39 +6,6 @@ use Rattle.value.specs.Value.{compute}
 use Rattle.value.proofs.compute_of.Statement.{statement}
 use Rattle.value.proofs.compute_of.Tie as tie
 
-least-of-requires : tie.Need-least-of-requires
-least-of-requires c κs = search needs
-
-greatest-of-requires : tie.Need-greatest-of-requires
-greatest-of-requires c κs = search needs
-
-plus-requires : tie.Need-plus-requires
-plus-requires c κs = search needs
-
-minus-requires : tie.Need-minus-requires
-minus-requires c κs = search needs
-
-times-requires : tie.Need-times-requires
-times-requires c κs = search needs
-
-divide-requires : tie.Need-divide-requires
-divide-requires c κs = search needs
-
-truth-of-requires : tie.Need-truth-of-requires
-truth-of-requires c κs = search needs
-
-truth-of-requires-2 : tie.Need-truth-of-requires-2
-truth-of-requires-2 c κs = search needs
-
-truth-of-requires-3 : tie.Need-truth-of-requires-3
-truth-of-requires-3 c κs = search needs
-
-both-of-requires : tie.Need-both-of-requires
-both-of-requires c κs = search needs
-
-either-of-requires : tie.Need-either-of-requires
-either-of-requires c κs = search needs
-
 returns : tie.Need-returns
 unfolding compute
 returns c = rw (c .before .match .keys1, c .least-of .ensures)
@@ -88,4 +55,4 @@ unfolding compute
 returns-12 c = rw (ne-eqb _ 1 (c .match .rest .0 .0 .0 .0 .0 .0 .0 .0 .0 .0 .1), ne-eqb _ 2 (c .match .rest .0 .0 .0 .0 .0 .0 .0 .0 .0 .1), ne-eqb _ 3 (c .match .rest .0 .0 .0 .0 .0 .0 .0 .0 .1), ne-eqb _ 4 (c .match .rest .0 .0 .0 .0 .0 .0 .0 .1), ne-eqb _ 5 (c .match .rest .0 .0 .0 .0 .0 .0 .1), ne-eqb _ 6 (c .match .rest .0 .0 .0 .0 .0 .1), ne-eqb _ 7 (c .match .rest .0 .0 .0 .0 .1), ne-eqb _ 8 (c .match .rest .0 .0 .0 .1), ne-eqb _ 9 (c .match .rest .0 .0 .1), ne-eqb _ 10 (c .match .rest .0 .1), ne-eqb _ 11 (c .match .rest .1)) refl
 
 pub compute-of-spec : {M : Type 1} → statement M
-compute-of-spec = tie.close (tie.spec least-of-requires greatest-of-requires plus-requires minus-requires times-requires divide-requires truth-of-requires truth-of-requires-2 truth-of-requires-3 both-of-requires either-of-requires returns returns-2 returns-3 returns-4 returns-5 returns-6 returns-7 returns-8 returns-9 returns-10 returns-11 returns-12)
+compute-of-spec = tie.close (tie.spec (λ c κs. search needs) (λ c κs. search needs) (λ c κs. search needs) (λ c κs. search needs) (λ c κs. search needs) (λ c κs. search needs) (λ c κs. search needs) (λ c κs. search needs) (λ c κs. search needs) (λ c κs. search needs) (λ c κs. search needs) returns returns-2 returns-3 returns-4 returns-5 returns-6 returns-7 returns-8 returns-9 returns-10 returns-11 returns-12)

@@ -5,9 +5,6 @@ use borrow.Author.Tests.{eq-eqb, ne-eqb}
 use Rattle.value.proofs.divide.Statement.{statement}
 use Rattle.value.proofs.divide.Tie as tie
 
-div-t5 : tie.Need-div-t5
-div-t5 c = search needs
-
 returns : tie.Need-returns
 returns c = rw (eq-eqb _ _ (c .if1 .taken)) refl
 
@@ -15,4 +12,4 @@ returns-2 : tie.Need-returns-2
 returns-2 c = rw (ne-eqb _ _ (c .if1 .left)) refl
 
 pub divide-spec : {M : Type 1} → statement M
-divide-spec = tie.close (tie.spec div-t5 returns returns-2)
+divide-spec = tie.close (tie.spec (λ c. search needs) returns returns-2)

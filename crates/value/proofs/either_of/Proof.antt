@@ -5,9 +5,6 @@ use borrow.Author.Tests.{eq-eqb, ne-eqb}
 use Rattle.value.proofs.either_of.Statement.{statement}
 use Rattle.value.proofs.either_of.Tie as tie
 
-truth-of-requires : tie.Need-truth-of-requires
-truth-of-requires c κs = search needs
-
 returns : tie.Need-returns
 returns c = rw (eq-eqb _ _ (c .before .if1 .taken)) (c .truth-of .ensures)
 
@@ -15,4 +12,4 @@ returns-2 : tie.Need-returns-2
 returns-2 c = rw (ne-eqb _ _ (c .if1 .left)) refl
 
 pub either-of-spec : {M : Type 1} → statement M
-either-of-spec = tie.close (tie.spec truth-of-requires returns returns-2)
+either-of-spec = tie.close (tie.spec (λ c κs. search needs) returns returns-2)

@@ -6,12 +6,6 @@ use Rattle.value.proofs.Numbers.{number-fits, number-large}
 use Rattle.value.proofs.plus.Statement.{statement}
 use Rattle.value.proofs.plus.Tie as tie
 
-sub-if1 : tie.Need-sub-if1
-sub-if1 c = search needs
-
-add-t6 : tie.Need-add-t6
-add-t6 c = search needs
-
 returns : tie.Need-returns
 returns c = number-fits (c .before .args .x + c .before .args .y) (omega arith)
 
@@ -19,4 +13,4 @@ returns-2 : tie.Need-returns-2
 returns-2 c = number-large (c .before .args .x + c .before .args .y) (omega arith)
 
 pub plus-spec : {M : Type 1} → statement M
-plus-spec = tie.close (tie.spec sub-if1 add-t6 returns returns-2)
+plus-spec = tie.close (tie.spec (λ c. search needs) (λ c. search needs) returns returns-2)

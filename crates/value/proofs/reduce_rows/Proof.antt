@@ -18,27 +18,9 @@ Inv-loop reduction n rows count partial₀ i₀ partial i = (i ≤ count) × (pa
 abbrev μ-loop : tie.MeasureT-loop
 μ-loop reduction n rows count partial₀ i₀ partial i = count - i
 
-at-most-256-requires : tie.Need-at-most-256-requires Inv-loop μ-loop
-at-most-256-requires c κs = search needs
-
 loop-holds : tie.Need-loop-holds Inv-loop μ-loop
 unfolding after
 loop-holds c = search needs
-
-mul-row : tie.Need-mul-row Inv-loop μ-loop
-mul-row c = search needs
-
-array-copy-out-row : tie.Need-array-copy-out-row Inv-loop μ-loop
-array-copy-out-row c = search needs
-
-step-of-requires : tie.Need-step-of-requires Inv-loop μ-loop
-step-of-requires c κs = search needs
-
-add-i : tie.Need-add-i Inv-loop μ-loop
-add-i c = search needs
-
-loop-less : tie.Need-loop-less Inv-loop μ-loop
-loop-less c = search needs
 
 loop-again : tie.Need-loop-again Inv-loop μ-loop
 loop-again c =
@@ -47,9 +29,6 @@ loop-again c =
     let blank : Row = record { value = Absent } in
     let e : c .step-of .result ≡ step (a .reduction) (l .partial) (getD (a .t2) (l .i) blank .value) = c .step-of .ensures in
     (omega arith, e ∙ ap (λ (p : Partial). step (a .reduction) p (getD (a .t2) (l .i) blank .value)) (l .inv .1) ∙ after-next (a .reduction) (a .t2) (l .i) blank (omega arith))
-
-finish-of-requires : tie.Need-finish-of-requires Inv-loop μ-loop
-finish-of-requires c κs = search needs
 
 returns : tie.Need-returns Inv-loop μ-loop
 returns c =
@@ -61,4 +40,4 @@ returns c =
 pub reduce-rows-spec : {M : Type 1} → statement M
 reduce-rows-spec =
     tie.close
-    (tie.spec Inv-loop μ-loop at-most-256-requires loop-holds mul-row array-copy-out-row step-of-requires add-i loop-less loop-again finish-of-requires returns)
+    (tie.spec Inv-loop μ-loop (λ c κs. search needs) loop-holds (λ c. search needs) (λ c. search needs) (λ c κs. search needs) (λ c. search needs) (λ c. search needs) loop-again (λ c κs. search needs) returns)

@@ -10,9 +10,6 @@ use Rattle.value.proofs.times.Tie as tie
 returns : tie.Need-returns
 returns c = rw (c .if1 .taken, zero-mul) refl
 
-div-if2 : tie.Need-div-if2
-div-if2 c = search needs
-
 mul-t6 : tie.Need-mul-t6
 mul-t6 c = record { fits = product-fits (c .before .before .args .x) (c .before .before .args .y) (c .before .if1 .left) (c .if2 .taken) }
 
@@ -23,4 +20,4 @@ returns-3 : tie.Need-returns-3
 returns-3 c = number-large (c .before .before .args .x * c .before .before .args .y) (product-large (c .before .before .args .x) (c .before .before .args .y) (c .before .if1 .left) (c .if2 .left))
 
 pub times-spec : {M : Type 1} → statement M
-times-spec = tie.close (tie.spec returns div-if2 mul-t6 returns-2 returns-3)
+times-spec = tie.close (tie.spec returns (λ c. search needs) mul-t6 returns-2 returns-3)

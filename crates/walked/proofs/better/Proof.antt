@@ -4,18 +4,9 @@ use Rattle.walked.specs.Walked.{better}
 use Rattle.walked.proofs.better.Statement.{statement}
 use Rattle.walked.proofs.better.Tie as tie
 
-enum-known-found : tie.Need-enum-known-found
-enum-known-found c = search needs
-
-enum-told : tie.Need-enum-told
-enum-told c = search needs
-
 returns : tie.Need-returns
 unfolding better
 returns c = rw (c .enum-told .given .1)
-
-beats-requires : tie.Need-beats-requires
-beats-requires c κs = search needs
 
 returns-2 : tie.Need-returns-2
 unfolding better
@@ -27,4 +18,4 @@ returns-3 c = rw (c .before .before .before .found .given .1, ← c .before .bea
 
 pub better-spec : {M : Type 1} → statement M
 better-spec =
-    tie.close (tie.spec enum-known-found enum-told returns beats-requires returns-2 returns-3)
+    tie.close (tie.spec (λ c. search needs) (λ c. search needs) returns (λ c κs. search needs) returns-2 returns-3)

@@ -5,12 +5,6 @@ use Rattle.walked.specs.Walked.{figure-of}
 use Rattle.walked.proofs.figure_of.Statement.{statement}
 use Rattle.walked.proofs.figure_of.Tie as tie
 
-wide-requires : tie.Need-wide-requires
-wide-requires c κs = search needs
-
-wide-requires-2 : tie.Need-wide-requires-2
-wide-requires-2 c κs = search needs
-
 returns : tie.Need-returns
 unfolding figure-of
 returns c = rw (c .match .keys1)
@@ -37,8 +31,8 @@ pub figure-of-spec : {M : Type 1} → statement M
 figure-of-spec =
     tie.close
     (tie.spec
-    wide-requires
-    wide-requires-2
+    (λ c κs. search needs)
+    (λ c κs. search needs)
     returns
     returns-2
     returns-3

@@ -11,9 +11,6 @@ returns c = row-low _ (c .if1 .taken)
 returns-2 : tie.Need-returns-2
 returns-2 c = row-high _ (c .if2 .taken)
 
-mul-result : tie.Need-mul-result
-mul-result c = search needs
-
 array-copy-out-result : tie.Need-array-copy-out-result
 array-copy-out-result c = omega arith
 
@@ -21,4 +18,4 @@ returns-3 : tie.Need-returns-3
 returns-3 c = row-at _ (c .before .before .if1 .left)
 
 pub key-row-spec : {M : Type 1} → statement M
-key-row-spec = tie.close (tie.spec returns returns-2 mul-result array-copy-out-result returns-3)
+key-row-spec = tie.close (tie.spec returns returns-2 (λ c. search needs) array-copy-out-result returns-3)

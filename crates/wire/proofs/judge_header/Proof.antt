@@ -14,36 +14,21 @@ returns-2 : tie.Need-returns-2
 unfolding header-code
 returns-2 c = rw (le-ltb _ _ (c .before .if1 .left), lt-ltb _ (c .before .before .args .least) (c .if2 .taken))
 
-shared-slice-read-if3 : tie.Need-shared-slice-read-if3
-shared-slice-read-if3 c = search needs
-
 returns-3 : tie.Need-returns-3
 unfolding header-code
 returns-3 c = rw (le-ltb _ _ (c .before .before .before .if1 .left), le-ltb _ _ (c .before .before .if2 .left), ne-eqb _ _ (c .if3 .taken))
-
-shared-slice-read-if4 : tie.Need-shared-slice-read-if4
-shared-slice-read-if4 c = search needs
 
 returns-4 : tie.Need-returns-4
 unfolding header-code
 returns-4 c = rw (le-ltb _ _ (c .before .before .before .before .before .if1 .left), le-ltb _ _ (c .before .before .before .before .if2 .left), eq-eqb _ _ (c .before .before .if3 .left), ne-eqb _ _ (c .if4 .taken))
 
-shared-slice-read-if5 : tie.Need-shared-slice-read-if5
-shared-slice-read-if5 c = search needs
-
 returns-5 : tie.Need-returns-5
 unfolding header-code
 returns-5 c = rw (le-ltb _ _ (c .before .before .before .before .before .before .before .if1 .left), le-ltb _ _ (c .before .before .before .before .before .before .if2 .left), eq-eqb _ _ (c .before .before .before .before .if3 .left), eq-eqb _ _ (c .before .before .if4 .left), ne-eqb _ _ (c .if5 .taken))
 
-shared-slice-read-if6 : tie.Need-shared-slice-read-if6
-shared-slice-read-if6 c = search needs
-
 returns-6 : tie.Need-returns-6
 unfolding header-code
 returns-6 c = rw (le-ltb _ _ (c .before .before .before .before .before .before .before .before .before .if1 .left), le-ltb _ _ (c .before .before .before .before .before .before .before .before .if2 .left), eq-eqb _ _ (c .before .before .before .before .before .before .if3 .left), eq-eqb _ _ (c .before .before .before .before .if4 .left), eq-eqb _ _ (c .before .before .if5 .left), ne-eqb _ 1 (c .if6 .taken))
-
-shared-slice-read-if7 : tie.Need-shared-slice-read-if7
-shared-slice-read-if7 c = search needs
 
 returns-7 : tie.Need-returns-7
 unfolding header-code
@@ -59,14 +44,14 @@ judge-header-spec =
     (tie.spec
     returns
     returns-2
-    shared-slice-read-if3
+    (λ c. search needs)
     returns-3
-    shared-slice-read-if4
+    (λ c. search needs)
     returns-4
-    shared-slice-read-if5
+    (λ c. search needs)
     returns-5
-    shared-slice-read-if6
+    (λ c. search needs)
     returns-6
-    shared-slice-read-if7
+    (λ c. search needs)
     returns-7
     returns-8)

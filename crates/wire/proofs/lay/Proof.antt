@@ -6,9 +6,6 @@ use Rattle.wire.proofs.Laid.{front-length, laid-short, laid-number, lai
 use Rattle.wire.proofs.lay.Statement.{statement}
 use Rattle.wire.proofs.lay.Tie as tie
 
-lesser-requires : tie.Need-lesser-requires
-lesser-requires c κs = search needs
-
 returns : tie.Need-returns
 returns c =
     let a = c .before .before .before .before .args in
@@ -25,12 +22,6 @@ copy-requires c κs =
     let a = c .before .before .before .before .before .before .args in
     omega (arith, front-length (a .src .now) (a .n) (c .before .before .before .lesser .result) (c .before .before .before .lesser .ensures .0))
 
-cast-result : tie.Need-cast-result
-cast-result c = search needs
-
-same-length : tie.Need-same-length
-same-length c = search needs
-
 returns-2 : tie.Need-returns-2
 returns-2 c =
     let a = c .before .before .before .before .before .before .before .before .before .args in
@@ -39,4 +30,4 @@ returns-2 c =
     (laid-number (a .src .now) (a .n) (l .result) (l .ensures .0) (a .out .now) h, c .before .before .copy .ensures .1 ∙ laid-buffer (a .src .now) (a .n) (l .result) (l .ensures .0) (a .out .now) h)
 
 pub lay-spec : {M : Type 1} → statement M
-lay-spec = tie.close (tie.spec lesser-requires returns slice-aggregate-copy copy-requires cast-result same-length returns-2)
+lay-spec = tie.close (tie.spec (λ c κs. search needs) returns slice-aggregate-copy copy-requires (λ c. search needs) (λ c. search needs) returns-2)

@@ -1,5 +1,6 @@
 -- Bytes, little-endian numbers, and the reply to a call (document 01, "Layouts" and "Numbers at the desk").
 use Prim.Native.Nat.{ℕ, _+_, _*_, _/_, _%_, _<_}
+use mathlib.Core.Path.{_≡_}
 use mathlib.Core.Bool.{cond}
 use mathlib.Core.List.{List, [], _∷_, _++_}
 use lib.Dec.{ltb, eqb}
@@ -40,6 +41,10 @@ reply-number (refused k) = 65536 + k
 abbrev pub reply-buffer : Reply → List ℕ → List ℕ
 reply-buffer (done bs) out = bs ++ drop (length bs) out
 reply-buffer (refused k) out = out
+
+-- what a call leaves, as one fact: it returned the number of its reply, and the buffer is the reply's over what was lent
+abbrev pub Returned : Reply → ℕ → List ℕ → List ℕ → Type 0
+Returned reply number before after = (number ≡ reply-number reply) × (after ≡ reply-buffer reply before)
 
 -- "15 | buffer short | the bytes to be written exceed the lent length"
 abbrev pub fitted : List ℕ → ℕ → Reply

@@ -29,7 +29,7 @@ rows-length (v ∷ vs) = length-append (row-bytes v) (rows-bytes vs) ∙ omega (
 
 -- and ten before them
 pub encode-length : (n kind : ℕ) (o : Outcome) → length (encode n kind o) ≡ 10 + 9 * length (o .rows)
-encode-length n kind o = length-append (head-bytes n (o .count) kind) (rows-bytes (o .rows)) ∙ omega (arith, rows-length (o .rows))
+encode-length n kind o = length-append (head-bytes n (o .rounds) kind) (rows-bytes (o .rows)) ∙ omega (arith, rows-length (o .rows))
 
 -- a bound on n is one on the rows
 pub count-most : (n kind m : ℕ) → n ≤ m → 1 ≤ m → row-count n kind ≤ m
@@ -43,7 +43,7 @@ count-most n kind m h k = go (eqb kind 0)
 pub answer-length : (n rounds kind : ℕ) (vs : List Value) → row-count n kind ≤ length vs → length (answer-bytes n rounds kind vs) ≡ answer-size n kind
 unfolding answer-bytes
 answer-length n rounds kind vs h =
-    encode-length n kind (record { count = rounds; rows = answer-rows n kind vs }) ∙ omega (arith, length-take-le (row-count n kind) vs h)
+    encode-length n kind (record { rounds = rounds; rows = answer-rows n kind vs }) ∙ omega (arith, length-take-le (row-count n kind) vs h)
 
 -- ---- stored in turn
 

@@ -38,9 +38,9 @@ rows-back (Absent ∷ vs) h = ap (λ (l : List Value). Absent ∷ l) (rows-back 
 rows-back (Number x ∷ vs) h = rw (number-back x (rows-bytes vs) (h .0), rows-back vs (h .1))
 
 -- DECODING THE BYTES OF AN OUTCOME GIVES n, THE KIND AND THE OUTCOME
-pub decode-back : (n kind : ℕ) (o : Outcome) → n ≤ 256 → o .count < 65536 → length (o .rows) ≡ row-count n kind → AllHeld (o .rows) →
+pub decode-back : (n kind : ℕ) (o : Outcome) → n ≤ 256 → o .rounds < 65536 → length (o .rows) ≡ row-count n kind → AllHeld (o .rows) →
     decode (encode n kind o) ≡ record { vertices = n; kind = kind; outcome = o }
 unfolding decode
 decode-back n kind o hn hc all held =
     let fits : n < 65536 = omega arith in
-    rw (all16 n fits, all16 (o .count) hc, ← all, rows-back (o .rows) held)
+    rw (all16 n fits, all16 (o .rounds) hc, ← all, rows-back (o .rows) held)

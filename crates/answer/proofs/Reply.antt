@@ -105,10 +105,10 @@ encode-judged n kind room o z all = judged-fits n kind room (encode n kind o) z 
 
 -- WHAT IS WRITTEN OF VALUES THAT BEGIN WITH THE ROWS OF AN OUTCOME IS ITS ENCODING
 module _ (n kind : ℕ) (o : Outcome) (vs : List Value) (all : length (o .rows) ≡ row-count n kind) (begin : take (length (o .rows)) vs ≡ o .rows) where
-  pub write-encodes : answer-bytes n (o .count) kind vs ≡ encode n kind o
+  pub write-encodes : answer-bytes n (o .rounds) kind vs ≡ encode n kind o
   unfolding answer-bytes
   write-encodes = rw (← all, begin)
 
   -- and so is the reply, where it fits
-  pub reply-encodes : fields-code n kind ≡ 0 → (room : ℕ) → answer-reply n (o .count) kind vs room ≡ fitted (encode n kind o) room
-  reply-encodes z room = reply-fits n (o .count) kind vs room z ∙ ap (λ (bs : List ℕ). fitted bs room) write-encodes
+  pub reply-encodes : fields-code n kind ≡ 0 → (room : ℕ) → answer-reply n (o .rounds) kind vs room ≡ fitted (encode n kind o) room
+  reply-encodes z room = reply-fits n (o .rounds) kind vs room z ∙ ap (λ (bs : List ℕ). fitted bs room) write-encodes

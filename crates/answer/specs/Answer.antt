@@ -26,7 +26,7 @@ head-bytes n rounds kind = header-bytes 0x41 ++ le16 n ++ le16 rounds ++ (kind �
 
 -- THE BYTES OF AN ANSWER on n vertices
 abbrev pub encode : ℕ → ℕ → Outcome → List ℕ
-encode n kind o = head-bytes n (o .count) kind ++ rows-bytes (o .rows)
+encode n kind o = head-bytes n (o .rounds) kind ++ rows-bytes (o .rows)
 
 -- "then n rows for kind 0 or one row for kind 1"
 abbrev pub row-count : ℕ → ℕ → ℕ
@@ -38,7 +38,7 @@ answer-rows n kind vs = take (row-count n kind) vs
 
 -- the bytes of what the writer is handed
 unfoldable pub answer-bytes : ℕ → ℕ → ℕ → List Value → List ℕ
-answer-bytes n rounds kind vs = encode n kind (record { count = rounds; rows = answer-rows n kind vs })
+answer-bytes n rounds kind vs = encode n kind (record { rounds = rounds; rows = answer-rows n kind vs })
 
 -- "4 | places | n is 0 or above 256", "9 | code | an illegal kind": "the answer writer judges n (4), kind (9), then 15"
 unfoldable pub fields-code : ℕ → ℕ → ℕ

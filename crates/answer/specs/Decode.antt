@@ -34,5 +34,5 @@ unfoldable pub decode : List ℕ → Answer
 decode s = record {
   vertices = at16 s 5;
   kind = getD s 9 0;
-  outcome = record { count = at16 s 7; rows = rows-in (row-count (at16 s 5) (getD s 9 0)) (drop 10 s) };
+  outcome = record { rounds = at16 s 7; rows = rows-in (row-count (at16 s 5) (getD s 9 0)) (drop 10 s) };
 }

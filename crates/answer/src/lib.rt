@@ -6,7 +6,7 @@ ghost use Prim.Native.Nat.{_+_, _*_, _/_, _%_, _<_, _≤_};
 ghost use lib.ListN.{length, take, set};
 ghost use lib.Seq.{sets};
 ghost use Rattle.value.specs.Value.{values};
-ghost use Rattle.wire.specs.Wire.{le64, reply-number, reply-buffer};
+ghost use Rattle.wire.specs.Wire.{le64, Returned};
 ghost use Rattle.answer.specs.Answer.{row-bytes, rows-bytes, head-bytes, row-count, fields-code, answer-size, answer-code, answer-reply};
 
 // "n rows for kind 0 or one row for kind 1"
@@ -121,7 +121,7 @@ fn put_rows(out: &mut [u8], count: usize, rows: [Row; 256])
 
 // The writer of answers: it judges n (4), the kind (9), then 15. Kind 0 writes the first n rows, kind 1 the first.
 pub fn write(n: u16, rounds: u16, kind: u8, rows: [Row; 256], out: &mut [u8]) -> u32
-    ensures { λ r. ⌜ (r ≡ reply-number (answer-reply n rounds kind (values rows) (length (now (out .entry))))) × (now (out .exit) ≡ reply-buffer (answer-reply n rounds kind (values rows) (length (now (out .entry)))) (now (out .entry))) ⌝ }
+    ensures { λ r. ⌜ Returned (answer-reply n rounds kind (values rows) (length (now (out .entry)))) r (now (out .entry)) (now (out .exit)) ⌝ }
 {
     let k = judge(n, kind, out.len());
     if k != 0 {

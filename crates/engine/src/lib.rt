@@ -5,7 +5,7 @@ ghost use mathlib.Core.List.{map};
 ghost use Prim.Native.Nat.{_≤_};
 ghost use lib.ListN.{length, take};
 ghost use Rattle.graph.specs.Graph.{graph-code};
-ghost use Rattle.wire.specs.Wire.{at16, reply-number, reply-buffer};
+ghost use Rattle.wire.specs.Wire.{at16, Returned};
 ghost use Rattle.engine.specs.Run.{path-of, outside-code, sources-code, run-reply};
 ghost use Rattle.engine.specs.Steps.{run-code, limit-of, count-of, finished};
 
@@ -101,7 +101,7 @@ fn finish(
     out: &mut [u8],
 ) -> u32
     requires { ⌜ graph-code (now graph) ≡ 0 ⌝ }
-    ensures { λ r. ⌜ (r ≡ reply-number (finished push given limit (now (plan .entry)) w (now (graph .entry)) (length (now (out .entry))))) × (now (out .exit) ≡ reply-buffer (finished push given limit (now (plan .entry)) w (now (graph .entry)) (length (now (out .entry)))) (now (out .entry))) ⌝ }
+    ensures { λ r. ⌜ Returned (finished push given limit (now (plan .entry)) w (now (graph .entry)) (length (now (out .entry)))) r (now (out .entry)) (now (out .exit)) ⌝ }
 {
     let n = vertices(graph);
     let kind = wire::byte(plan, 5);
@@ -125,7 +125,7 @@ fn finish(
 }
 
 fn run(push: bool, plan: &[u8], graph: &[u8], limit: Limit, out: &mut [u8]) -> u32
-    ensures { λ r. ⌜ (r ≡ reply-number (run-reply limit (now (plan .entry)) (now (graph .entry)) (length (now (out .entry))))) × (now (out .exit) ≡ reply-buffer (run-reply limit (now (plan .entry)) (now (graph .entry)) (length (now (out .entry)))) (now (out .entry))) ⌝ }
+    ensures { λ r. ⌜ Returned (run-reply limit (now (plan .entry)) (now (graph .entry)) (length (now (out .entry)))) r (now (out .entry)) (now (out .exit)) ⌝ }
 {
     let w = plan::scan(plan);
     let code = judge(w, graph);
@@ -140,14 +140,14 @@ fn run(push: bool, plan: &[u8], graph: &[u8], limit: Limit, out: &mut [u8]) -> u
 
 // The run by pull.
 pub fn pull(plan: &[u8], graph: &[u8], limit: Limit, out: &mut [u8]) -> u32
-    ensures { λ r. ⌜ (r ≡ reply-number (run-reply limit (now (plan .entry)) (now (graph .entry)) (length (now (out .entry))))) × (now (out .exit) ≡ reply-buffer (run-reply limit (now (plan .entry)) (now (graph .entry)) (length (now (out .entry)))) (now (out .entry))) ⌝ }
+    ensures { λ r. ⌜ Returned (run-reply limit (now (plan .entry)) (now (graph .entry)) (length (now (out .entry)))) r (now (out .entry)) (now (out .exit)) ⌝ }
 {
     run(false, plan, graph, limit, out)
 }
 
 // The run by push: the same.
 pub fn push(plan: &[u8], graph: &[u8], limit: Limit, out: &mut [u8]) -> u32
-    ensures { λ r. ⌜ (r ≡ reply-number (run-reply limit (now (plan .entry)) (now (graph .entry)) (length (now (out .entry))))) × (now (out .exit) ≡ reply-buffer (run-reply limit (now (plan .entry)) (now (graph .entry)) (length (now (out .entry)))) (now (out .entry))) ⌝ }
+    ensures { λ r. ⌜ Returned (run-reply limit (now (plan .entry)) (now (graph .entry)) (length (now (out .entry)))) r (now (out .entry)) (now (out .exit)) ⌝ }
 {
     run(true, plan, graph, limit, out)
 }

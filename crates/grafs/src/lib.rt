@@ -5,12 +5,12 @@ ghost use lib.ListN.{length};
 ghost use Rattle.engine.specs.declared.Limit.the-variants.{Quiet};
 ghost use Rattle.engine.specs.Run.{run-reply};
 ghost use Rattle.fusion.specs.Fusion.{fuse-reply};
-ghost use Rattle.wire.specs.Wire.{reply-number, reply-buffer};
+ghost use Rattle.wire.specs.Wire.{Returned};
 
 // A question is fused into a worksheet.
 #[no_mangle]
 pub extern "C" fn fuse(query: &[u8], out: &mut [u8]) -> u32
-    ensures { λ r. ⌜ (r ≡ reply-number (fuse-reply (now (query .entry)) (length (now (out .entry))))) × (now (out .exit) ≡ reply-buffer (fuse-reply (now (query .entry)) (length (now (out .entry)))) (now (out .entry))) ⌝ }
+    ensures { λ r. ⌜ Returned (fuse-reply (now (query .entry)) (length (now (out .entry)))) r (now (out .entry)) (now (out .exit)) ⌝ }
 {
     fusion::fuse(query, out)
 }
@@ -18,7 +18,7 @@ pub extern "C" fn fuse(query: &[u8], out: &mut [u8]) -> u32
 // A worksheet is run on a map, by push: the faster way, and the same bytes as by pull.
 #[no_mangle]
 pub extern "C" fn run(plan: &[u8], graph: &[u8], out: &mut [u8]) -> u32
-    ensures { λ r. ⌜ (r ≡ reply-number (run-reply Quiet (now (plan .entry)) (now (graph .entry)) (length (now (out .entry))))) × (now (out .exit) ≡ reply-buffer (run-reply Quiet (now (plan .entry)) (now (graph .entry)) (length (now (out .entry)))) (now (out .entry))) ⌝ }
+    ensures { λ r. ⌜ Returned (run-reply Quiet (now (plan .entry)) (now (graph .entry)) (length (now (out .entry)))) r (now (out .entry)) (now (out .exit)) ⌝ }
 {
     engine::push(plan, graph, Limit::Quiet, out)
 }

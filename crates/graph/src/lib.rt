@@ -4,7 +4,7 @@ ghost use mathlib.Core.List.{map};
 ghost use Prim.Native.Nat.{_+_, _*_, _/_, _%_, _<_, _≤_};
 ghost use lib.ListN.{length, take, set};
 ghost use lib.Seq.{sets};
-ghost use Rattle.wire.specs.Wire.{at16, reply-number, reply-buffer};
+ghost use Rattle.wire.specs.Wire.{at16, Returned};
 ghost use Rattle.graph.specs.Graph.{edge-in, edges-in, edge-code, edges-code, counts-code, graph-code, graph-of, row-of, table-of, blank-table, graph-reading};
 ghost use Rattle.graph.specs.Encode.{row-edge, edge-bytes, edges-bytes, head-bytes, write-reply};
 ghost use Rattle.graph.specs.Steps.{table-code};
@@ -278,7 +278,7 @@ fn refusal(k: u8) -> u32
 
 // The writer of graphs: it judges what it is handed as the reader of its bytes would, then 15.
 pub fn write(graph: EdgeTable, out: &mut [u8]) -> u32
-    ensures { λ r. ⌜ (r ≡ reply-number (write-reply graph (length (now (out .entry))))) × (now (out .exit) ≡ reply-buffer (write-reply graph (length (now (out .entry)))) (now (out .entry))) ⌝ }
+    ensures { λ r. ⌜ Returned (write-reply graph (length (now (out .entry)))) r (now (out .entry)) (now (out .exit)) ⌝ }
 {
     let k = judge_table(graph);
     if k != 0 {

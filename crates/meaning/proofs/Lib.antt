@@ -6,4 +6,3 @@ pub mod Rounds
 pub mod Main
 pub mod Limits
 pub mod Bounds
-pub mod Once

@@ -135,7 +135,7 @@ module _ (W W′ : Way) (n : ℕ) (p : Plan) (agree : All (λ c. W c ≡ W′ c)
   stopped-same r = ap (λ (F : ℕ → List Value). outcome F) (fun-ext (λ v. map-same _ _ (p .paths) (all-weaken (p .paths) (λ c e. ap (λ (f : ℕ → State). value (f r v)) e) agree)))
     where
       outcome : (ℕ → List Value) → Outcome
-      outcome F = record { count = r; rows = body-rows (p .body) F n }
+      outcome F = record { rounds = r; rows = body-rows (p .body) F n }
 
   run-same : run W n p ≡ run W′ n p
   unfolding run

@@ -52,7 +52,7 @@ UnfusedWithin g r = Rows (PathWithin g r) (g .vertices)
 
 -- an answer: the rounds reported, and the rows
 pub record Outcome : Type 0 where
-  pub count : ℕ
+  pub rounds : ℕ
   pub rows : List Value
 
 -- "each figure of [a] chain at each place is the same over walks of at most r [+ 1] passages as over walks of at most r"
@@ -71,5 +71,5 @@ pub record Smallest (g : Graph) (cs : List PathReduction) (r : ℕ) : Type 0 whe
 -- WHAT THE OUTCOME OF A QUERY MUST BE: its rows, and its rounds
 pub record Correct (g : Graph) (q : Query) (o : Outcome) : Type 0 where
   pub rows-mean : Unfused g q (o .rows)
-  pub smallest : Smallest g (written-paths q) (o .count)
-  pub at-most : o .count ≤ 2 * g .vertices
+  pub smallest : Smallest g (written-paths q) (o .rounds)
+  pub at-most : o .rounds ≤ 2 * g .vertices

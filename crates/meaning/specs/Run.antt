@@ -1,5 +1,6 @@
 -- The runs of a plan, by pull and by push: the figures of each path reduction round by round, the rounds, and the rows.
-use Prim.Native.Nat.{ℕ, zero, suc}
+use Prim.Native.Nat.{ℕ, zero, suc, _<_}
+use mathlib.Core.Path.{_≡_}
 use mathlib.Core.List.{List, [], _∷_, map}
 use lib.ListN.{getD}
 use Rattle.value.specs.declared.Value.{Value}
@@ -37,6 +38,17 @@ abbrev pub body-rows : Body → (ℕ → List Value) → ℕ → List Value
 body-rows (each-vertex t) F n = at-vertices F n t
 body-rows (one-result es t) F n = evaluate (map (reduced F n) es) t ∷ []
 
+-- WHAT THE ROWS OF A PLAN MUST BE, fused or not: its expressions over values that its path reductions may be worth; L says which those are, of one path
+-- reduction, and at a vertex
+abbrev pub Worth : (PathReduction → Value → Type 0) → List PathReduction → List Value → Type 0
+Worth L [] [] = Unit {0}
+Worth L [] (x ∷ xs) = ⊥
+Worth L (c ∷ cs) [] = ⊥
+Worth L (c ∷ cs) (x ∷ xs) = L c x × Worth L cs xs
+
+abbrev pub PlanRows : (PathReduction → ℕ → Value → Type 0) → ℕ → Plan → List Value → Type 0
+PlanRows L n p xs = (F : ℕ → List Value) × ((v : ℕ) → v < n → Worth (λ c. L c v) (p .paths) (F v)) × (xs ≡ body-rows (p .body) F n)
+
 -- a way to run: the figures of each path reduction after each round at each vertex. By pull, and by push:
 abbrev pub Way : Type 0
 Way = PathReduction → ℕ → State
@@ -58,7 +70,7 @@ values-at W cs r v = map (λ c. value (W c r v)) cs
 -- "Each run can also be stopped after a given 16-bit number of rounds, 0 allowed; it then does that many, quiet or not, reports that number and answers from the
 -- values reached."
 unfoldable pub stopped : Way → ℕ → Plan → ℕ → Outcome
-stopped W n p r = record { count = r; rows = body-rows (p .body) (values-at W (p .paths) r) n }
+stopped W n p r = record { rounds = r; rows = body-rows (p .body) (values-at W (p .paths) r) n }
 
 -- with no number given: to the first round that changes nothing
 unfoldable pub run : Way → ℕ → Plan → Outcome

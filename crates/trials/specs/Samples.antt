@@ -71,7 +71,7 @@ abbrev pub outcome-by : (Graph → Way) → Run → Outcome
 outcome-by way s = limited (way (s .graph)) (s .graph) (s .query) (s .limit)
 
 abbrev sample : Graph → Query → Option ℕ → ℕ → List Value → Run
-sample g q limit rounds xs = record { graph = g; query = q; limit = limit; outcome = record { count = rounds; rows = xs } }
+sample g q limit rounds xs = record { graph = g; query = q; limit = limit; outcome = record { rounds = rounds; rows = xs } }
 
 abbrev path : List ℕ → ℕ → PathReduction
 path ks s = record { keys = ks; source = s }

@@ -4,7 +4,7 @@ ghost use mathlib.Core.Path.{_≡_};
 ghost use Prim.Native.Nat.{_≤_, min};
 ghost use lib.ListN.{length, getD, take};
 ghost use Rattle.wire.specs.Header.{header-code};
-ghost use Rattle.wire.specs.Wire.{at16, at32, fitted, reply-number, reply-buffer};
+ghost use Rattle.wire.specs.Wire.{at16, at32, fitted, Returned};
 
 // The refusal of a file's first five bytes, or 0: short (under five bytes, or under `least`), other letters, another version.
 pub fn judge_header(s: &[u8], letter: u8, least: usize) -> u8
@@ -77,7 +77,7 @@ pub fn lesser(a: usize, b: usize) -> usize
 
 // The first n bytes of src (all, where it has fewer) at the front of out, or 15 where they exceed it.
 pub fn lay(src: &[u8], n: u16, out: &mut [u8]) -> u32
-    ensures { λ r. ⌜ (r ≡ reply-number (fitted (take n (now (src .entry))) (length (now (out .entry))))) × (now (out .exit) ≡ reply-buffer (fitted (take n (now (src .entry))) (length (now (out .entry)))) (now (out .entry))) ⌝ }
+    ensures { λ r. ⌜ Returned (fitted (take n (now (src .entry))) (length (now (out .entry)))) r (now (out .entry)) (now (out .exit)) ⌝ }
 {
     let count = lesser(n as usize, src.len());
     if out.len() < count {

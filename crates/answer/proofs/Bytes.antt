@@ -55,7 +55,8 @@ rows-append (u ∷ us) vs = rw (rows-append us vs) (sym (append-assoc (row-bytes
 
 -- ROW i STORED BEHIND THOSE BEFORE IT
 pub row-more : (out : List ℕ) (rows : List Row) (i : ℕ) (d : Row) → i < length rows →
-    sets (sets out 10 (rows-bytes (take i (values rows)))) (10 + 9 * i) (row-bytes (getD rows i d .value)) ≡ sets out 10 (rows-bytes (take (i + 1) (values rows)))
+    sets (sets out 10 (rows-bytes (take i (values rows)))) (10 + 9 * i) (row-bytes (getD rows i d .value))
+    ≡ sets out 10 (rows-bytes (take (i + 1) (values rows)))
 unfolding rows-bytes
 row-more out rows i d h =
     rw (← List·getD-map (λ (r : Row). r .value) rows i d, ← append-nil (row-bytes (getD (values rows) i (d .value))))

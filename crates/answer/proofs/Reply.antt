@@ -13,7 +13,18 @@ use Rattle.value.specs.declared.Value.{Value}
 use Rattle.wire.specs.Wire.{done, fitted, refused, unless}
 use Rattle.wire.proofs.Codes.{past}
 use Rattle.wire.proofs.Stores.{sets-front}
-use Rattle.answer.specs.Answer.{answer-bytes, answer-code, answer-reply, answer-rows, answer-size, encode, fields-code, head-bytes, row-count, rows-bytes}
+use Rattle.answer.specs.Answer.{
+  answer-bytes,
+  answer-code,
+  answer-reply,
+  answer-rows,
+  answer-size,
+  encode,
+  fields-code,
+  head-bytes,
+  row-count,
+  rows-bytes,
+}
 use Rattle.answer.proofs.Bytes.{answer-length, count-most, encode-length}
 
 -- ---- what was judged
@@ -61,13 +72,15 @@ judged-fits n kind room bs z e = rw (eq-eqb _ _ z, e) (go (ltb room (answer-size
 -- ---- the reply
 
 -- no refusal of the fields: the bytes where they fit
-reply-fits : (n rounds kind : ℕ) (vs : List Value) (room : ℕ) → fields-code n kind ≡ 0 → answer-reply n rounds kind vs room ≡ fitted (answer-bytes n rounds kind vs) room
+reply-fits : (n rounds kind : ℕ) (vs : List Value) (room : ℕ) → fields-code n kind ≡ 0 → answer-reply n rounds kind vs room
+    ≡ fitted (answer-bytes n rounds kind vs) room
 unfolding answer-reply
 reply-fits n rounds kind vs room z = rw (eq-eqb _ _ z)
 
 -- the pieces laid are the bytes, and the rest as it was
 pub answer-laid : (n rounds kind : ℕ) (vs : List Value) (out : List ℕ) → length (answer-bytes n rounds kind vs) ≤ length out →
-    sets (sets out 0 (head-bytes n rounds kind)) 10 (rows-bytes (answer-rows n kind vs)) ≡ answer-bytes n rounds kind vs ++ drop (length (answer-bytes n rounds kind vs)) out
+    sets (sets out 0 (head-bytes n rounds kind)) 10 (rows-bytes (answer-rows n kind vs)) ≡ answer-bytes n rounds kind vs
+    ++ drop (length (answer-bytes n rounds kind vs)) out
 unfolding answer-bytes
 answer-laid n rounds kind vs out h = sets-front out (head-bytes n rounds kind) (rows-bytes (answer-rows n kind vs)) 10 refl h
 

@@ -104,7 +104,8 @@ edges-append (e ∷ es) fs = rw (edges-append es fs) (sym (append-assoc (edge-by
 
 -- row i stored behind those before it
 pub row-more : (out : List ℕ) (rows : List EdgeRow) (i : ℕ) → i < length rows →
-    sets (sets out 9 (edges-bytes (map row-edge (take i rows)))) (9 + 8 * i) (edge-bytes (row-edge (getD rows i blank-row))) ≡ sets out 9 (edges-bytes (map row-edge (take (i + 1) rows)))
+    sets (sets out 9 (edges-bytes (map row-edge (take i rows)))) (9 + 8 * i) (edge-bytes (row-edge (getD rows i blank-row)))
+    ≡ sets out 9 (edges-bytes (map row-edge (take (i + 1) rows)))
 unfolding edges-bytes
 row-more out rows i h =
     sets-more 8 (λ (l : List EdgeRow). edges-bytes (map row-edge l)) (λ l. edges-length (map row-edge l) ∙ rw (length-map l row-edge))
@@ -126,7 +127,8 @@ edge-back q ys e i h f =
     rw (w0, w2, w4, w6)
 
 -- edges read from the front, behind i others
-edges-back : (es : List Edge) (q : List ℕ) (i : ℕ) → length q ≡ 9 + 8 * i → EdgesFit es → tabulate (length es) i (edge-in (q ++ edges-bytes es)) ≡ es
+edges-back : (es : List Edge) (q : List ℕ) (i : ℕ) → length q ≡ 9 + 8 * i → EdgesFit es → tabulate (length es) i (edge-in (q ++ edges-bytes es))
+    ≡ es
 unfolding edges-bytes
 edges-back [] q i h f = refl
 edges-back (e ∷ es) q i h f =

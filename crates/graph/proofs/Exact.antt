@@ -151,7 +151,8 @@ read-sound s b z =
     (legal, rw (edges-count s) (bytes-of s b a), table-read s z)
 
 -- WRITING WHAT WAS READ YIELDS THE BYTES READ
-pub write-read : (s : List ℕ) → Bytes s → graph-code s ≡ 0 → (room : ℕ) → length s ≤ room → write-reply (graph-reading s .graph) room ≡ done s
+pub write-read : (s : List ℕ) → Bytes s → graph-code s ≡ 0 → (room : ℕ) → length s ≤ room → write-reply (graph-reading s .graph) room
+    ≡ done s
 unfolding write-reply
 write-read s b z room h =
     let back : table-bytes (graph-reading s .graph) ≡ s = ap table-bytes (graph-read s z) ∙ table-encoded (graph-of s) ∙ read-sound s b z .1 in

@@ -29,7 +29,8 @@ module _ (t : EdgeTable) (f : TableFits t) where
   unfolding table-bytes table-code
   judged =
       judged-bytes (t .vertices) (t .count) (table-graph t .edges) (f .vertices) (f .count) edges-few
-      (λ i h. rw (table-there (t .count) (t .rows) i (omega (arith, table-count (t .count) (t .rows)))) (f .rows i (omega (arith, table-count (t .count) (t .rows)))))
+      (λ i h. rw (table-there (t .count) (t .rows) i (omega (arith, table-count (t .count) (t .rows))))
+      (f .rows i (omega (arith, table-count (t .count) (t .rows)))))
 
   -- a typed form that is not refused counts at most 1,024 edges
   pub table-few : table-code t ≡ 0 → t .count ≤ 1024
@@ -68,4 +69,5 @@ module _ (t : EdgeTable) (f : TableFits t) where
   pub table-laid : (out : List ℕ) → table-code t ≡ 0 → 9 + 8 * t .count ≤ length out →
       sets (sets out 0 (head-bytes (t .vertices) (t .count))) 9 (edges-bytes (table-graph t .edges)) ≡ table-bytes t ++ drop (length (table-bytes t)) out
   unfolding table-bytes
-  table-laid out z h = sets-front out (head-bytes (t .vertices) (t .count)) (edges-bytes (table-graph t .edges)) 9 refl (omega (arith, table-size (table-few z)))
+  table-laid out z h = sets-front out (head-bytes (t .vertices) (t .count)) (edges-bytes (table-graph t .edges)) 9 refl
+      (omega (arith, table-size (table-few z)))

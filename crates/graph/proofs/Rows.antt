@@ -54,7 +54,8 @@ edge-there s i h = tabulate-at (at16 s 7) i (edge-in s) (edge 0 0 0 0) h
 tabulate-more : (n i : ℕ) (f : ℕ → Edge) → tabulate (suc n) i f ≡ tabulate n i f ++ (f (i + n) ∷ [])
 tabulate-more zero i f = ap (λ (j : ℕ). f j ∷ []) (sym (add-zero i))
 tabulate-more (suc n) i f =
-    ap (λ (l : List Edge). f i ∷ l) (tabulate-more n (suc i) f ∙ ap (λ (j : ℕ). tabulate n (suc i) f ++ (f j ∷ [])) (suc-add i n ∙ sym (add-suc i n)))
+    ap (λ (l : List Edge). f i ∷ l) (tabulate-more n (suc i) f
+    ∙ ap (λ (j : ℕ). tabulate n (suc i) f ++ (f j ∷ [])) (suc-add i n ∙ sym (add-suc i n)))
 
 -- a row stored behind those of some edges
 stored : (es : List Edge) (e : Edge) → length es < 1024 → set (filled es) (length es) (row-of e) ≡ filled (es ++ (e ∷ []))

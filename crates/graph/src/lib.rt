@@ -5,7 +5,19 @@ ghost use Prim.Native.Nat.{_+_, _*_, _/_, _%_, _<_, _≤_};
 ghost use lib.ListN.{length, take, set};
 ghost use lib.Seq.{sets};
 ghost use Rattle.wire.specs.Wire.{at16, Returned};
-ghost use Rattle.graph.specs.Graph.{edge-in, edges-in, edge-code, edges-code, counts-code, graph-code, graph-of, row-of, table-of, blank-table, graph-reading};
+ghost use Rattle.graph.specs.Graph.{
+  edge-in,
+  edges-in,
+  edge-code,
+  edges-code,
+  counts-code,
+  graph-code,
+  graph-of,
+  row-of,
+  table-of,
+  blank-table,
+  graph-reading,
+};
 ghost use Rattle.graph.specs.Encode.{row-edge, edge-bytes, edges-bytes, head-bytes, write-reply};
 ghost use Rattle.graph.specs.Steps.{table-code};
 

@@ -53,7 +53,8 @@ module _ (F : ℕ → List Value) (held : (v : ℕ) → AllHeld (F v)) (c : ℕ)
 module _ (g : Graph) (legal : GraphLegal g) where
   path-held : (c : PathReduction) → PathFits (g .vertices) c → (r v : ℕ) → r < 65536 → Held (value (pull g c r v))
   path-held c p r v h =
-      value-held (network-of g c) (network-fits g (legal .fits) c p) (omega (arith, legal .few-vertices)) (legal .weights) (c .keys) (path-in-order (g .vertices) c p) r v h
+      value-held (network-of g c) (network-fits g (legal .fits) c p) (omega (arith, legal .few-vertices)) (legal .weights) (c .keys)
+      (path-in-order (g .vertices) c p) r v h
 
   values-held : (cs : List PathReduction) → All (PathFits (g .vertices)) cs → (r : ℕ) → r < 65536 → (v : ℕ) → AllHeld (values-at (pull g) cs r v)
   values-held [] f r h v = tt
@@ -62,4 +63,5 @@ module _ (g : Graph) (legal : GraphLegal g) where
   -- EVERY ROW OF A STOPPED RUN FITS 64 BITS
   pub rows-held : (p : Plan) → PlanLegal (g .vertices) p → (r : ℕ) → r < 65536 → AllHeld (stopped (pull g) (g .vertices) p r .rows)
   unfolding stopped
-  rows-held p l r h = body-held (values-at (pull g) (p .paths) r) (values-held (p .paths) (l .paths-legal) r h) (length (p .paths)) (p .body) (g .vertices) (l .body-legal)
+  rows-held p l r h = body-held (values-at (pull g) (p .paths) r) (values-held (p .paths) (l .paths-legal) r h) (length (p .paths)) (p .body) (g .vertices)
+      (l .body-legal)

@@ -14,7 +14,21 @@ use Rattle.value.specs.Value.{operate}
 use Rattle.walks.specs.Lists.{All}
 use Rattle.meaning.specs.Meaning.{AtVertices, Means, Reduces, Rows}
 use Rattle.meaning.specs.Plan.{among, entry, enumerate, fuse, position, put-all, rename}
-use Rattle.meaning.specs.Query.{PathReduction, Query, Term, VertexReduction, VertexTerm, apply, bodies, each, leaf, leaves, literal, single, written-paths}
+use Rattle.meaning.specs.Query.{
+  PathReduction,
+  Query,
+  Term,
+  VertexReduction,
+  VertexTerm,
+  apply,
+  bodies,
+  each,
+  leaf,
+  leaves,
+  literal,
+  single,
+  written-paths,
+}
 use Rattle.meaning.specs.Run.{at-vertices, body-rows, evaluate, reduced, value-of}
 use Rattle.meaning.proofs.Lists.{all-left, all-right, all-weaken, map-append, tabulate-at, tabulate-length}
 use Rattle.meaning.proofs.Paths.{position-at, put-all-has}

@@ -6,9 +6,39 @@ use native.Mathlib.Omega.{arith}
 use lib.Dec.{T}
 use lib.ListN.{length, length-append, length-map}
 use Rattle.walks.specs.Lists.{All}
-use Rattle.meaning.specs.Limits.{BodyLegal, EntryLegal, Every, EveryBody, EveryPath, Expression, PathFits, PlanLegal, QueryLegal, depth, entry-terms, plan-terms, query-terms, terms, unit}
+use Rattle.meaning.specs.Limits.{
+  BodyLegal,
+  EntryLegal,
+  Every,
+  EveryBody,
+  EveryPath,
+  Expression,
+  PathFits,
+  PlanLegal,
+  QueryLegal,
+  depth,
+  entry-terms,
+  plan-terms,
+  query-terms,
+  terms,
+  unit,
+}
 use Rattle.meaning.specs.Plan.{among, entry, enumerate, fuse, position, put-all, rename}
-use Rattle.meaning.specs.Query.{PathReduction, Query, Term, VertexReduction, VertexTerm, apply, bodies, each, leaf, leaves, literal, single, written-paths}
+use Rattle.meaning.specs.Query.{
+  PathReduction,
+  Query,
+  Term,
+  VertexReduction,
+  VertexTerm,
+  apply,
+  bodies,
+  each,
+  leaf,
+  leaves,
+  literal,
+  single,
+  written-paths,
+}
 use Rattle.meaning.proofs.Lists.{all-append, all-left, all-right, all-weaken, map-append}
 use Rattle.meaning.proofs.Paths.{position-below, put-all-has, put-all-holds}
 

@@ -75,4 +75,5 @@ module _ {A : Type 0} {P Q R : A → Type 0} where
 -- the path reductions of reductions, one list after another
 pub bodies-append : (es ds : List (VertexReduction PathReduction)) → bodies (es ++ ds) ≡ bodies es ++ bodies ds
 bodies-append [] ds = refl
-bodies-append (e ∷ es) ds = ap (λ (l : List PathReduction). leaves (e .body) ++ l) (bodies-append es ds) ∙ sym (append-assoc (leaves (e .body)) (bodies es) (bodies ds))
+bodies-append (e ∷ es) ds = ap (λ (l : List PathReduction). leaves (e .body) ++ l) (bodies-append es ds)
+    ∙ sym (append-assoc (leaves (e .body)) (bodies es) (bodies ds))

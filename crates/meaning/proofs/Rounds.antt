@@ -106,7 +106,8 @@ module _ (g : Graph) (fits : GraphFits g) where
         h (each-quiet (first-quiet .at) (first-quiet .passes))
 
     -- what a loop needs that stops at the first quiet round: the count is that of the round where it stops, and before it there is room below 2n
-    pub rounds-stop : (r : ℕ) → T (quiet (g .vertices) (map (pull g) cs) r) → ((j : ℕ) → j < r → T (quiet (g .vertices) (map (pull g) cs) j) → ⊥) → R ≡ suc r
+    pub rounds-stop : (r : ℕ) → T (quiet (g .vertices) (map (pull g) cs) r)
+        → ((j : ℕ) → j < r → T (quiet (g .vertices) (map (pull g) cs) j) → ⊥) → R ≡ suc r
     rounds-stop r t f =
         first-unique (quiet (g .vertices) (map (pull g) cs)) zero R (suc r) first-quiet
         (record { at = r; number = refl; after = omega arith; passes = t; none-before = λ j l m u. f j m u })
@@ -132,7 +133,8 @@ smallest-none g r s =
 module _ (W W′ : Way) (n : ℕ) (p : Plan) (agree : All (λ c. W c ≡ W′ c) (p .paths)) where
   stopped-same : (r : ℕ) → stopped W n p r ≡ stopped W′ n p r
   unfolding stopped
-  stopped-same r = ap (λ (F : ℕ → List Value). outcome F) (fun-ext (λ v. map-same _ _ (p .paths) (all-weaken (p .paths) (λ c e. ap (λ (f : ℕ → State). value (f r v)) e) agree)))
+  stopped-same r = ap (λ (F : ℕ → List Value). outcome F)
+      (fun-ext (λ v. map-same _ _ (p .paths) (all-weaken (p .paths) (λ c e. ap (λ (f : ℕ → State). value (f r v)) e) agree)))
     where
       outcome : (ℕ → List Value) → Outcome
       outcome F = record { rounds = r; rows = body-rows (p .body) F n }

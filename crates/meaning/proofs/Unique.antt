@@ -15,7 +15,8 @@ use Rattle.meaning.specs.Meaning.{AtVertices, Means, PathOver, Reduces, 
 use Rattle.meaning.specs.Query.{PathReduction, Query, Term, VertexReduction, VertexTerm, apply, each, leaf, literal, network-of, single}
 
 -- a path reduction has one value at a vertex
-pub path-unique : (g : Graph) (W : Network → ℕ → WalkSet) (c : PathReduction) (v : ℕ) (x y : Value) → PathOver g W c v x → PathOver g W c v y → x ≡ y
+pub path-unique : (g : Graph) (W : Network → ℕ → WalkSet) (c : PathReduction) (v : ℕ) (x y : Value) → PathOver g W c v x → PathOver g W c v y
+    → x ≡ y
 path-unique g W c v x y p q =
     let N = network-of g c in
     p .2 ∙ ap value (figures-unique N (c .keys) (W N v) (p .0) (q .0) (p .1) (q .1)) ∙ sym (q .2)

@@ -7,7 +7,8 @@ use lib.ListN.{length}
 use Rattle.walks.specs.Rounds.{same-list}
 use Rattle.meaning.specs.Query.{PathReduction, Query, Term, VertexReduction, apply, each, leaf, leaves, literal, single, written-paths}
 
--- the expressions of a plan. Kind 0: one entry with no reduction, over the indices of path reductions (0x30). Kind 1: entries with their reductions, and a final
+-- the expressions of a plan. Kind 0: one entry with no reduction, over the indices of path reductions (0x30). Kind 1: entries with their reductions, and a
+-- final
 -- expression over the indices of entries (0x31)
 pub data Body : Type 0 where
   each-vertex : Term ℕ → Body

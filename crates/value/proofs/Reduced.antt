@@ -121,10 +121,17 @@ joined (suc (suc (suc (suc (suc zero))))) x xs =
 joined (suc (suc (suc (suc (suc (suc r)))))) x xs =
     let k = suc (suc (suc (suc (suc (suc r))))) in
     folded 0 (λ (u : Unit {0}). Absent) (λ y u. u) (λ u y. refl) tt xs
-    ∙ rw (ne-eqb k 1 (λ e. omega arith), ne-eqb k 2 (λ e. omega arith), ne-eqb k 3 (λ e. omega arith), ne-eqb k 4 (λ e. omega arith), ne-eqb k 5 (λ e. omega arith)) refl
+    ∙ rw (
+      ne-eqb k 1 (λ e. omega arith),
+      ne-eqb k 2 (λ e. omega arith),
+      ne-eqb k 3 (λ e. omega arith),
+      ne-eqb k 4 (λ e. omega arith),
+      ne-eqb k 5 (λ e. omega arith),
+    ) refl
 
 -- values from a total on: absent ones are skipped
-reached : (r : ℕ) (t : Value) (vs : List Value) → foldl (step r) (Reached t) vs ≡ Reached (foldl (λ t y. operate (joining r) t (Number y)) t (present vs))
+reached : (r : ℕ) (t : Value) (vs : List Value) → foldl (step r) (Reached t) vs
+    ≡ Reached (foldl (λ t y. operate (joining r) t (Number y)) t (present vs))
 reached r t [] = refl
 reached r t (Absent ∷ vs) = reached r t vs
 reached r t (Number x ∷ vs) = reached r (operate (joining r) t (Number x)) vs
@@ -140,7 +147,8 @@ reduced r (Number x ∷ vs) = ap finish (reached r (operate (joining r) (Number 
 unfoldable pub after : ℕ → List Row → ℕ → Partial
 after r rows i = foldl (step r) Empty (values (take i rows))
 
-snoc : (r : ℕ) (p : Partial) (rows : List Row) (row : Row) → foldl (step r) p (values (rows ++ (row ∷ []))) ≡ step r (foldl (step r) p (values rows)) (row .value)
+snoc : (r : ℕ) (p : Partial) (rows : List Row) (row : Row) → foldl (step r) p (values (rows ++ (row ∷ [])))
+    ≡ step r (foldl (step r) p (values rows)) (row .value)
 snoc r p [] row = refl
 snoc r p (x ∷ rows) row = snoc r (step r p (x .value)) rows row
 

@@ -21,7 +21,26 @@ use Rattle.walked.specs.declared.Walk.{Walk}
 use Rattle.walked.specs.declared.Kept.{Kept}
 use Rattle.walked.specs.declared.Figures.{Figures}
 use Rattle.walked.specs.declared.PathReduction.{PathReduction}
-use Rattle.walked.specs.Walked.{best, better, figure-of, figures, figures-at, last-of, longer, may-start, padded, put-first, same, sift, standing, unchanged, value-at, walks, walks-to, with-edge}
+use Rattle.walked.specs.Walked.{
+  best,
+  better,
+  figure-of,
+  figures,
+  figures-at,
+  last-of,
+  longer,
+  may-start,
+  padded,
+  put-first,
+  same,
+  sift,
+  standing,
+  unchanged,
+  value-at,
+  walks,
+  walks-to,
+  with-edge,
+}
 use Rattle.walked.specs.Steps.{agrees, is-kept, judged}
 use Rattle.walked.proofs.PathReduction as path-reduction
 
@@ -112,7 +131,8 @@ judged-best k found (w ∷ ws) = go (may-start (k .path .source) w) (is-kept k w
     go false b e h f = rw e (f found)
 
 -- what `best_of` finds for the next key, where the figures of the first i keys are bs
-pub found-best : (rows : List ℕ) (path : PathReduction) (vertex most : ℕ) (bs : List ℕ) (i left : ℕ) (w : Walk) → left ≡ min most 64 → w ≡ standing vertex
+pub found-best : (rows : List ℕ) (path : PathReduction) (vertex most : ℕ) (bs : List ℕ) (i left : ℕ) (w : Walk) → left ≡ min most 64 → w
+    ≡ standing vertex
     → foldl (judged (record { path = path; best = bs; passed = i })) Absent (walks rows left w)
     ≡ best (getD (path .keys) i 0) (sift (λ w. agrees (path .keys) bs w i) (walks-to rows (path .source) vertex most))
 found-best rows path vertex most bs i left w e h =
@@ -203,11 +223,13 @@ module _ (keys : List ℕ) (n : ℕ) (ws : List Walk) where
       ap (λ (l : List Walk). after (0 ∷ 0 ∷ 0 ∷ []) 0 (figures (take n keys) l)) (sift-all keys (0 ∷ 0 ∷ 0 ∷ []) ws)
       ∙ go (figures (take n keys) ws) (figures-length (take n keys) ws)
     where
-      go : (o : Option (List ℕ)) → ((xs : List ℕ) → o ≡ some xs → length xs ≡ length (take n keys)) → after (0 ∷ 0 ∷ 0 ∷ []) 0 o ≡ padded o
+      go : (o : Option (List ℕ)) → ((xs : List ℕ) → o ≡ some xs → length xs ≡ length (take n keys)) → after (0 ∷ 0 ∷ 0 ∷ []) 0 o
+          ≡ padded o
       go none f = refl
       go (some xs) f =
           let z = zero-add (length xs) in
-          ap (λ (l : List ℕ). record { present = true; figures = l }) (sets-eq xs (0 ∷ 0 ∷ 0 ∷ []) 0 (omega (arith, f xs refl, length-take n keys)) ∙ rw z)
+          ap (λ (l : List ℕ). record { present = true; figures = l }) (sets-eq xs (0 ∷ 0 ∷ 0 ∷ []) 0 (omega (arith, f xs refl, length-take n keys))
+          ∙ rw z)
 
   -- the list of the keys from i on
   module _ (bs : List ℕ) (i : ℕ) (below : i < n) (fits : n ≤ length keys) where
@@ -223,7 +245,8 @@ module _ (keys : List ℕ) (n : ℕ) (ws : List Walk) where
         ap (λ (l : List ℕ). after bs i (figures l (sift (λ w. agrees keys bs w i) ws))) key-first
         ∙ ap (after bs i) (figures-first (getD keys i 0) (drop (i + 1) (take n keys)) (sift (λ w. agrees keys bs w i) ws) x e)
         ∙ after-first bs i x (figures (drop (i + 1) (take n keys)) (sift (λ w. eqb (figure-of (getD keys i 0) w) x) (sift (λ w. agrees keys bs w i) ws)))
-        ∙ ap (λ (m : ℕ). after (set bs i x) m (figures (drop (i + 1) (take n keys)) (sift (λ w. eqb (figure-of (getD keys i 0) w) x) (sift (λ w. agrees keys bs w i) ws)))) (sym (add-one i))
+        ∙ ap (λ (m : ℕ). after (set bs i x) m (figures (drop (i + 1) (take n keys))
+        (sift (λ w. eqb (figure-of (getD keys i 0) w) x) (sift (λ w. agrees keys bs w i) ws)))) (sym (add-one i))
         ∙ ap (λ (l : List Walk). after (set bs i x) (i + 1) (figures (drop (i + 1) (take n keys)) l)) (sift-next keys bs i x h ws)
 
     -- no walk is left
@@ -280,7 +303,8 @@ module _ (rows : List ℕ) (path : PathReduction) (before : ℕ) where
           rw (sym (ap same-at s) ∙ e) (and-false (unchanged rows n path before))
 
   -- the program asks for walks of at most 64 and 65 edges where more are asked for: no walk has more than 64
-  pub same-few : (few v : ℕ) (a b : Figures) → few ≡ min before 64 → a ≡ figures-at rows path v few → b ≡ figures-at rows path v (few + 1) → same a b ≡ same-at v
+  pub same-few : (few v : ℕ) (a b : Figures) → few ≡ min before 64 → a ≡ figures-at rows path v few → b ≡ figures-at rows path v (few + 1)
+      → same a b ≡ same-at v
   unfolding figures-at
   same-few few v a b e p q =
       let f : min few 64 ≡ min before 64 = omega arith in
@@ -302,4 +326,5 @@ pub value-padded : (rows : List ℕ) (path : PathReduction) (vertex most n : ℕ
 unfolding figures-at value-at
 value-padded rows path vertex most n f k e h =
     rw h
-    (last-padded (take (min (path .count) 3) (path .keys)) (walks-to rows (path .source) vertex most) n (omega (arith, length-take (min (path .count) 3) (path .keys))) (omega arith))
+    (last-padded (take (min (path .count) 3) (path .keys)) (walks-to rows (path .source) vertex most) n
+    (omega (arith, length-take (min (path .count) 3) (path .keys))) (omega arith))

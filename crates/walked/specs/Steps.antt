@@ -21,7 +21,8 @@ is-kept k w = agrees (k .path .keys) (k .best) w (k .passed)
 -- what is found with one walk more
 unfoldable pub judged : Kept → Value → Walk → Value
 judged k found w =
-    cond (may-start (k .path .source) w) (cond (is-kept k w) (better (getD (k .path .keys) (k .passed) 0) found (figure-of (getD (k .path .keys) (k .passed) 0) w)) found) found
+    cond (may-start (k .path .source) w)
+    (cond (is-kept k w) (better (getD (k .path .keys) (k .passed) 0) found (figure-of (getD (k .path .keys) (k .passed) 0) w)) found) found
 
 -- what is found with all walks that end with w and have at most `left` edges before it
 abbrev pub best-of : List ℕ → Kept → Walk → ℕ → Value → Value

@@ -1,4 +1,5 @@
--- The figures of a path reduction (document 01: chain), by listing all walks of at most so many edges (document 01, "Meaning"). `rows` are the numbers of a map's
+-- The figures of a path reduction (document 01: chain), by listing all walks of at most so many edges (document 01, "Meaning"). `rows` are the numbers of a
+-- map's
 -- rows, four a row: from, to, seconds, crate size; 0 past their end, and a row that is not whole is none.
 use Prim.Native.Nat.{ℕ, zero, suc, _+_, _*_, _/_, min}
 use mathlib.Core.Bool.{Bool, true, false, cond, not, _&&_, _||_}
@@ -40,7 +41,8 @@ unfoldable pub walks : List ℕ → ℕ → Walk → List Walk
 walks rows zero w = w ∷ []
 walks rows (suc left) w = w ∷ with-edge rows (walks rows left) w (length rows / 4)
 
--- "Value of a walk" in the table of keys: 1 passages walked, 2 seconds added up, 3 and 4 starting place, 5 and 6 smallest crate size. (A number that is no key's
+-- "Value of a walk" in the table of keys: 1 passages walked, 2 seconds added up, 3 and 4 starting place, 5 and 6 smallest crate size. (A number that is no
+-- key's
 -- is as 6.)
 unfoldable pub figure-of : ℕ → Walk → ℕ
 figure-of key w =
@@ -130,7 +132,8 @@ same a b =
     && eqb (getD (a .figures) 2 0) (getD (b .figures) 2 0)
     && alike (a .present) (b .present)
 
--- "each figure of [a] chain at each place is the same over walks of at most r passages as over walks of at most r − 1": at the vertices below n, with r − 1 for `before`
+-- "each figure of [a] chain at each place is the same over walks of at most r passages as over walks of at most r − 1": at the vertices below n, with r
+-- − 1 for `before`
 unfoldable pub unchanged : List ℕ → ℕ → PathReduction → ℕ → Bool
 unchanged rows zero path before = true
 unchanged rows (suc v) path before =

@@ -100,7 +100,8 @@ module _ (k : ℕ) where
     held y [] = (y, refl, good-refl (kept k) y, inl refl, λ x i. absurd i)
     held y (x ∷ ws) = go (beats k (figure-of k x) y) refl (held (figure-of k x) ws) (held y ws)
       where
-        go : (b : Bool) → beats k (figure-of k x) y ≡ b → Held k (figure-of k x) ws (after (Number (figure-of k x)) ws) → Held k y ws (after (Number y) ws)
+        go : (b : Bool) → beats k (figure-of k x) y ≡ b → Held k (figure-of k x) ws (after (Number (figure-of k x)) ws)
+            → Held k y ws (after (Number y) ws)
             → Held k y (x ∷ ws) (after (cond (beats k (figure-of k x) y) (Number (figure-of k x)) (Number y)) ws)
         go true e f g = rw e (held-new y x ws (after (Number (figure-of k x)) ws) (beats-true k h (figure-of k x) y e) f)
         go false e f g = rw e (held-old y x ws (after (Number y) ws) (beats-false k h (figure-of k x) y e) g)
@@ -121,7 +122,8 @@ pub in-sift : (p : Walk → Bool) (ws : List Walk) (x : Walk) → In x (sift p w
 in-sift p [] x i = absurd i
 in-sift p (w ∷ ws) x i = go (p w) refl i (in-sift p ws x)
   where
-    go : (b : Bool) → p w ≡ b → In x (cond b (w ∷ sift p ws) (sift p ws)) → (In x (sift p ws) → In x ws × (p x ≡ true)) → In x (w ∷ ws) × (p x ≡ true)
+    go : (b : Bool) → p w ≡ b → In x (cond b (w ∷ sift p ws) (sift p ws)) → (In x (sift p ws) → In x ws × (p x ≡ true)) → In x (w ∷ ws)
+        × (p x ≡ true)
     go true e (inl q) f = (inl q, ap p q ∙ e)
     go true e (inr j) f = (inr (f j .0), f j .1)
     go false e j f = (inr (f j .0), f j .1)
@@ -197,7 +199,8 @@ module _ (N : Network) where
       go (Number b) e t f =
           let hk = and-left (known k) (all-known ks) h in
           let a = t .0 in
-          let q = f b (shown-kept k hk ws P r b a (t .1)) (a .0) (sift-in (λ w. eqb (figure-of k w) b) ws (a .0) (a .1) (eq-eqb (figure-of k (a .0)) b (a .2))) in
+          let q = f b (shown-kept k hk ws P r b a (t .1)) (a .0)
+          (sift-in (λ w. eqb (figure-of k w) b) ws (a .0) (a .1) (eq-eqb (figure-of k (a .0)) b (a .2))) in
           (b ∷ q .0, figures-first k ks ws b e ∙ ap (put-first b) (q .1), (kept-is k hk ws P r b a (t .1), q .2))
 
   -- THE FIGURES OF A LIST ARE THOSE OF THE SET THAT IT SHOWS

@@ -181,5 +181,6 @@ module _ (N : Network) (rows : List ℕ) (R : Rows N rows) where
       to s w h =
           let q = walks-full r (standing v) w s (h .1) (h .2) in
           let x = back rows (standing v) w in
-          let m : may-start source x ≡ true = ap (λ (t : ℕ). eqb source 65535 || eqb source t) (q .1) ∙ sym (starts s w (h .1)) ∙ T-true (N .source s) (h .0) in
+          let m : may-start source x ≡ true = ap (λ (t : ℕ). eqb source 65535 || eqb source t) (q .1) ∙ sym (starts s w (h .1))
+          ∙ T-true (N .source s) (h .0) in
           (x, sift-in (may-start source) (walks rows r (standing v)) x (q .0) m, like v w s (h .1))

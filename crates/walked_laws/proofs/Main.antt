@@ -37,7 +37,8 @@ numbers-length [] = refl
 numbers-length (e ∷ es) = omega (arith, numbers-length es)
 
 numbers-at : (es : List Edge) (i : ℕ) → i < length es
-    → edge-at es i ≡ edge (getD (numbers es) (4 * i) 0) (getD (numbers es) (4 * i + 1) 0) (getD (numbers es) (4 * i + 2) 0) (getD (numbers es) (4 * i + 3) 0)
+    → edge-at es i ≡ edge (getD (numbers es) (4 * i) 0) (getD (numbers es) (4 * i + 1) 0) (getD (numbers es) (4 * i + 2) 0)
+    (getD (numbers es) (4 * i + 3) 0)
 numbers-at [] i h = absurd (not-suc-le-zero h)
 numbers-at (e ∷ es) zero h = refl
 numbers-at (e ∷ es) (suc i) h =

@@ -1,4 +1,5 @@
--- "each figure of [a] chain at each place is the same over walks of at most r passages as over walks of at most r − 1": what `unchanged` of crate `walked` tests, for
+-- "each figure of [a] chain at each place is the same over walks of at most r passages as over walks of at most r − 1": what `unchanged` of crate
+-- `walked` tests, for
 -- r up to 64. Assumes nothing.
 use Prim.Native.Nat.{ℕ, zero, suc, _<_, _≤_, min}
 use mathlib.Core.Path.{_≡_, refl, sym, ap, _∙_, subst}
@@ -40,7 +41,11 @@ alike-self false = refl
 
 same-self : (f : Figures) → same f f ≡ true
 same-self f =
-    rw (eq-eqb (getD (f .figures) 0 0) (getD (f .figures) 0 0) refl, eq-eqb (getD (f .figures) 1 0) (getD (f .figures) 1 0) refl, eq-eqb (getD (f .figures) 2 0) (getD (f .figures) 2 0) refl)
+    rw (
+      eq-eqb (getD (f .figures) 0 0) (getD (f .figures) 0 0) refl,
+      eq-eqb (getD (f .figures) 1 0) (getD (f .figures) 1 0) refl,
+      eq-eqb (getD (f .figures) 2 0) (getD (f .figures) 2 0) refl,
+    )
     (alike-self (f .present))
 
 -- the parts of `same`
@@ -71,7 +76,8 @@ module _ (a b : Figures) where
         pick (suc (suc (suc j))) l = absurd (omega arith)
 
 -- padded figures of as many keys are the same only where the figures are
-same-padded : (n : ℕ) → n ≤ 3 → (o p : Option (List ℕ)) → ((xs : List ℕ) → o ≡ some xs → length xs ≡ n) → ((ys : List ℕ) → p ≡ some ys → length ys ≡ n)
+same-padded : (n : ℕ) → n ≤ 3 → (o p : Option (List ℕ)) → ((xs : List ℕ) → o ≡ some xs → length xs ≡ n)
+    → ((ys : List ℕ) → p ≡ some ys → length ys ≡ n)
     → same (padded o) (padded p) ≡ true → o ≡ p
 same-padded n h none none f g e = refl
 same-padded n h none (some ys) f g e = absurd (subst T (sym (present-same (padded none) (padded (some ys)) e)) tt)
@@ -122,7 +128,8 @@ module _ (g : Graph) (fits : GraphFits g) (path : PathReduction) (legal : T (leg
       let ks = query-path path .keys in
       let s = sym (compared v) ∙ unchanged-yes (numbers (g .edges)) path r (g .vertices) e v h in
       figures-unique N ks (Within N (suc r) v) a (at v (suc r)) fa (walked-figures g fits path legal v (suc r) h few)
-      ∙ sym (same-padded (length ks) (omega (arith, length-take (min (path .count) 3) (path .keys))) (at v r) (at v (suc r)) (figures-length ks _) (figures-length ks _) s)
+      ∙ sym (same-padded (length ks) (omega (arith, length-take (min (path .count) 3) (path .keys))) (at v r) (at v (suc r)) (figures-length ks _)
+      (figures-length ks _) s)
       ∙ figures-unique N ks (Within N r v) (at v r) b (walked-figures g fits path legal v r h (omega arith)) fb
 
   -- and what is so, it says

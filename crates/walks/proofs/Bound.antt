@@ -20,7 +20,8 @@ module _ (N : Network) (ks : List ℕ) (ok : T (in-order ks)) (fits : Fits N) wh
   settled-optimal r h v =
       optimal-larger N ks (Within N r v) (AllTo N v) (state N ks r v) (state-optimal N ks ok r v) (λ s w p. (p .0, p .1)) matched
     where
-      matched : (s : ℕ) (w : List ℕ) → AllTo N v s w → (s′ : ℕ) × (w′ : List ℕ) × Within N r v s′ w′ × Lex ks (figures N ks s′ w′) (figures N ks s w)
+      matched : (s : ℕ) (w : List ℕ) → AllTo N v s w → (s′ : ℕ) × (w′ : List ℕ) × Within N r v s′ w′
+          × Lex ks (figures N ks s′ w′) (figures N ks s w)
       matched s w p =
           let c = short N fits w s v (fits .source-fits s (p .0)) (p .1) in
           (s, c .0, (p .0, c .1, omega (arith, c .2)), lex-each N ks s (c .0) s w (c .3))

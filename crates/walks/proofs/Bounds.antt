@@ -31,7 +31,8 @@ module _ (N : Network) where
   bottleneck-le x [] = omega arith
   bottleneck-le x (i ∷ w) = omega (arith, bottleneck-le x w)
 
-  weight-le : (c : ℕ) → ((i : ℕ) → i < N .edges → N .edge i .weight ≤ c) → (w : List ℕ) (x s v : ℕ) → Leads N s w v → along N Weight x w ≤ x + length w * c
+  weight-le : (c : ℕ) → ((i : ℕ) → i < N .edges → N .edge i .weight ≤ c) → (w : List ℕ) (x s v : ℕ) → Leads N s w v
+      → along N Weight x w ≤ x + length w * c
   weight-le c f [] x s v h = omega arith
   weight-le c f (i ∷ w) x s v h = omega (arith, weight-le c f w x s (N .edge i .from) (h .3), f i (h .0))
 

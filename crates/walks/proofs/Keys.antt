@@ -134,7 +134,8 @@ implies : (a b : Bool) → T (not a || b) → T a → T b
 implies true b t u = t
 implies false b t u = absurd u
 
-pub extend-better : (k : ℕ) (e : Edge) → T (early k) → (x y : ℕ) → Better (kept k) x y → Better (kept k) (extend (measure k) e x) (extend (measure k) e y)
+pub extend-better : (k : ℕ) (e : Edge) → T (early k) → (x y : ℕ) → Better (kept k) x y
+    → Better (kept k) (extend (measure k) e x) (extend (measure k) e y)
 extend-better k e t =
     strict-better (kept k) (measure k) (implies (early k) (strict (measure k)) (each-row (λ r. not (r .early) || strict (r .measure)) tt tt k) t) e
 
@@ -177,5 +178,6 @@ by-kind F f n Bottleneck Least t = n
 by-kind F f n Bottleneck Greatest t = f Bottleneck Greatest tt
 
 -- what holds of every measure that no extension betters, and of the least bottleneck, holds of every key
-pub each-key : (F : Measure → Extreme → Type 0) → ((m : Measure) (d : Extreme) → T (worsening m d) → F m d) → F Bottleneck Least → (k : ℕ) → F (measure k) (kept k)
+pub each-key : (F : Measure → Extreme → Type 0) → ((m : Measure) (d : Extreme) → T (worsening m d) → F m d) → F Bottleneck Least → (k : ℕ)
+    → F (measure k) (kept k)
 each-key F f n k = by-kind F f n (measure k) (kept k) (each-row (λ r. worsening (r .measure) (r .kept) || narrowest (r .measure) (r .kept)) tt tt k)

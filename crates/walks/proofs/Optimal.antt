@@ -65,7 +65,8 @@ module _ (N : Network) where
   optimal-shared ks P Q (some xs) o p s w h = (o .0, o .1, o .2, rw (o .3) (p .4 s w h))
 
   -- the test says which of two answers is the answer of both sets together
-  optimal-both : (ks : List ℕ) (P Q : WalkSet) (xs ys : List ℕ) (b : Bool) → precedes ks xs ys ≡ b → Optimal N ks P (some xs) → Optimal N ks Q (some ys)
+  optimal-both : (ks : List ℕ) (P Q : WalkSet) (xs ys : List ℕ) (b : Bool) → precedes ks xs ys ≡ b → Optimal N ks P (some xs)
+      → Optimal N ks Q (some ys)
       → cond b (Lex ks xs ys) (Lex ks ys xs) → Optimal N ks (Either P Q) (cond b (some xs) (some ys))
   optimal-both ks P Q xs ys true e o p l = (o .0, o .1, inl (o .2), o .3, go)
     where
@@ -78,7 +79,8 @@ module _ (N : Network) where
       go s′ w′ (inl h) = lex-trans ks ys xs _ l (o .4 s′ w′ h)
       go s′ w′ (inr h) = p .4 s′ w′ h
 
-  figures-test : (ks : List ℕ) (P Q : WalkSet) (xs ys : List ℕ) → Optimal N ks P (some xs) → Optimal N ks Q (some ys) → (b : Bool) → precedes ks xs ys ≡ b
+  figures-test : (ks : List ℕ) (P Q : WalkSet) (xs ys : List ℕ) → Optimal N ks P (some xs) → Optimal N ks Q (some ys) → (b : Bool)
+      → precedes ks xs ys ≡ b
       → cond b (Lex ks xs ys) (Lex ks ys xs)
   figures-test ks P Q xs ys o p b e =
       subst (λ (zs : List ℕ). cond b (Lex ks zs ys) (Lex ks ys zs)) (o .3)
@@ -86,7 +88,8 @@ module _ (N : Network) where
       (lex-test N ks (o .0) (o .1) (p .0) (p .1) b (rw (o .3, p .3) e)))
 
   -- the better of two answers is the answer of both sets together
-  pub optimal-best : (ks : List ℕ) (P Q : WalkSet) (a b : Option (List ℕ)) → Optimal N ks P a → Optimal N ks Q b → Optimal N ks (Either P Q) (best ks a b)
+  pub optimal-best : (ks : List ℕ) (P Q : WalkSet) (a b : Option (List ℕ)) → Optimal N ks P a → Optimal N ks Q b
+      → Optimal N ks (Either P Q) (best ks a b)
   unfolding best
   optimal-best ks P Q none none o p = neither
     where
@@ -118,7 +121,8 @@ module _ (N : Network) where
   )
 
   -- From the meaning to `Optimal`: there is a walk that all keys keep, its figures are those listed, and none of the set is better.
-  listed-kept : (ks : List ℕ) (P : WalkSet) (xs : List ℕ) → Listed N ks P xs → (s : ℕ) × (w : List ℕ) × P s w × (figures N ks s w ≡ xs) × Kept N ks P s w
+  listed-kept : (ks : List ℕ) (P : WalkSet) (xs : List ℕ) → Listed N ks P xs → (s : ℕ) × (w : List ℕ) × P s w × (figures N ks s w ≡ xs)
+      × Kept N ks P s w
   listed-kept [] P [] l = (l .0, l .1, l .2, refl, l .2)
   listed-kept [] P (x ∷ xs) l = absurd l
   listed-kept (k ∷ ks) P [] l = absurd l
@@ -136,11 +140,13 @@ module _ (N : Network) where
   kept-best (k ∷ ks) P s w h s′ w′ p = go (kept-best ks (Keep N k P) s w h s′ w′) (kept-from ks (Keep N k P) s w h)
     where
       go : (Keep N k P s′ w′ → Lex ks (figures N ks s w) (figures N ks s′ w′)) → Keep N k P s w
-          → Better (kept k) (figure N k s w) (figure N k s′ w′) ⊎ ((figure N k s w ≡ figure N k s′ w′) × Lex ks (figures N ks s w) (figures N ks s′ w′))
+          → Better (kept k) (figure N k s w) (figure N k s′ w′)
+          ⊎ ((figure N k s w ≡ figure N k s′ w′) × Lex ks (figures N ks s w) (figures N ks s′ w′))
       go f g = at (better-or-equal (kept k) (figure N k s w) (figure N k s′ w′) (g .1 s′ w′ p))
         where
           at : Better (kept k) (figure N k s w) (figure N k s′ w′) ⊎ (figure N k s w ≡ figure N k s′ w′)
-              → Better (kept k) (figure N k s w) (figure N k s′ w′) ⊎ ((figure N k s w ≡ figure N k s′ w′) × Lex ks (figures N ks s w) (figures N ks s′ w′))
+              → Better (kept k) (figure N k s w) (figure N k s′ w′)
+              ⊎ ((figure N k s w ≡ figure N k s′ w′) × Lex ks (figures N ks s w) (figures N ks s′ w′))
           at (inl b) = inl b
           at (inr e) = inr (e, f (p, λ s″ w″ q. subst (λ (x : ℕ). Good (kept k) x (figure N k s″ w″)) e (g .1 s″ w″ q)))
 
@@ -156,12 +162,14 @@ module _ (N : Network) where
   head-good k ks x y xs ys (inl b) = good-of-better (kept k) x y b
   head-good k ks x y xs ys (inr e) = good-of-eq (kept k) x y (e .0)
 
-  tail-lex : (k : ℕ) (ks : List ℕ) (x y : ℕ) (xs ys : List ℕ) → Good (kept k) y x → Better (kept k) x y ⊎ ((x ≡ y) × Lex ks xs ys) → Lex ks xs ys
+  tail-lex : (k : ℕ) (ks : List ℕ) (x y : ℕ) (xs ys : List ℕ) → Good (kept k) y x → Better (kept k) x y ⊎ ((x ≡ y) × Lex ks xs ys)
+      → Lex ks xs ys
   tail-lex k ks x y xs ys g (inl b) = absurd (better-not-good (kept k) x y b g)
   tail-lex k ks x y xs ys g (inr e) = e .1
 
   -- back: a walk that is at least as good as each has the figures that the meaning lists
-  listed-of : (ks : List ℕ) (P : WalkSet) (s : ℕ) (w : List ℕ) → P s w → ((s′ : ℕ) (w′ : List ℕ) → P s′ w′ → Lex ks (figures N ks s w) (figures N ks s′ w′))
+  listed-of : (ks : List ℕ) (P : WalkSet) (s : ℕ) (w : List ℕ) → P s w
+      → ((s′ : ℕ) (w′ : List ℕ) → P s′ w′ → Lex ks (figures N ks s w) (figures N ks s′ w′))
       → Listed N ks P (figures N ks s w)
   listed-of [] P s w p f = (s, w, p)
   listed-of (k ∷ ks) P s w p f = (same, listed-of ks (Keep N k P) s w keep tail)
@@ -178,7 +186,8 @@ module _ (N : Network) where
   -- and the best are those that the meaning lists
   pub optimal-figures : (ks : List ℕ) (P : WalkSet) (a : Option (List ℕ)) → Optimal N ks P a → Figures N ks P a
   optimal-figures ks P none o = o
-  optimal-figures ks P (some xs) o = subst (λ (zs : List ℕ). Listed N ks P zs) (o .3) (listed-of ks P (o .0) (o .1) (o .2) (λ s′ w′ p. rw (o .3) (o .4 s′ w′ p)))
+  optimal-figures ks P (some xs) o = subst (λ (zs : List ℕ). Listed N ks P zs) (o .3)
+      (listed-of ks P (o .0) (o .1) (o .2) (λ s′ w′ p. rw (o .3) (o .4 s′ w′ p)))
 
   -- THE MEANING DETERMINES THE FIGURES
   pub figures-unique : (ks : List ℕ) (P : WalkSet) (a b : Option (List ℕ)) → Figures N ks P a → Figures N ks P b → a ≡ b

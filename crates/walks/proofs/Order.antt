@@ -1,4 +1,5 @@
--- The order of lists of figures by a list of keys, the first key first: transitive, antisymmetric, total on the figures of walks, kept by an extension. Assumes nothing.
+-- The order of lists of figures by a list of keys, the first key first: transitive, antisymmetric, total on the figures of walks, kept by an extension.
+-- Assumes nothing.
 use Prim.Native.Nat.{ℕ}
 use mathlib.Core.Path.{_≡_, refl, sym, ap, _∙_}
 use mathlib.Core.Logic.{_⊎_, inl, inr}
@@ -9,7 +10,18 @@ use lib.Dec.{T, eqb}
 use Rattle.walks.specs.Keys.{Good, early, good?, in-order, kept, measure}
 use Rattle.walks.specs.Rounds.{bases, extend-all, precedes}
 use Rattle.walks.specs.Walks.{Edge, Network, base, extend, figure, figures}
-use Rattle.walks.proofs.Keys.{Better, better-not-good, better-or-equal, better-trans, extend-better, extend-good, good-of-better, good-of-eq, good?-false, good?-true}
+use Rattle.walks.proofs.Keys.{
+  Better,
+  better-not-good,
+  better-or-equal,
+  better-trans,
+  extend-better,
+  extend-good,
+  good-of-better,
+  good-of-eq,
+  good?-false,
+  good?-true,
+}
 use Rattle.walks.proofs.Tests.{and-left, and-right}
 
 -- xs is at least as good as ys: better in the first key in which they differ, or equal
@@ -73,7 +85,8 @@ cons-ext-last k r x y xs ys (inl p) = go (better-or-equal (kept k) _ _ (extend-g
 cons-ext : (k : ℕ) (ks : List ℕ) (r : Edge) (x y : ℕ) (xs ys : List ℕ) → T (early k)
     → (Lex ks xs ys → Lex ks (extend-all ks r xs) (extend-all ks r ys))
     → Better (kept k) x y ⊎ ((x ≡ y) × Lex ks xs ys)
-    → Better (kept k) (extend (measure k) r x) (extend (measure k) r y) ⊎ ((extend (measure k) r x ≡ extend (measure k) r y) × Lex ks (extend-all ks r xs) (extend-all ks r ys))
+    → Better (kept k) (extend (measure k) r x) (extend (measure k) r y)
+    ⊎ ((extend (measure k) r x ≡ extend (measure k) r y) × Lex ks (extend-all ks r xs) (extend-all ks r ys))
 cons-ext k ks r x y xs ys t f (inl p) = inl (extend-better k r t x y p)
 cons-ext k ks r x y xs ys t f (inr p) = inr (ap (extend (measure k) r) (p .0), f (p .1))
 
@@ -106,14 +119,17 @@ module _ (N : Network) where
   lex-each [] s w s′ w′ f = tt
   lex-each (k ∷ ks) s w s′ w′ f = go (lex-each ks s w s′ w′ f) (better-or-equal (kept k) _ _ (f k))
     where
-      go : Lex ks (figures N ks s w) (figures N ks s′ w′) → Better (kept k) (figure N k s w) (figure N k s′ w′) ⊎ (figure N k s w ≡ figure N k s′ w′)
-          → Better (kept k) (figure N k s w) (figure N k s′ w′) ⊎ ((figure N k s w ≡ figure N k s′ w′) × Lex ks (figures N ks s w) (figures N ks s′ w′))
+      go : Lex ks (figures N ks s w) (figures N ks s′ w′) → Better (kept k) (figure N k s w) (figure N k s′ w′)
+          ⊎ (figure N k s w ≡ figure N k s′ w′)
+          → Better (kept k) (figure N k s w) (figure N k s′ w′)
+          ⊎ ((figure N k s w ≡ figure N k s′ w′) × Lex ks (figures N ks s w) (figures N ks s′ w′))
       go l (inl b) = inl b
       go l (inr e) = inr (e, l)
 
   -- the test decides the order, and where it fails the order is the other way
   module _ (k : ℕ) (ks : List ℕ) (x y : ℕ) (xs ys : List ℕ) where
-    same-first : x ≡ y → (b : Bool) → cond b (Lex ks xs ys) (Lex ks ys xs) → cond b (Lex (k ∷ ks) (x ∷ xs) (y ∷ ys)) (Lex (k ∷ ks) (y ∷ ys) (x ∷ xs))
+    same-first : x ≡ y → (b : Bool) → cond b (Lex ks xs ys) (Lex ks ys xs)
+        → cond b (Lex (k ∷ ks) (x ∷ xs) (y ∷ ys)) (Lex (k ∷ ks) (y ∷ ys) (x ∷ xs))
     same-first e true l = inr (e, l)
     same-first e false l = inr (sym e, l)
 
@@ -121,7 +137,8 @@ module _ (N : Network) where
     strict-first n (inl b) = inl b
     strict-first n (inr e) = absurd (n e)
 
-    other-first : (x ≡ y → ⊥) → (b : Bool) → good? (kept k) x y ≡ b → cond b (Lex (k ∷ ks) (x ∷ xs) (y ∷ ys)) (Lex (k ∷ ks) (y ∷ ys) (x ∷ xs))
+    other-first : (x ≡ y → ⊥) → (b : Bool) → good? (kept k) x y ≡ b
+        → cond b (Lex (k ∷ ks) (x ∷ xs) (y ∷ ys)) (Lex (k ∷ ks) (y ∷ ys) (x ∷ xs))
     other-first n true e = strict-first n (better-or-equal (kept k) x y (good?-true (kept k) x y e))
     other-first n false e = inl (good?-false (kept k) x y e)
 
@@ -131,9 +148,11 @@ module _ (N : Network) where
     at-first f true q b e = same-first (eqb-true x y q) b (f b e)
     at-first f false q b e = other-first (eqb-false x y q) b e
 
-  pub lex-test : (ks : List ℕ) (s : ℕ) (w : List ℕ) (s′ : ℕ) (w′ : List ℕ) (b : Bool) → precedes ks (figures N ks s w) (figures N ks s′ w′) ≡ b
+  pub lex-test : (ks : List ℕ) (s : ℕ) (w : List ℕ) (s′ : ℕ) (w′ : List ℕ) (b : Bool)
+      → precedes ks (figures N ks s w) (figures N ks s′ w′) ≡ b
       → cond b (Lex ks (figures N ks s w) (figures N ks s′ w′)) (Lex ks (figures N ks s′ w′) (figures N ks s w))
   lex-test [] s w s′ w′ true e = tt
   lex-test [] s w s′ w′ false e = tt
   lex-test (k ∷ ks) s w s′ w′ b e =
-      at-first k ks (figure N k s w) (figure N k s′ w′) (figures N ks s w) (figures N ks s′ w′) (lex-test ks s w s′ w′) (eqb (figure N k s w) (figure N k s′ w′)) refl b e
+      at-first k ks (figure N k s w) (figure N k s′ w′) (figures N ks s w) (figures N ks s′ w′) (lex-test ks s w s′ w′)
+      (eqb (figure N k s w) (figure N k s′ w′)) refl b e

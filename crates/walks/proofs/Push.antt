@@ -34,13 +34,15 @@ marked-state N ks r = record { holds = state N ks r; changed = fresh N ks r }
 module _ (N : Network) (ks : List ℕ) (ok : T (in-order ks)) where
   -- where the state at u did not change, a walk to u is matched by a shorter one
   stale : (r u : ℕ) → fresh N ks r u ≡ false → (s : ℕ) (w : List ℕ) → Within N r u s w
-      → (s′ : ℕ) × (w′ : List ℕ) × (T (N .source s′) × Leads N s′ w′ u × (length w′ < r)) × Lex ks (figures N ks s′ w′) (figures N ks s w)
+      → (s′ : ℕ) × (w′ : List ℕ) × (T (N .source s′) × Leads N s′ w′ u × (length w′ < r))
+      × Lex ks (figures N ks s′ w′) (figures N ks s w)
   unfolding fresh
   stale zero u e s w h = absurd (subst (Optimal N ks (Within N zero u)) (none-of (state N ks zero u) e) (state-optimal N ks ok zero u) s w h)
   stale (suc r) u e s w h =
       let x =
       optimal-shared N ks (Within N (suc r) u) (Within N r u) (state N ks r u) (state-optimal N ks ok r u)
-      (subst (Optimal N ks (Within N (suc r) u)) (same-eq (state N ks (suc r) u) (state N ks r u) (T-of (not-false (same (state N ks (suc r) u) (state N ks r u)) e))) (state-optimal N ks ok (suc r) u))
+      (subst (Optimal N ks (Within N (suc r) u)) (same-eq (state N ks (suc r) u) (state N ks r u)
+      (T-of (not-false (same (state N ks (suc r) u) (state N ks r u)) e))) (state-optimal N ks ok (suc r) u))
       s w h in
       (x .0, x .1, (x .2 .0, x .2 .1, suc-le-suc (x .2 .2)), x .3)
 
@@ -51,9 +53,11 @@ module _ (N : Network) (ks : List ℕ) (ok : T (in-order ks)) where
   -- a walk over an edge that is left out is matched by a walk that was there before
   module _ (r v s : ℕ) (w : List ℕ) where
     abbrev Matched : Type 0
-    Matched = (s′ : ℕ) × (w′ : List ℕ) × One N ks ok (live r) (Within N r) v (N .edges) s′ w′ × Lex ks (figures N ks s′ w′) (figures N ks s w)
+    Matched = (s′ : ℕ) × (w′ : List ℕ) × One N ks ok (live r) (Within N r) v (N .edges) s′ w′
+        × Lex ks (figures N ks s′ w′) (figures N ks s w)
 
-    by-fresh : (i : ℕ) (w₀ : List ℕ) → i < N .edges → T (N .usable i) → N .edge i .to ≡ v → w ≡ i ∷ w₀ → Within N r (N .edge i .from) s w₀
+    by-fresh : (i : ℕ) (w₀ : List ℕ) → i < N .edges → T (N .usable i) → N .edge i .to ≡ v → w ≡ i ∷ w₀
+        → Within N r (N .edge i .from) s w₀
         → (b : Bool) → fresh N ks r (N .edge i .from) ≡ b → Matched
     by-fresh i w₀ l t e p h true f = (s, w, inr (i, w₀, l, and-both (N .usable i) (fresh N ks r (N .edge i .from)) t (T-of f), e, p, h), lex-refl N ks s w)
     by-fresh i w₀ l t e p h false f =
@@ -82,7 +86,8 @@ module _ (N : Network) (ks : List ℕ) (ok : T (in-order ks)) where
   -- over the edges whose `from` changed it gives the same state as a round over all
   pub push-pull : (r v : ℕ) → push-round N ks (marked-state N ks r) v ≡ state N ks (suc r) v
   push-pull r v =
-      optimal-unique N ks (Within N (suc r) v) (push-round N ks (marked-state N ks r) v) (state N ks (suc r) v) (step-optimal r v) (state-optimal N ks ok (suc r) v)
+      optimal-unique N ks (Within N (suc r) v) (push-round N ks (marked-state N ks r) v) (state N ks (suc r) v) (step-optimal r v)
+      (state-optimal N ks ok (suc r) v)
 
   -- round by round, state and marks
   pub marked-is : (r : ℕ) → marked N ks r ≡ marked-state N ks r

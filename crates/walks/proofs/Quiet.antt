@@ -20,18 +20,22 @@ use Rattle.walks.proofs.Tests.{and-left, le-step}
 abbrev pub Quiet : Network → List ℕ → ℕ → Type 0
 Quiet N ks r = (v : ℕ) → v < N .vertices → state N ks (suc r) v ≡ state N ks r v
 
-brings-same : (ks : List ℕ) (b : Bool) (r : Edge) (S S′ : ℕ → Option (List ℕ)) → (T b → S (r .from) ≡ S′ (r .from)) → brings b ks r S ≡ brings b ks r S′
+brings-same : (ks : List ℕ) (b : Bool) (r : Edge) (S S′ : ℕ → Option (List ℕ)) → (T b → S (r .from) ≡ S′ (r .from)) → brings b ks r S
+    ≡ brings b ks r S′
 brings-same ks true r S S′ f = ap (through ks r) (f tt)
 brings-same ks false r S S′ f = refl
 
 -- two states that agree at the vertices of the network make the same next state there
-pub gather-same : (N : Network) (ks : List ℕ) (live : ℕ → Bool) (S S′ : ℕ → Option (List ℕ)) → ((u : ℕ) → u < N .vertices → S u ≡ S′ u)
-    → (v : ℕ) → v < N .vertices → (m : ℕ) → ((i : ℕ) → i < m → T (live i) → N .edge i .from < N .vertices) → gather N ks live S v m ≡ gather N ks live S′ v m
+pub gather-same : (N : Network) (ks : List ℕ) (live : ℕ → Bool) (S S′ : ℕ → Option (List ℕ))
+    → ((u : ℕ) → u < N .vertices → S u ≡ S′ u)
+    → (v : ℕ) → v < N .vertices → (m : ℕ) → ((i : ℕ) → i < m → T (live i) → N .edge i .from < N .vertices) → gather N ks live S v m
+    ≡ gather N ks live S′ v m
 unfolding gather
 gather-same N ks live S S′ f v h zero g = f v h
 gather-same N ks live S S′ f v h (suc i) g =
     ap₂ (best ks) (gather-same N ks live S S′ f v h i (λ j l t. g j (le-step l) t))
-    (brings-same ks (live i && eqb (N .edge i .to) v) (N .edge i) S S′ (λ t. f (N .edge i .from) (g i (omega arith) (and-left (live i) (eqb (N .edge i .to) v) t))))
+    (brings-same ks (live i && eqb (N .edge i .to) v) (N .edge i) S S′
+    (λ t. f (N .edge i .from) (g i (omega arith) (and-left (live i) (eqb (N .edge i .to) v) t))))
 
 module _ (N : Network) (ks : List ℕ) (fits : Fits N) where
   -- the round after a quiet one is quiet, and so are all after it

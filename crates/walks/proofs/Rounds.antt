@@ -20,7 +20,8 @@ use Rattle.walks.proofs.Tests.{T-of, and-both, and-left, and-right, eqb
 module _ (N : Network) (ks : List ℕ) (ok : T (in-order ks)) where
   -- the walks of the sets `At`, one for each vertex, that end at v, and those with one more edge below m that passes the test
   abbrev pub One : (ℕ → Bool) → (ℕ → WalkSet) → ℕ → ℕ → WalkSet
-  One live At v m s w = At v s w ⊎ ((i : ℕ) × (w₀ : List ℕ) × (i < m) × T (live i) × (N .edge i .to ≡ v) × (w ≡ i ∷ w₀) × At (N .edge i .from) s w₀)
+  One live At v m s w = At v s w ⊎ ((i : ℕ) × (w₀ : List ℕ) × (i < m) × T (live i) × (N .edge i .to ≡ v) × (w ≡ i ∷ w₀)
+      × At (N .edge i .from) s w₀)
 
   -- the walks that the edge i brings to v
   abbrev ByEdge : Bool → (ℕ → WalkSet) → ℕ → WalkSet

@@ -1,4 +1,5 @@
--- Every walk is matched by a short one. `erase`: a walk that visits no vertex twice, at least as good by every key but the least bottleneck. `short`: a walk of fewer than
+-- Every walk is matched by a short one. `erase`: a walk that visits no vertex twice, at least as good by every key but the least bottleneck. `short`: a
+-- walk of fewer than
 -- 2n edges, at least as good by every key: the parts before and after the narrowest edge are shortened each by itself. Assumes nothing.
 use Prim.Native.Nat.{ℕ, suc, _*_, _≤_, _<_, min}
 use mathlib.Core.Path.{_≡_, refl, sym, ap, subst}
@@ -75,7 +76,8 @@ module _ (N : Network) where
             subst (Leads N s (c .0)) (h .2) (c .1),
             c .2,
             λ m d t x.
-                good-trans d _ _ _ (c .3 m d t x) (good-trans d _ _ _ (extend-worse m d t (N .edge i) (along N m x (b .0))) (matches-ext i (b .0) w (b .3) m d t x)),
+                good-trans d _ _ _ (c .3 m d t x) (good-trans d _ _ _ (extend-worse m d t (N .edge i) (along N m x (b .0)))
+                (matches-ext i (b .0) w (b .3) m d t x)),
           )
 
   distinct-one : (s : ℕ) → Distinct (s ∷ [])
@@ -145,12 +147,14 @@ module _ (N : Network) where
       both-match : Matches (q′ ++ (e ∷ p′)) (q ++ (e ∷ p))
       both-match m d t x =
           rw (along-append m q′ (e ∷ p′) x, along-append m q (e ∷ p) x)
-          (good-trans d _ (along N m (along N m x (e ∷ p′)) q) _ (mq m d t (along N m x (e ∷ p′))) (along-good d m q _ _ (matches-ext e p′ p mp m d t x)))
+          (good-trans d _ (along N m (along N m x (e ∷ p′)) q) _ (mq m d t (along N m x (e ∷ p′)))
+          (along-good d m q _ _ (matches-ext e p′ p mp m d t x)))
 
     -- a walk over e is no wider than e
     over : (q p : List ℕ) (e x : ℕ) → along N Bottleneck x (q ++ (e ∷ p)) ≤ min x (N .edge e .capacity)
     over q p e x =
-        rw (along-append Bottleneck q (e ∷ p) x) (omega (arith, along-worse Bottleneck Greatest tt q (along N Bottleneck x (e ∷ p)), along-worse Bottleneck Greatest tt p x))
+        rw (along-append Bottleneck q (e ∷ p) x)
+        (omega (arith, along-worse Bottleneck Greatest tt q (along N Bottleneck x (e ∷ p)), along-worse Bottleneck Greatest tt p x))
 
     short-parts : (w : List ℕ) (s v : ℕ) → s < N .vertices → Narrowest s v w → Short s v w
     unfolding Narrowest

@@ -34,7 +34,8 @@ module _ (N : Network) (ks : List ℕ) (fits : Fits N) (r : ℕ) (S : State) (ag
   pull-steps v h = gather-same N ks (N .usable) S (state N ks r) agrees v h (N .edges) (fits .from-fits)
 
   -- over the edges from marked vertices: those that changed in the round before (`fresh`)
-  pub push-steps : T (in-order ks) → (marks : ℕ → Bool) → ((u : ℕ) → u < N .vertices → marks u ≡ fresh N ks r u) → (v : ℕ) → v < N .vertices
+  pub push-steps : T (in-order ks) → (marks : ℕ → Bool) → ((u : ℕ) → u < N .vertices → marks u ≡ fresh N ks r u) → (v : ℕ)
+      → v < N .vertices
       → gather N ks (λ i. N .usable i && marks (N .edge i .from)) S v (N .edges) ≡ state N ks (suc r) v
   push-steps ok marks m v h =
       gather-live N ks (λ i. N .usable i && marks (N .edge i .from)) (λ i. N .usable i && fresh N ks r (N .edge i .from)) S v (N .edges) same

@@ -112,6 +112,7 @@ unfoldable pub first : (ℕ → Bool) → ℕ → ℕ → ℕ
 first q zero r = suc r
 first q (suc d) r = elim (q r) [ true ↦ suc r | false ↦ first q d (suc r) ]
 
--- "A run stops after the first round, counted from 1, in which no place changes for any chain." (`rounds-first` and `rounds-bound` say that it is among the 2n.)
+-- "A run stops after the first round, counted from 1, in which no place changes for any chain." (`rounds-first` and `rounds-bound` say that it is among the
+-- 2n.)
 unfoldable pub rounds : ℕ → List (ℕ → State) → ℕ
 rounds n Ss = first (quiet n Ss) (2 * n) zero

@@ -36,5 +36,12 @@ module _ (letter least : ℕ) (s : List ℕ) (e : header-code letter least s ≡
       drop-cons s 0 0 (omega arith)
       ∙ ap (λ (l : List ℕ). getD s 0 0 ∷ l) (drop-cons s 1 0 (omega arith)
       ∙ ap (λ (l : List ℕ). getD s 1 0 ∷ l) (drop-cons s 2 0 (omega arith)
-      ∙ ap (λ (l : List ℕ). getD s 2 0 ∷ l) (drop-cons s 3 0 (omega arith) ∙ ap (λ (l : List ℕ). getD s 3 0 ∷ l) (drop-cons s 4 0 (omega arith)))))
-      ∙ rw (eqb-true (getD s 0 0) 0x4c (a .0), eqb-true (getD s 1 0) 0x50 (b .0), eqb-true (getD s 2 0) letter (c .0), eqb-true (getD s 3 0) 1 (d .0), eqb-true (getD s 4 0) 0 (f .0)) refl
+      ∙ ap (λ (l : List ℕ). getD s 2 0 ∷ l) (drop-cons s 3 0 (omega arith)
+      ∙ ap (λ (l : List ℕ). getD s 3 0 ∷ l) (drop-cons s 4 0 (omega arith)))))
+      ∙ rw (
+        eqb-true (getD s 0 0) 0x4c (a .0),
+        eqb-true (getD s 1 0) 0x50 (b .0),
+        eqb-true (getD s 2 0) letter (c .0),
+        eqb-true (getD s 3 0) 1 (d .0),
+        eqb-true (getD s 4 0) 0 (f .0),
+      ) refl

@@ -17,7 +17,8 @@ sets-append out i (x ∷ xs) ys =
     ∙ sets-append (set out i x) (suc i) xs ys
 
 -- two pieces at the front: they are its first bytes, and the rest is as it was
-pub sets-front : (out xs ys : List ℕ) (n : ℕ) → n ≡ length xs → length (xs ++ ys) ≤ length out → sets (sets out 0 xs) n ys ≡ (xs ++ ys) ++ drop (length (xs ++ ys)) out
+pub sets-front : (out xs ys : List ℕ) (n : ℕ) → n ≡ length xs → length (xs ++ ys) ≤ length out → sets (sets out 0 xs) n ys ≡ (xs ++ ys)
+    ++ drop (length (xs ++ ys)) out
 sets-front out xs ys n e h =
     ap (λ (k : ℕ). sets (sets out 0 xs) k ys) (e ∙ sym (zero-add (length xs)))
     ∙ sets-append out 0 xs ys
@@ -28,7 +29,8 @@ sets-front out xs ys n e h =
 abbrev stored16 : List ℕ → ℕ → ℕ → List ℕ
 stored16 out i x = set (set out i (x % 256)) (i + 1) (x / 256 % 256)
 
-pub four-stored : (out : List ℕ) (i a b c d : ℕ) → stored16 (stored16 (stored16 (stored16 out i a) (i + 2) b) (i + 4) c) (i + 6) d ≡ sets out i (le16 a ++ le16 b ++ le16 c ++ le16 d)
+pub four-stored : (out : List ℕ) (i a b c d : ℕ) → stored16 (stored16 (stored16 (stored16 out i a) (i + 2) b) (i + 4) c) (i + 6) d
+    ≡ sets out i (le16 a ++ le16 b ++ le16 c ++ le16 d)
 four-stored out i a b c d =
     let e2 : i + 2 ≡ suc (suc i) = omega arith in
     let e4 : i + 4 ≡ suc (suc (suc (suc i))) = omega arith in

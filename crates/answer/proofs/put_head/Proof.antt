@@ -21,14 +21,20 @@ put16-requires-3 : tie.Need-put16-requires-3
 put16-requires-3 c κs = let e = c .before .before .before .before .before .before .before .put16 .kept .0 in omega (arith, simp length-set at e)
 
 slice-write-out-4 : tie.Need-slice-write-out-4
-slice-write-out-4 c = let e = c .before .before .before .before .before .before .before .before .before .before .put16 .kept .0 in omega (arith, simp length-set at e)
+slice-write-out-4 c = let e = c .before .before .before .before .before .before .before .before .before .before .put16 .kept .0
+    in omega (arith, simp length-set at e)
 
 same-length : tie.Need-same-length
-same-length c = let e = c .before .before .before .before .before .before .before .before .before .before .put16 .kept .0 in simp length-set (omega (arith, simp length-set at e))
+same-length c = let e = c .before .before .before .before .before .before .before .before .before .before .put16 .kept .0
+    in simp length-set (omega (arith, simp length-set at e))
 
 returns : tie.Need-returns
 returns c =
-    rw (c .before .before .put163 .ensures, c .before .before .before .before .before .before .put162 .ensures, c .before .before .before .before .before .before .before .before .before .before .put16 .ensures)
+    rw (
+      c .before .before .put163 .ensures,
+      c .before .before .before .before .before .before .put162 .ensures,
+      c .before .before .before .before .before .before .before .before .before .before .put16 .ensures,
+    )
 
 pub put-head-spec : {M : Type 1} → statement M
 put-head-spec =

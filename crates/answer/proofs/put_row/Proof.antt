@@ -14,7 +14,11 @@ same-length : tie.Need-same-length
 same-length c = c .before .before .put64 .kept .0 ∙ simp length-set
 
 returns : tie.Need-returns
-returns c = rw (c .before .before .before .before .enum-told .given .1, c .before .before .put64 .ensures, add-one (c .before .before .before .before .before .before .before .args .at))
+returns c = rw (
+  c .before .before .before .before .enum-told .given .1,
+  c .before .before .put64 .ensures,
+  add-one (c .before .before .before .before .before .before .before .args .at),
+)
 
 put64-requires-2 : tie.Need-put64-requires-2
 put64-requires-2 c κs = simp length-set (omega arith)
@@ -23,9 +27,14 @@ same-length-2 : tie.Need-same-length-2
 same-length-2 c = c .before .before .put642 .kept .0 ∙ simp length-set
 
 returns-2 : tie.Need-returns-2
-returns-2 c = rw (c .before .before .before .before .before .v .given .1, c .before .before .put642 .ensures, add-one (c .before .before .before .before .before .before .before .before .args .at))
+returns-2 c = rw (
+  c .before .before .before .before .before .v .given .1,
+  c .before .before .put642 .ensures,
+  add-one (c .before .before .before .before .before .before .before .before .args .at),
+)
 
 pub put-row-spec : {M : Type 1} → statement M
 put-row-spec =
     tie.close
-    (tie.spec (λ c. search needs) (λ c. search needs) (λ c. search needs) (λ c. search needs) put64-requires same-length returns (λ c. search needs) (λ c. search needs) put64-requires-2 same-length-2 returns-2)
+    (tie.spec (λ c. search needs) (λ c. search needs) (λ c. search needs) (λ c. search needs) put64-requires same-length returns (λ c. search needs)
+    (λ c. search needs) put64-requires-2 same-length-2 returns-2)

@@ -18,11 +18,21 @@ returns-3 c = rw (lt-leb _ _ (c .before .before .before .before .if1 .left), lt-
 
 returns-4 : tie.Need-returns-4
 unfolding edge-code
-returns-4 c = rw (lt-leb _ _ (c .before .before .before .before .before .before .if1 .left), lt-leb _ _ (c .before .before .before .before .if2 .left), ne-eqb _ _ (c .before .before .if3 .left), eq-eqb _ 65535 (c .if4 .taken))
+returns-4 c = rw (
+  lt-leb _ _ (c .before .before .before .before .before .before .if1 .left),
+  lt-leb _ _ (c .before .before .before .before .if2 .left),
+  ne-eqb _ _ (c .before .before .if3 .left),
+  eq-eqb _ 65535 (c .if4 .taken),
+)
 
 returns-5 : tie.Need-returns-5
 unfolding edge-code
-returns-5 c = rw (lt-leb _ _ (c .before .before .before .before .before .before .if1 .left), lt-leb _ _ (c .before .before .before .before .if2 .left), ne-eqb _ _ (c .before .before .if3 .left), ne-eqb _ _ (c .if4 .left))
+returns-5 c = rw (
+  lt-leb _ _ (c .before .before .before .before .before .before .if1 .left),
+  lt-leb _ _ (c .before .before .before .before .if2 .left),
+  ne-eqb _ _ (c .before .before .if3 .left),
+  ne-eqb _ _ (c .if4 .left),
+)
 
 pub edge-code-spec : {M : Type 1} → statement M
 edge-code-spec = tie.close (tie.spec returns returns-2 returns-3 returns-4 returns-5)

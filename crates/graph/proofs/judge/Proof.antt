@@ -24,17 +24,41 @@ read16-requires-2 c κs = omega (arith, header-long 0x4d 9 _ (sym (c .before .be
 
 returns-2 : tie.Need-returns-2
 unfolding graph-code
-returns-2 c = rw (← c .before .before .before .before .before .judge-header .ensures, eq-eqb _ _ (c .before .before .before .before .if1 .left), ← c .before .before .before .read16 .ensures, ← c .before .before .read162 .ensures, ← c .before .counts-code .ensures, ne-eqb _ _ (c .if2 .taken))
+returns-2 c = rw (
+  ← c .before .before .before .before .before .judge-header .ensures,
+  eq-eqb _ _ (c .before .before .before .before .if1 .left),
+  ← c .before .before .before .read16 .ensures,
+  ← c .before .before .read162 .ensures,
+  ← c .before .counts-code .ensures,
+  ne-eqb _ _ (c .if2 .taken),
+)
 
 returns-3 : tie.Need-returns-3
 unfolding graph-code
-returns-3 c = rw (← c .before .before .before .before .before .before .judge-header .ensures, eq-eqb _ _ (c .before .before .before .before .before .if1 .left), ← c .before .before .before .before .read16 .ensures, ← c .before .before .before .read162 .ensures, ← c .before .before .counts-code .ensures, eq-eqb _ _ (c .before .if2 .left), ne-eqb _ (9 + 8 * c .before .before .before .read162 .result) (c .if3 .taken))
+returns-3 c = rw (
+  ← c .before .before .before .before .before .before .judge-header .ensures,
+  eq-eqb _ _ (c .before .before .before .before .before .if1 .left),
+  ← c .before .before .before .before .read16 .ensures,
+  ← c .before .before .before .read162 .ensures,
+  ← c .before .before .counts-code .ensures,
+  eq-eqb _ _ (c .before .if2 .left),
+  ne-eqb _ (9 + 8 * c .before .before .before .read162 .result) (c .if3 .taken),
+)
 
 returns-4 : tie.Need-returns-4
 unfolding graph-code
-returns-4 c = rw (← c .before .before .before .before .before .before .before .judge-header .ensures, eq-eqb _ _ (c .before .before .before .before .before .before .if1 .left), ← c .before .before .before .before .before .read16 .ensures, ← c .before .before .before .before .read162 .ensures, ← c .before .before .before .counts-code .ensures, eq-eqb _ _ (c .before .before .if2 .left), eq-eqb _ _ (c .before .if3 .left)) (c .bytes-code .ensures)
+returns-4 c = rw (
+  ← c .before .before .before .before .before .before .before .judge-header .ensures,
+  eq-eqb _ _ (c .before .before .before .before .before .before .if1 .left),
+  ← c .before .before .before .before .before .read16 .ensures,
+  ← c .before .before .before .before .read162 .ensures,
+  ← c .before .before .before .counts-code .ensures,
+  eq-eqb _ _ (c .before .before .if2 .left),
+  eq-eqb _ _ (c .before .if3 .left),
+) (c .bytes-code .ensures)
 
 pub judge-spec : {M : Type 1} → statement M
 judge-spec =
     tie.close
-    (tie.spec (λ c κs. search needs) returns read16-requires read16-requires-2 (λ c κs. search needs) returns-2 (λ c. search needs) (λ c. search needs) (λ c. search needs) returns-3 (λ c κs. search needs) returns-4)
+    (tie.spec (λ c κs. search needs) returns read16-requires read16-requires-2 (λ c κs. search needs) returns-2 (λ c. search needs)
+    (λ c. search needs) (λ c. search needs) returns-3 (λ c κs. search needs) returns-4)

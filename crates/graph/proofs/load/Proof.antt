@@ -45,8 +45,11 @@ loop-again : tie.Need-loop-again Inv-loop μ-loop
 loop-again c =
     let h = accepted _ (c .before .before .before .before .before .pre) in
     let s = c .before .before .before .before .before .args .s .now in
-    let l = c .before .before .loop in
-    (omega arith, rw (l .inv .1, c .edge-at .ensures) (filled-more (edge-in s) (l .i) (omega (arith, h .sizes .few-edges, c .before .before .before .read16 .ensures))))
+    let l = c .before .before .loop in (
+      omega arith,
+      rw (l .inv .1, c .edge-at .ensures)
+          (filled-more (edge-in s) (l .i) (omega (arith, h .sizes .few-edges, c .before .before .before .read16 .ensures))),
+    )
 
 read16-requires-2 : tie.Need-read16-requires-2 Inv-loop μ-loop
 read16-requires-2 c κs = let h = accepted _ (c .before .before .before .before .pre) in omega (arith, h .exact)
@@ -63,4 +66,5 @@ returns c =
 pub load-spec : {M : Type 1} → statement M
 load-spec =
     tie.close
-    (tie.spec Inv-loop μ-loop read16-requires cast-count loop-holds edge-at-requires mul-rows array-set-from-rows add-i loop-less loop-again read16-requires-2 returns)
+    (tie.spec Inv-loop μ-loop read16-requires cast-count loop-holds edge-at-requires mul-rows array-set-from-rows add-i loop-less loop-again
+    read16-requires-2 returns)

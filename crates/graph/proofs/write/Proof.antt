@@ -28,7 +28,8 @@ put-rows-requires : tie.Need-put-rows-requires
 put-rows-requires c κs =
     let a = c .before .before .before .before .before .before .before .before .before .before .args in
     let f = table-fits (a .graph) _ (c .before .before .before .before .before .before .before .before .before .before .good .0) in
-    let z = sym (c .before .before .before .before .before .before .before .before .judge-table .ensures) ∙ c .before .before .before .before .before .before .before .if1 .left in
+    let z = sym (c .before .before .before .before .before .before .before .before .judge-table .ensures)
+    ∙ c .before .before .before .before .before .before .before .if1 .left in
     (table-few (a .graph) f z, omega arith)
 
 returns-3 : tie.Need-returns-3
@@ -36,7 +37,8 @@ returns-3 c =
     let a = c .before .before .before .before .before .before .before .before .before .before .before .before .before .args in
     let g = a .graph in
     let f = table-fits g _ (c .before .before .before .before .before .before .before .before .before .before .before .before .before .good .0) in
-    let z = sym (c .before .before .before .before .before .before .before .before .before .before .before .judge-table .ensures) ∙ c .before .before .before .before .before .before .before .before .before .before .if1 .left in
+    let z = sym (c .before .before .before .before .before .before .before .before .before .before .before .judge-table .ensures)
+    ∙ c .before .before .before .before .before .before .before .before .before .before .if1 .left in
     let e = write-done g f (length (a .out .now)) z (c .before .before .before .before .before .before .before .before .before .if2 .left) in
     let size = table-size g f (table-few g f z) in (
       sym (ap reply-number e ∙ size),
@@ -48,4 +50,5 @@ returns-3 c =
 pub write-spec : {M : Type 1} → statement M
 write-spec =
     tie.close
-    (tie.spec (λ c κs. search needs) (λ c κs. search needs) returns (λ c. search needs) (λ c. search needs) (λ c. search needs) (λ c κs. search needs) returns-2 (λ c κs. search needs) put-rows-requires (λ c. search needs) (λ c. search needs) returns-3)
+    (tie.spec (λ c κs. search needs) (λ c κs. search needs) returns (λ c. search needs) (λ c. search needs) (λ c. search needs)
+    (λ c κs. search needs) returns-2 (λ c κs. search needs) put-rows-requires (λ c. search needs) (λ c. search needs) returns-3)

@@ -52,7 +52,21 @@ returns-11 c = rw (c .before .match .keys11) (c .either-of .ensures)
 
 returns-12 : tie.Need-returns-12
 unfolding compute
-returns-12 c = rw (ne-eqb _ 1 (c .match .rest .0 .0 .0 .0 .0 .0 .0 .0 .0 .0 .1), ne-eqb _ 2 (c .match .rest .0 .0 .0 .0 .0 .0 .0 .0 .0 .1), ne-eqb _ 3 (c .match .rest .0 .0 .0 .0 .0 .0 .0 .0 .1), ne-eqb _ 4 (c .match .rest .0 .0 .0 .0 .0 .0 .0 .1), ne-eqb _ 5 (c .match .rest .0 .0 .0 .0 .0 .0 .1), ne-eqb _ 6 (c .match .rest .0 .0 .0 .0 .0 .1), ne-eqb _ 7 (c .match .rest .0 .0 .0 .0 .1), ne-eqb _ 8 (c .match .rest .0 .0 .0 .1), ne-eqb _ 9 (c .match .rest .0 .0 .1), ne-eqb _ 10 (c .match .rest .0 .1), ne-eqb _ 11 (c .match .rest .1)) refl
+returns-12 c = rw (
+  ne-eqb _ 1 (c .match .rest .0 .0 .0 .0 .0 .0 .0 .0 .0 .0 .1),
+  ne-eqb _ 2 (c .match .rest .0 .0 .0 .0 .0 .0 .0 .0 .0 .1),
+  ne-eqb _ 3 (c .match .rest .0 .0 .0 .0 .0 .0 .0 .0 .1),
+  ne-eqb _ 4 (c .match .rest .0 .0 .0 .0 .0 .0 .0 .1),
+  ne-eqb _ 5 (c .match .rest .0 .0 .0 .0 .0 .0 .1),
+  ne-eqb _ 6 (c .match .rest .0 .0 .0 .0 .0 .1),
+  ne-eqb _ 7 (c .match .rest .0 .0 .0 .0 .1),
+  ne-eqb _ 8 (c .match .rest .0 .0 .0 .1),
+  ne-eqb _ 9 (c .match .rest .0 .0 .1),
+  ne-eqb _ 10 (c .match .rest .0 .1),
+  ne-eqb _ 11 (c .match .rest .1),
+) refl
 
 pub compute-of-spec : {M : Type 1} → statement M
-compute-of-spec = tie.close (tie.spec (λ c κs. search needs) (λ c κs. search needs) (λ c κs. search needs) (λ c κs. search needs) (λ c κs. search needs) (λ c κs. search needs) (λ c κs. search needs) (λ c κs. search needs) (λ c κs. search needs) (λ c κs. search needs) (λ c κs. search needs) returns returns-2 returns-3 returns-4 returns-5 returns-6 returns-7 returns-8 returns-9 returns-10 returns-11 returns-12)
+compute-of-spec = tie.close (tie.spec (λ c κs. search needs) (λ c κs. search needs) (λ c κs. search needs) (λ c κs. search needs)
+    (λ c κs. search needs) (λ c κs. search needs) (λ c κs. search needs) (λ c κs. search needs) (λ c κs. search needs) (λ c κs. search needs)
+    (λ c κs. search needs) returns returns-2 returns-3 returns-4 returns-5 returns-6 returns-7 returns-8 returns-9 returns-10 returns-11 returns-12)

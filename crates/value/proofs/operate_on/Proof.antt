@@ -7,4 +7,5 @@ returns-3 : tie.Need-returns-3
 returns-3 c = rw (c .before .before .before .before .before .a .given .1, c .before .before .b .given .1) (c .compute-of .ensures)
 
 pub operate-on-spec : {M : Type 1} → statement M
-operate-on-spec = tie.close (tie.spec (λ c. search needs) (λ c. search needs) (λ c. search needs) (λ c. search needs) (λ c. search needs) (λ c. search needs) (λ c κs. search needs) returns-3)
+operate-on-spec = tie.close (tie.spec (λ c. search needs) (λ c. search needs) (λ c. search needs) (λ c. search needs) (λ c. search needs)
+    (λ c. search needs) (λ c κs. search needs) returns-3)

@@ -27,8 +27,11 @@ loop-again c =
     let a = c .before .before .before .before .before .args in
     let l = c .before .before .before .loop in
     let blank : Row = record { value = Absent } in
-    let e : c .step-of .result ≡ step (a .reduction) (l .partial) (getD (a .t2) (l .i) blank .value) = c .step-of .ensures in
-    (omega arith, e ∙ ap (λ (p : Partial). step (a .reduction) p (getD (a .t2) (l .i) blank .value)) (l .inv .1) ∙ after-next (a .reduction) (a .t2) (l .i) blank (omega arith))
+    let e : c .step-of .result ≡ step (a .reduction) (l .partial) (getD (a .t2) (l .i) blank .value) = c .step-of .ensures in (
+      omega arith,
+      e ∙ ap (λ (p : Partial). step (a .reduction) p (getD (a .t2) (l .i) blank .value)) (l .inv .1)
+          ∙ after-next (a .reduction) (a .t2) (l .i) blank (omega arith),
+    )
 
 returns : tie.Need-returns Inv-loop μ-loop
 returns c =
@@ -40,4 +43,5 @@ returns c =
 pub reduce-rows-spec : {M : Type 1} → statement M
 reduce-rows-spec =
     tie.close
-    (tie.spec Inv-loop μ-loop (λ c κs. search needs) loop-holds (λ c. search needs) (λ c. search needs) (λ c κs. search needs) (λ c. search needs) (λ c. search needs) loop-again (λ c κs. search needs) returns)
+    (tie.spec Inv-loop μ-loop (λ c κs. search needs) loop-holds (λ c. search needs) (λ c. search needs) (λ c κs. search needs) (λ c. search needs)
+    (λ c. search needs) loop-again (λ c κs. search needs) returns)

@@ -14,10 +14,12 @@ mul-t6 : tie.Need-mul-t6
 mul-t6 c = record { fits = product-fits (c .before .before .args .x) (c .before .before .args .y) (c .before .if1 .left) (c .if2 .taken) }
 
 returns-2 : tie.Need-returns-2
-returns-2 c = number-fits (c .before .before .args .x * c .before .before .args .y) (product-fits (c .before .before .args .x) (c .before .before .args .y) (c .before .if1 .left) (c .if2 .taken))
+returns-2 c = number-fits (c .before .before .args .x * c .before .before .args .y)
+    (product-fits (c .before .before .args .x) (c .before .before .args .y) (c .before .if1 .left) (c .if2 .taken))
 
 returns-3 : tie.Need-returns-3
-returns-3 c = number-large (c .before .before .args .x * c .before .before .args .y) (product-large (c .before .before .args .x) (c .before .before .args .y) (c .before .if1 .left) (c .if2 .left))
+returns-3 c = number-large (c .before .before .args .x * c .before .before .args .y)
+    (product-large (c .before .before .args .x) (c .before .before .args .y) (c .before .if1 .left) (c .if2 .left))
 
 pub times-spec : {M : Type 1} → statement M
 times-spec = tie.close (tie.spec returns (λ c. search needs) mul-t6 returns-2 returns-3)

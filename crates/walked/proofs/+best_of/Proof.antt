@@ -115,12 +115,18 @@ best-of-loop-again-2 t c =
     let l = c .before .before .before .before .before .before .before .before .before .loop in
     let rows = a .rows .now in
     let m : c .before .longer .result ≡ longer (a .w) (getD rows (4 * l .i) 0) (getD rows (4 * l .i + 2) 0) (getD rows (4 * l .i + 3) 0) =
-    c .before .longer .ensures .0 ∙ rw (c .before .before .before .before .number2 .ensures, c .before .before .before .number3 .ensures, c .before .before .number4 .ensures) in (
+    c .before .longer .ensures .0 ∙ rw (
+      c .before .before .before .before .number2 .ensures,
+      c .before .before .before .number3 .ensures,
+      c .before .before .number4 .ensures,
+    ) in (
       search needs,
       c .best-of .ensures
           ∙ ap (λ (w : Walk). foldl (judged (a .k)) (l .best) (walks rows (a .left - 1) w)) m
-          ∙ ap (λ (b : Value). foldl (judged (a .k)) b (walks rows (a .left - 1) (longer (a .w) (getD rows (4 * l .i) 0) (getD rows (4 * l .i + 2) 0) (getD rows (4 * l .i + 3) 0)))) (l .inv .1)
-          ∙ over-next rows (a .k) (a .w) (a .left - 1) _ (l .i) (sym (c .before .before .before .before .before .before .before .number .ensures) ∙ c .before .before .before .before .before .if2 .left),
+          ∙ ap (λ (b : Value). foldl (judged (a .k)) b
+          (walks rows (a .left - 1) (longer (a .w) (getD rows (4 * l .i) 0) (getD rows (4 * l .i + 2) 0) (getD rows (4 * l .i + 3) 0)))) (l .inv .1)
+          ∙ over-next rows (a .k) (a .w) (a .left - 1) _ (l .i) (sym (c .before .before .before .before .before .before .before .number .ensures)
+          ∙ c .before .before .before .before .before .if2 .left),
     )
 
 best-of-returns-2 : (t : ℕ) → best-of-lts.Need-returns-2 (claims t) (best-of-at t) best-of.Post best-of-Inv-loop best-of-μ-loop

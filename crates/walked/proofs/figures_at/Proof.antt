@@ -59,7 +59,8 @@ returns c =
     let n = c .before .before .before .before .before .before .before .least in
     let fits = keys-fit (a .path) _ (c .before .before .before .before .before .before .before .before .before .good .1 .0) in
     let ws = walks-to (a .rows .now) (a .path .source) (a .vertex) (a .most) in
-    let b = sym (found-best (a .rows .now) (a .path) (a .vertex) (a .most) (l .best) (l .i) _ _ (c .before .before .before .least2 .ensures) (c .before .before .before .before .standing .ensures)) ∙ sym (c .before .before .best-of .ensures) in
+    let b = sym (found-best (a .rows .now) (a .path) (a .vertex) (a .most) (l .best) (l .i) _ _ (c .before .before .before .least2 .ensures)
+    (c .before .before .before .before .standing .ensures)) ∙ sym (c .before .before .best-of .ensures) in
     sym (goes-none (a .path .keys) (n .result) ws (l .best) (l .i) (omega arith) (omega (arith, n .ensures)) (b ∙ c .enum-told .given .1)) ∙ l .inv .2
 
 mul-best : tie.Need-mul-best Inv-loop μ-loop
@@ -81,17 +82,20 @@ loop-again c =
     let n = c .before .before .before .before .before .before .before .before .least in
     let fits = keys-fit (a .path) _ (c .before .before .before .before .before .before .before .before .before .before .good .1 .0) in
     let ws = walks-to (a .rows .now) (a .path .source) (a .vertex) (a .most) in
-    let b = sym (found-best (a .rows .now) (a .path) (a .vertex) (a .most) (l .best) (l .i) _ _ (c .before .before .before .before .least2 .ensures) (c .before .before .before .before .before .standing .ensures)) ∙ sym (c .before .before .before .best-of .ensures) in (
+    let b = sym (found-best (a .rows .now) (a .path) (a .vertex) (a .most) (l .best) (l .i) _ _ (c .before .before .before .before .least2 .ensures)
+    (c .before .before .before .before .before .standing .ensures)) ∙ sym (c .before .before .before .best-of .ensures) in (
       search needs,
       length-set (l .best) (l .i) _ ∙ l .inv .1,
-      sym (goes-next (a .path .keys) (n .result) ws (l .best) (l .i) (omega arith) (omega (arith, n .ensures)) _ (omega arith) (b ∙ c .before .found .given .1)) ∙ l .inv .2,
+      sym (goes-next (a .path .keys) (n .result) ws (l .best) (l .i) (omega arith) (omega (arith, n .ensures)) _ (omega arith) (b
+          ∙ c .before .found .given .1)) ∙ l .inv .2,
     )
 
 returns-2 : tie.Need-returns-2 Inv-loop μ-loop
 returns-2 c =
     let a = c .before .before .before .before .args in
     let l = c .before .loop in
-    sym (goes-last (a .path .keys) (c .before .before .least .result) (walks-to (a .rows .now) (a .path .source) (a .vertex) (a .most)) (l .best) (l .i) (omega arith)) ∙ l .inv .2
+    sym (goes-last (a .path .keys) (c .before .before .least .result) (walks-to (a .rows .now) (a .path .source) (a .vertex) (a .most)) (l .best) (l .i)
+    (omega arith)) ∙ l .inv .2
 
 pub figures-at-spec : {M : Type 1} → statement M
 figures-at-spec =

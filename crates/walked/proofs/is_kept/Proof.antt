@@ -33,7 +33,8 @@ array-read-if1 c = search needs
 returns : tie.Need-returns Inv-loop μ-loop
 returns c =
     let a = c .before .before .before .before .before .before .before .args in
-    sym (agrees-not (a .k .path .keys) (a .k .best) (a .w) (c .before .before .before .loop .i) (a .k .passed) (omega arith) (λ e. c .if1 .taken (c .before .figure-of .ensures ∙ e)))
+    sym (agrees-not (a .k .path .keys) (a .k .best) (a .w) (c .before .before .before .loop .i) (a .k .passed) (omega arith)
+    (λ e. c .if1 .taken (c .before .figure-of .ensures ∙ e)))
 
 add-i : tie.Need-add-i Inv-loop μ-loop
 add-i c = search needs

@@ -21,7 +21,13 @@ better-requires c κs = search needs
 
 returns : tie.Need-returns
 unfolding judged
-returns c = rw (← c .before .before .before .before .before .may-start .ensures, c .before .before .before .before .if1 .taken, ← c .before .before .before .is-kept .ensures, c .before .before .if2 .taken, ← c .before .figure-of .ensures) (c .better .ensures)
+returns c = rw (
+  ← c .before .before .before .before .before .may-start .ensures,
+  c .before .before .before .before .if1 .taken,
+  ← c .before .before .before .is-kept .ensures,
+  c .before .before .if2 .taken,
+  ← c .before .figure-of .ensures,
+) (c .better .ensures)
 
 returns-2 : tie.Need-returns-2
 unfolding judged

@@ -43,14 +43,18 @@ loop-again : tie.Need-loop-again Inv-loop μ-loop
 loop-again c =
     let a = c .before .before .before .before .before .before .before .before .args in
     let v = c .before .before .before .before .before .loop .v in
-    let e = same-few (a .rows .now) (a .path) (a .before) (c .before .before .before .before .before .before .least .result) v _ _ (c .before .before .before .before .before .before .least .ensures) (c .before .before .before .figures-at .ensures) (c .before .before .figures-at2 .ensures) in
+    let e = same-few (a .rows .now) (a .path) (a .before) (c .before .before .before .before .before .before .least .result) v _ _
+    (c .before .before .before .before .before .before .least .ensures) (c .before .before .before .figures-at .ensures)
+    (c .before .before .figures-at2 .ensures) in
     (search needs, unchanged-next _ _ _ v (c .before .before .before .before .before .loop .inv .1) (sym (c .before .same .ensures ∙ e) ∙ c .if1 .taken))
 
 returns : tie.Need-returns Inv-loop μ-loop
 returns c =
     let a = c .before .before .before .before .before .before .before .before .args in
     let v = c .before .before .before .before .before .loop .v in
-    let e = same-few (a .rows .now) (a .path) (a .before) (c .before .before .before .before .before .before .least .result) v _ _ (c .before .before .before .before .before .before .least .ensures) (c .before .before .before .figures-at .ensures) (c .before .before .figures-at2 .ensures) in
+    let e = same-few (a .rows .now) (a .path) (a .before) (c .before .before .before .before .before .before .least .result) v _ _
+    (c .before .before .before .before .before .before .least .ensures) (c .before .before .before .figures-at .ensures)
+    (c .before .before .figures-at2 .ensures) in
     sym (unchanged-not (a .rows .now) (a .path) (a .before) v (a .n) (omega arith) (sym (c .before .same .ensures ∙ e) ∙ c .if1 .left))
 
 returns-2 : tie.Need-returns-2 Inv-loop μ-loop

@@ -23,19 +23,25 @@ array-read-t14 c = search needs
 returns : tie.Need-returns
 returns c =
     let a = c .before .before .before .before .before .before .args in
-    let e = value-padded (a .rows .now) (a .path) (a .vertex) (a .most) (c .before .before .least .result) (c .before .before .before .before .figures-at .result) (keys-fit (a .path) _ (c .before .before .before .before .before .before .good .1 .0)) (c .before .before .least .ensures) (c .before .before .before .before .figures-at .ensures) in
+    let e = value-padded (a .rows .now) (a .path) (a .vertex) (a .most) (c .before .before .least .result)
+    (c .before .before .before .before .figures-at .result) (keys-fit (a .path) _ (c .before .before .before .before .before .before .good .1 .0))
+    (c .before .before .least .ensures) (c .before .before .before .before .figures-at .ensures) in
     rw (c .before .if1 .taken, lt-ltb _ _ (c .if2 .taken)) at e
 
 returns-2 : tie.Need-returns-2
 returns-2 c =
     let a = c .before .before .before .before .before .before .args in
-    let e = value-padded (a .rows .now) (a .path) (a .vertex) (a .most) (c .before .before .least .result) (c .before .before .before .before .figures-at .result) (keys-fit (a .path) _ (c .before .before .before .before .before .before .good .1 .0)) (c .before .before .least .ensures) (c .before .before .before .before .figures-at .ensures) in
+    let e = value-padded (a .rows .now) (a .path) (a .vertex) (a .most) (c .before .before .least .result)
+    (c .before .before .before .before .figures-at .result) (keys-fit (a .path) _ (c .before .before .before .before .before .before .good .1 .0))
+    (c .before .before .least .ensures) (c .before .before .before .before .figures-at .ensures) in
     rw (c .before .if1 .taken, le-ltb _ _ (c .if2 .left)) at e
 
 returns-3 : tie.Need-returns-3
 returns-3 c =
     let a = c .before .before .before .before .before .args in
-    let e = value-padded (a .rows .now) (a .path) (a .vertex) (a .most) (c .before .least .result) (c .before .before .before .figures-at .result) (keys-fit (a .path) _ (c .before .before .before .before .before .good .1 .0)) (c .before .least .ensures) (c .before .before .before .figures-at .ensures) in
+    let e = value-padded (a .rows .now) (a .path) (a .vertex) (a .most) (c .before .least .result) (c .before .before .before .figures-at .result)
+    (keys-fit (a .path) _ (c .before .before .before .before .before .good .1 .0)) (c .before .least .ensures)
+    (c .before .before .before .figures-at .ensures) in
     rw (c .if1 .left) at e
 
 pub value-at-spec : {M : Type 1} → statement M

@@ -20,23 +20,57 @@ returns-3 c = rw (le-ltb _ _ (c .before .before .before .if1 .left), le-ltb _ _ 
 
 returns-4 : tie.Need-returns-4
 unfolding header-code
-returns-4 c = rw (le-ltb _ _ (c .before .before .before .before .before .if1 .left), le-ltb _ _ (c .before .before .before .before .if2 .left), eq-eqb _ _ (c .before .before .if3 .left), ne-eqb _ _ (c .if4 .taken))
+returns-4 c = rw (
+  le-ltb _ _ (c .before .before .before .before .before .if1 .left),
+  le-ltb _ _ (c .before .before .before .before .if2 .left),
+  eq-eqb _ _ (c .before .before .if3 .left),
+  ne-eqb _ _ (c .if4 .taken),
+)
 
 returns-5 : tie.Need-returns-5
 unfolding header-code
-returns-5 c = rw (le-ltb _ _ (c .before .before .before .before .before .before .before .if1 .left), le-ltb _ _ (c .before .before .before .before .before .before .if2 .left), eq-eqb _ _ (c .before .before .before .before .if3 .left), eq-eqb _ _ (c .before .before .if4 .left), ne-eqb _ _ (c .if5 .taken))
+returns-5 c = rw (
+  le-ltb _ _ (c .before .before .before .before .before .before .before .if1 .left),
+  le-ltb _ _ (c .before .before .before .before .before .before .if2 .left),
+  eq-eqb _ _ (c .before .before .before .before .if3 .left),
+  eq-eqb _ _ (c .before .before .if4 .left),
+  ne-eqb _ _ (c .if5 .taken),
+)
 
 returns-6 : tie.Need-returns-6
 unfolding header-code
-returns-6 c = rw (le-ltb _ _ (c .before .before .before .before .before .before .before .before .before .if1 .left), le-ltb _ _ (c .before .before .before .before .before .before .before .before .if2 .left), eq-eqb _ _ (c .before .before .before .before .before .before .if3 .left), eq-eqb _ _ (c .before .before .before .before .if4 .left), eq-eqb _ _ (c .before .before .if5 .left), ne-eqb _ 1 (c .if6 .taken))
+returns-6 c = rw (
+  le-ltb _ _ (c .before .before .before .before .before .before .before .before .before .if1 .left),
+  le-ltb _ _ (c .before .before .before .before .before .before .before .before .if2 .left),
+  eq-eqb _ _ (c .before .before .before .before .before .before .if3 .left),
+  eq-eqb _ _ (c .before .before .before .before .if4 .left),
+  eq-eqb _ _ (c .before .before .if5 .left),
+  ne-eqb _ 1 (c .if6 .taken),
+)
 
 returns-7 : tie.Need-returns-7
 unfolding header-code
-returns-7 c = rw (le-ltb _ _ (c .before .before .before .before .before .before .before .before .before .before .before .if1 .left), le-ltb _ _ (c .before .before .before .before .before .before .before .before .before .before .if2 .left), eq-eqb _ _ (c .before .before .before .before .before .before .before .before .if3 .left), eq-eqb _ _ (c .before .before .before .before .before .before .if4 .left), eq-eqb _ _ (c .before .before .before .before .if5 .left), eq-eqb _ _ (c .before .before .if6 .left), ne-eqb _ _ (c .if7 .taken))
+returns-7 c = rw (
+  le-ltb _ _ (c .before .before .before .before .before .before .before .before .before .before .before .if1 .left),
+  le-ltb _ _ (c .before .before .before .before .before .before .before .before .before .before .if2 .left),
+  eq-eqb _ _ (c .before .before .before .before .before .before .before .before .if3 .left),
+  eq-eqb _ _ (c .before .before .before .before .before .before .if4 .left),
+  eq-eqb _ _ (c .before .before .before .before .if5 .left),
+  eq-eqb _ _ (c .before .before .if6 .left),
+  ne-eqb _ _ (c .if7 .taken),
+)
 
 returns-8 : tie.Need-returns-8
 unfolding header-code
-returns-8 c = rw (le-ltb _ _ (c .before .before .before .before .before .before .before .before .before .before .before .if1 .left), le-ltb _ _ (c .before .before .before .before .before .before .before .before .before .before .if2 .left), eq-eqb _ _ (c .before .before .before .before .before .before .before .before .if3 .left), eq-eqb _ _ (c .before .before .before .before .before .before .if4 .left), eq-eqb _ _ (c .before .before .before .before .if5 .left), eq-eqb _ _ (c .before .before .if6 .left), eq-eqb _ _ (c .if7 .left)) refl
+returns-8 c = rw (
+  le-ltb _ _ (c .before .before .before .before .before .before .before .before .before .before .before .if1 .left),
+  le-ltb _ _ (c .before .before .before .before .before .before .before .before .before .before .if2 .left),
+  eq-eqb _ _ (c .before .before .before .before .before .before .before .before .if3 .left),
+  eq-eqb _ _ (c .before .before .before .before .before .before .if4 .left),
+  eq-eqb _ _ (c .before .before .before .before .if5 .left),
+  eq-eqb _ _ (c .before .before .if6 .left),
+  eq-eqb _ _ (c .if7 .left),
+) refl
 
 pub judge-header-spec : {M : Type 1} → statement M
 judge-header-spec =

@@ -26,8 +26,11 @@ returns-2 : tie.Need-returns-2
 returns-2 c =
     let a = c .before .before .before .before .before .before .before .before .before .args in
     let l = c .before .before .before .before .before .before .lesser in
-    let h = c .before .before .before .before .before .if1 .left in
-    (laid-number (a .src .now) (a .n) (l .result) (l .ensures .0) (a .out .now) h, c .before .before .copy .ensures .1 ∙ laid-buffer (a .src .now) (a .n) (l .result) (l .ensures .0) (a .out .now) h)
+    let h = c .before .before .before .before .before .if1 .left in (
+      laid-number (a .src .now) (a .n) (l .result) (l .ensures .0) (a .out .now) h,
+      c .before .before .copy .ensures .1
+          ∙ laid-buffer (a .src .now) (a .n) (l .result) (l .ensures .0) (a .out .now) h,
+    )
 
 pub lay-spec : {M : Type 1} → statement M
 lay-spec = tie.close (tie.spec (λ c κs. search needs) returns slice-aggregate-copy copy-requires (λ c. search needs) (λ c. search needs) returns-2)

@@ -3,3 +3,4 @@ pub mod PathRows
 pub mod Expressions
 pub mod Exact
 pub mod Unique
+pub mod Tree

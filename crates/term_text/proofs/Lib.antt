@@ -5,3 +5,4 @@ pub mod Shape
 pub mod Exact
 pub mod Ends
 pub mod Unique
+pub mod Tree

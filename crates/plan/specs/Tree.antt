@@ -1,0 +1,32 @@
+-- THE PLAN THAT ACCEPTED BYTES WRITE: of every legal plan's encoding it is the plan (`plan-back`, proofs/Tree).
+use Prim.Native.Nat.{ℕ, _+_}
+use mathlib.Core.Bool.{true, false}
+use mathlib.Core.List.{List}
+use lib.Dec.{eqb}
+use lib.ListN.{getD, take, drop}
+use Rattle.meaning.specs.Plan.{Body, Plan, each-vertex, one-result}
+use Rattle.meaning.specs.Query.{PathReduction, VertexReduction}
+use Rattle.term_text.specs.Tree.{Reader, expression-of, several-of}
+use Rattle.wire.specs.Wire.{at16}
+
+-- "key count, three key bytes with unused ones 0, 16-bit start"
+unfoldable pub listed-path : Reader PathReduction
+listed-path s i = record { tree = record { keys = take (getD s i 0) (drop (i + 1) s); source = at16 s (i + 4) }; end = i + 6 }
+
+-- "a reduction byte and an expression"
+unfoldable pub entry-of : Reader (VertexReduction ℕ)
+entry-of s i = let t = expression-of 0x11 s (i + 1) in record { tree = record { reduction = getD s i 0; body = t .tree }; end = t .end }
+
+-- "entry count e; e entries ..; for kind 1 a final expression"; "Kind 0 has e = 1 and reduction byte 0"
+unfoldable pub body-of : (kind : ℕ) → List ℕ → ℕ → Body
+body-of kind s i =
+    elim (eqb kind 0) [
+      | true ↦ each-vertex (expression-of 0x11 s (i + 2) .tree)
+      | false ↦ let es = several-of entry-of (getD s i 0) s (i + 1) in one-result (es .tree) (expression-of 0x21 s (es .end) .tree)
+    ]
+
+-- "kind byte; chain count c (0 to 8) and c chains of 6 bytes", behind the five bytes of the header
+unfoldable pub plan-of : List ℕ → Plan
+plan-of s =
+    let cs = several-of listed-path (getD s 6 0) s 7 in
+    record { paths = cs .tree; body = body-of (getD s 5 0) s (cs .end) }

@@ -1,0 +1,28 @@
+-- THE ENCODING OF A LEGAL QUERY GIVES BACK THE QUERY, AND ACCEPTED BYTES ARE THE ENCODING OF THE QUERY THAT THEY GIVE. Assumes nothing.
+use Prim.Native.Nat.{ℕ}
+use mathlib.Core.Path.{_≡_, sym, ap, _∙_, subst}
+use mathlib.Core.List.{List, [], append-nil}
+use Rattle.meaning.specs.Limits.{QueryLegal}
+use Rattle.meaning.specs.Query.{Query, ResultTerm, VertexTerm, each, single}
+use Rattle.term_text.specs.Text.{result-bytes, vertex-bytes}
+use Rattle.term_text.specs.Tree.{Read}
+use Rattle.term_text.proofs.Tree.{result-back, vertex-back}
+use Rattle.wire.specs.Wire.{Bytes}
+use Rattle.query.specs.Query.{encode, query-code}
+use Rattle.query.specs.Tree.{query-of}
+use Rattle.query.proofs.Exact.{read-sound}
+
+-- THE QUERY IS GIVEN BACK
+pub query-back : (q : Query) → QueryLegal 256 q → query-of (encode q) ≡ q
+unfolding query-of
+query-back (each t) l =
+    ap (λ (r : Read VertexTerm). each (r .tree)) (vertex-back (encode (each t)) t (l .legal) (l .shallow) 6 [] (sym (append-nil (vertex-bytes t))))
+query-back (single t) l =
+    ap (λ (r : Read ResultTerm). single (r .tree)) (result-back (encode (single t)) t (l .legal) (l .shallow) 6 [] (sym (append-nil (result-bytes t))))
+
+-- WHAT ACCEPTED BYTES GIVE IS LEGAL, AND THEY ARE ITS ENCODING
+pub query-read : (s : List ℕ) → Bytes s → query-code s ≡ 0 → QueryLegal 256 (query-of s) × (encode (query-of s) ≡ s)
+query-read s b z =
+    let f = read-sound s b z in
+    let e : f .0 ≡ query-of s = sym (query-back (f .0) (f .1)) ∙ ap query-of (f .2) in
+    (subst (QueryLegal 256) e (f .1), ap encode (sym e) ∙ f .2)

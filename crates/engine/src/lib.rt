@@ -2,12 +2,12 @@
 use progress::Progress;
 ghost use mathlib.Core.Path.{_≡_};
 ghost use mathlib.Core.List.{map};
-ghost use Prim.Native.Nat.{_≤_};
+ghost use Prim.Native.Nat.{_≤_, _<_};
 ghost use lib.ListN.{length, take};
-ghost use Rattle.graph.specs.Graph.{graph-code};
+ghost use Rattle.plan.specs.Plan.{plan-scan};
 ghost use Rattle.wire.specs.Wire.{at16, Returned};
-ghost use Rattle.engine.specs.Run.{path-of, outside-code, sources-code, run-reply};
-ghost use Rattle.engine.specs.Steps.{run-code, limit-of, count-of, finished};
+ghost use Rattle.engine.specs.Run.{outside-code, sources-code, run-reply};
+ghost use Rattle.engine.specs.Steps.{path-of, run-code, most-of, reported-of};
 
 // How long a run goes on: to the first quiet round, or for a given number of rounds.
 pub enum Limit {
@@ -70,38 +70,30 @@ fn judge(w: Progress, graph: &[u8]) -> u8
 }
 
 // At most so many rounds are done: as many as are given, or 2n.
-fn most(given: bool, limit: u16, n: u16) -> u16
+fn most(limit: Limit, n: u16) -> u16
     requires { ⌜ n ≤ 256 ⌝ }
-    ensures { λ r. ⌜ r ≡ limit-of given limit n ⌝ }
+    ensures { λ r. ⌜ (r ≡ most-of limit n) × (r < 65536) ⌝ }
 {
-    if given {
-        return limit;
+    match limit {
+        Limit::Quiet => 2 * n,
+        Limit::Rounds(r) => r,
     }
-    2 * n
 }
 
 // So many are reported.
-fn reported(given: bool, limit: u16, count: u16) -> u16
-    ensures { λ r. ⌜ r ≡ count-of given limit count ⌝ }
+fn reported(limit: Limit, done: u16) -> u16
+    ensures { λ r. ⌜ r ≡ reported-of limit done ⌝ }
 {
-    if given {
-        return limit;
+    match limit {
+        Limit::Quiet => done,
+        Limit::Rounds(r) => r,
     }
-    count
 }
 
-// 15, the rounds, the rows, the answer.
-fn finish(
-    push: bool,
-    given: bool,
-    limit: u16,
-    plan: &[u8],
-    w: Progress,
-    graph: &[u8],
-    out: &mut [u8],
-) -> u32
-    requires { ⌜ graph-code (now graph) ≡ 0 ⌝ }
-    ensures { λ r. ⌜ Returned (finished push given limit (now (plan .entry)) w (now (graph .entry)) (length (now (out .entry)))) r (now (out .entry)) (now (out .exit)) ⌝ }
+// What follows where nothing is refused before 15: 15, the rounds, the rows, the answer.
+fn finish(push: bool, limit: Limit, plan: &[u8], w: Progress, graph: &[u8], out: &mut [u8]) -> u32
+    requires { ⌜ (w ≡ plan-scan (now plan)) × (run-code w (now graph) ≡ 0) ⌝ }
+    ensures { λ r. ⌜ Returned (run-reply limit (now (plan .entry)) (now (graph .entry)) (length (now (out .entry)))) r (now (out .entry)) (now (out .exit)) ⌝ }
 {
     let n = vertices(graph);
     let kind = wire::byte(plan, 5);
@@ -112,18 +104,12 @@ fn finish(
     let paths = wire::lesser(w.paths, 8);
     let table = w.table;
     let mut figures = [0u32; 8192];
-    let count = rounds::run(
-        push,
-        graph,
-        paths,
-        table,
-        most(given, limit, n),
-        &mut figures,
-    );
+    let done = rounds::run(push, graph, paths, table, most(limit, n), &mut figures);
     let list = rows::body_rows(plan, &figures, paths, n as usize);
-    answer::write(n, reported(given, limit, count), kind, list, out)
+    answer::write(n, reported(limit, done), kind, list, out)
 }
 
+// A run by push or by pull: the worksheet and the map are judged, then it goes on.
 fn run(push: bool, plan: &[u8], graph: &[u8], limit: Limit, out: &mut [u8]) -> u32
     ensures { λ r. ⌜ Returned (run-reply limit (now (plan .entry)) (now (graph .entry)) (length (now (out .entry)))) r (now (out .entry)) (now (out .exit)) ⌝ }
 {
@@ -132,10 +118,7 @@ fn run(push: bool, plan: &[u8], graph: &[u8], limit: Limit, out: &mut [u8]) -> u
     if code != 0 {
         return 65536 + code as u32;
     }
-    match limit {
-        Limit::Quiet => finish(push, false, 0, plan, w, graph, out),
-        Limit::Rounds(r) => finish(push, true, r, plan, w, graph, out),
-    }
+    finish(push, limit, plan, w, graph, out)
 }
 
 // The run by pull.

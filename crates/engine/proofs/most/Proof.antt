@@ -1,11 +1,12 @@
 -- `engine::most` meets its contract. Assumes nothing.
 use mathlib.Core.Path.{refl}
+use native.Mathlib.Omega.{arith}
 use borrow.Author.Needs.{needs}
 use Rattle.engine.proofs.most.Statement.{statement}
 use Rattle.engine.proofs.most.Tie as tie
 
-returns-2 : tie.Need-returns-2
-returns-2 c = rw (c .if1 .left) refl
+returns : tie.Need-returns
+returns c = (rw (c .enum-told .given .1) refl, omega arith)
 
 pub most-spec : {M : Type 1} → statement M
-most-spec = tie.close (tie.spec (λ c. search needs) (λ c. search needs) returns-2)
+most-spec = tie.close (tie.spec (λ c. search needs) (λ c. search needs) (λ c. search needs) returns (λ c. search needs))

@@ -8,7 +8,7 @@ use borrow.Author.Tests.{lt-leb}
 use lib.ListN.{length, take, length-set, length-replicate, length-append}
 use lib.Seq.{append-snoc, take-suc-set}
 use Rattle.draft.specs.declared.Draft.{Draft}
-use Rattle.draft.specs.Draft.{empty-draft, put-byte, put-list}
+use Rattle.draft.specs.Steps.{empty-draft, put-byte, put-list}
 
 -- two pieces are put one after the other
 pub put-append : (a b : List ℕ) (d : Draft) → put-list d (a ++ b) ≡ put-list (put-list d a) b

@@ -9,7 +9,8 @@ use lib.ListN.{length, getD, take, drop, length-append, length-take}
 use lib.Seq.{take-all, drop-cons}
 use Rattle.wire.specs.Wire.{fitted, unless}
 use Rattle.draft.specs.declared.Draft.{Draft}
-use Rattle.draft.specs.Draft.{put-list, texts}
+use Rattle.draft.specs.Steps.{put-list}
+use Rattle.draft.specs.Texts.{texts}
 use Rattle.draft.proofs.Drafts.{put-append}
 
 -- the first of them, where the count is cut to what there is

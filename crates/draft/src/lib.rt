@@ -3,8 +3,8 @@ ghost use mathlib.Core.Path.{_≡_};
 ghost use mathlib.Core.List.{_∷_, []};
 ghost use lib.ListN.{length, take};
 ghost use Rattle.wire.specs.Header.{header-bytes};
-ghost use Rattle.wire.specs.Wire.{le16, fitted, reply-number, reply-buffer, unless};
-ghost use Rattle.draft.specs.Draft.{empty-draft, put-byte, put-list};
+ghost use Rattle.wire.specs.Wire.{Returned, fitted, le16, unless};
+ghost use Rattle.draft.specs.Steps.{empty-draft, put-byte, put-list};
 
 // Bytes to be written: the first `len` of `bytes`.
 pub struct Draft {
@@ -66,7 +66,7 @@ pub fn front(s: &[u8], len: usize) -> &[u8]
 
 // The end of a writer by draft: refuses by the number that its bytes were judged by, or lays the first `len` of them.
 pub fn deliver(bytes: [u8; 576], len: usize, code: u8, out: &mut [u8]) -> u32
-    ensures { λ r. ⌜ (r ≡ reply-number (unless code (fitted (take len bytes) (length (now (out .entry)))))) × (now (out .exit) ≡ reply-buffer (unless code (fitted (take len bytes) (length (now (out .entry))))) (now (out .entry))) ⌝ }
+    ensures { λ r. ⌜ Returned (unless code (fitted (take len bytes) (length (now (out .entry))))) r (now (out .entry)) (now (out .exit)) ⌝ }
 {
     if code != 0 {
         return 65536 + code as u32;

@@ -7,7 +7,7 @@ use types.Run.{OneOf, miss}
 use Rattle.nodes.proofs.Term.{the-type}
 use Rattle.nodes.specs.declared.Term.{Term}
 use Rattle.nodes.specs.declared.Term.the-variants.{Apply, Empty, Entry, EntryIndex, Literal, Path, PathIndex, Reduce, ResultApply, ResultLiteral}
-use Rattle.fusion.specs.Fusion.{entry-term, final-term, reduces, size}
+use Rattle.fusion.specs.Steps.{entry-term, final-term, reduces, size}
 
 -- it is one of the variants with these numbers
 abbrev Among : List ℕ → Term → Type 0

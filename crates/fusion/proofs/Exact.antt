@@ -1,19 +1,20 @@
 -- THE REPLY TO A LEGAL QUERY IS THE ENCODING OF ITS FUSED TREE. Assumes nothing.
-use Prim.Native.Nat.{ℕ, _+_, _-_, _≤_}
-use mathlib.Core.Path.{_≡_, refl, sym, ap, _∙_, subst}
+use Prim.Native.Nat.{ℕ, _+_, _-_, _≤_, _<_, min}
+use mathlib.Core.Path.{_≡_, refl, ap, _∙_, subst}
+use mathlib.Core.Bool.{Bool, true, false}
 use mathlib.Core.List.{List, [], _∷_, _++_, map, append-nil}
 use native.Mathlib.Omega.{arith}
-use borrow.Author.Tests.{le-ltb}
-use lib.Dec.{T}
+use borrow.Author.Tests.{eqb-true, le-ltb, ne-eqb}
+use lib.Dec.{T, eqb, ltb}
 use lib.ListN.{length, take, replicate, length-append, length-map, length-replicate}
-use Rattle.meaning.specs.Limits.{PlanLegal, QueryLegal, plan-terms, query-reductions, query-terms}
+use Rattle.meaning.specs.Limits.{PlanLegal, QueryLegal, query-reductions, query-terms}
 use Rattle.meaning.specs.Plan.{Plan, among, entry, enumerate, fuse, position, put-all, rename}
 use Rattle.meaning.specs.Query.{Query, bodies, each, leaves, single}
 use Rattle.meaning.proofs.Limits.{fuse-legal}
 use Rattle.meaning.proofs.Paths.{put-all-has}
 use Rattle.nodes.specs.declared.Node.{Node}
 use Rattle.nodes.specs.declared.Term.the-variants.{Empty, Entry}
-use Rattle.nodes.specs.Nodes.{node, padded}
+use Rattle.nodes.specs.Nodes.{node}
 use Rattle.nodes.specs.Text.{nodes-text}
 use Rattle.nodes.specs.Tree.{entry-nodes, final-nodes, result-nodes, vertex-nodes}
 use Rattle.nodes.proofs.Exact.{result-size, vertex-size}
@@ -23,21 +24,24 @@ use Rattle.plan.specs.Plan.{plan-code}
 use Rattle.plan.specs.Text as plan
 use Rattle.plan.proofs.Exact as reader
 use Rattle.plan_form.specs.declared.Form.{Form}
-use Rattle.plan_form.specs.Form.{FormOf, body-nodes, entries-nodes, form-bytes, rows-text, write-reply}
+use Rattle.plan_form.specs.Form.{body-nodes, entries-nodes, form-bytes, rows-text, write-reply}
+use Rattle.plan_form.specs.Form as plan-form
 use Rattle.plan_form.proofs.Exact.{body-size, few-entries, write-form}
 use Rattle.plan_form.proofs.Written.{rows-short}
 use Rattle.query.specs.Query.{encode, query-code}
-use Rattle.query.proofs.Exact.{read-sound}
+use Rattle.query.specs.Tree.{query-of}
+use Rattle.query.proofs.Exact.{read-complete}
+use Rattle.query.proofs.Tree.{query-back, query-read}
 use Rattle.query_form.specs.declared.Form as query-form
 use Rattle.query_form.specs.declared.Reading.{Reading}
 use Rattle.query_form.specs.Form.{form-of, query-reading}
 use Rattle.query_form.proofs.Exact.{ReadAs, read-form}
 use Rattle.term_text.specs.Text.{path-number}
-use Rattle.wire.specs.Wire.{Bytes, done, fitted, refused}
+use Rattle.wire.specs.Wire.{Bytes, done, fitted, refused, reply-number}
 use Rattle.fusion.specs.declared.Written.{Written}
-use Rattle.fusion.specs.Fusion.{entries-of, fuse-reply, fused-form, put-part, started}
+use Rattle.fusion.specs.Fusion.{fuse-reply}
+use Rattle.fusion.specs.Steps.{entries-of, first-written, fused-form, put-part, steps-reply}
 use Rattle.fusion.proofs.Fused.{each-body, result-entries, result-final, vertex-entry, vertex-final}
-use Rattle.fusion.proofs.Refusal.{reading-code, reply-refused, reply-written}
 use Rattle.fusion.proofs.Selected.{Holds, holds-part, selected}
 
 -- at most 64 terms and 8 entries
@@ -67,26 +71,26 @@ abbrev table-of : Query → List ℕ → List ℕ
 table-of q rest = map path-number (fuse q .paths) ++ rest
 
 abbrev both : List ℕ → ℕ → List Node → Written
-both table kind nodes = put-part 1 table 0 (put-part 0 table 0 (started kind) nodes) nodes
+both table kind nodes = put-part 1 table 0 (put-part 0 table 0 (first-written kind) nodes) nodes
 
 -- which are those of the fused plan
 parts-held : (q : Query) → QueryLegal 256 q → (rest : List ℕ) → Holds (both (table-of q rest) (query-kind q) (query-nodes q)) (body-nodes (fuse q .body))
-unfolding started
+unfolding first-written
 parts-held (each t) h rest =
     let l = fuse-legal 256 (each t) h in
     let cs = put-all [] (leaves t) in
     let a = entry-nodes (rename (λ c. position c cs) t) in
-    let s : Holds (started 0) (node (Entry 0) ∷ []) = record { list = refl; len = refl } in
+    let s : Holds (first-written 0) (node (Entry 0) ∷ []) = record { list = refl; len = refl } in
     let e : (node (Entry 0) ∷ []) ++ a ++ [] ≡ node (Entry 0) ∷ a = append-nil (node (Entry 0) ∷ a) in
     subst (Holds (both (table-of (each t) rest) 0 (vertex-nodes t))) e
-    (both-parts (table-of (each t) rest) (vertex-nodes t) (started 0) (node (Entry 0) ∷ []) a [] s
+    (both-parts (table-of (each t) rest) (vertex-nodes t) (first-written 0) (node (Entry 0) ∷ []) a [] s
     (vertex-entry cs (l .paths-legal) rest 0 t (h .legal) (put-all-has [] (leaves t))) (vertex-final (table-of (each t) rest) 0 t)
     (omega (arith, ap length e, body-short 256 (fuse (each t)) l)))
 parts-held (single t) h rest =
     let l = fuse-legal 256 (single t) h in
     let cs = put-all [] (bodies (leaves t)) in
-    let s : Holds (started 1) [] = record { list = refl; len = refl } in
-    both-parts (table-of (single t) rest) (result-nodes t) (started 1) [] (entries-nodes (map (entry cs) (leaves t))) (final-nodes (enumerate 0 t)) s
+    let s : Holds (first-written 1) [] = record { list = refl; len = refl } in
+    both-parts (table-of (single t) rest) (result-nodes t) (first-written 1) [] (entries-nodes (map (entry cs) (leaves t))) (final-nodes (enumerate 0 t)) s
     (result-entries cs (l .paths-legal) rest 0 t (h .legal) (each-body (λ c. T (among c cs)) (leaves t) (put-all-has [] (bodies (leaves t)))))
     (result-final (table-of (single t) rest) 0 t) (body-short 256 (fuse (single t)) l)
 
@@ -112,56 +116,76 @@ entries-fused (each t) h r e = refl
 entries-fused (single t) h r e = omega (arith, h .few-reductions, length-map (leaves t) (entry (put-all [] (bodies (leaves t)))))
 
 -- WHAT IS MADE OF THE READING OF A LEGAL QUERY IS THE TYPED FORM OF ITS FUSED PLAN
-fused-as : (q : Query) → QueryLegal 256 q → (r : Reading) → ReadAs r q → FormOf (fuse q) (fused-form r)
-unfolding fused-form
+fused-as : (q : Query) → QueryLegal 256 q → (r : Reading) → (a : ReadAs r q) → fused-form r ≡ plan-form.form-of (fuse q) (a .rest)
+unfolding fused-form plan-form.form-of
 fused-as q h r a =
     let kind : r .form .kind ≡ query-kind q = ap (λ (f : query-form.Form). f .kind) (a .form) ∙ kind-read q in
-    let list : take (r .form .count) (r .form .nodes) ≡ query-nodes q = ap (λ (f : query-form.Form). take (f .count) (f .nodes)) (a .form) ∙ nodes-read q in
-    let w : Holds (both (r .table) (r .form .kind) (take (r .form .count) (r .form .nodes))) (body-nodes (fuse q .body)) = rw (kind, list, a .table) (parts-held q h (a .rest)) in
-    record {
-      kind = kind ∙ kind-fused q;
-      paths = omega (arith, a .paths, h .few-paths);
-      rest = a .rest;
-      table = a .table;
-      entries = ap (λ (k : ℕ). entries-of k (r .reductions)) kind ∙ entries-fused q h (r .reductions) (a .reductions);
-      count = w .len ∙ body-size (fuse q .body);
-      nodes = w .list;
-    }
-
--- the same of the reading of its bytes
-pub fuse-form : (q : Query) → QueryLegal 256 q → FormOf (fuse q) (fused-form (query-reading (encode q)))
-fuse-form q h = fused-as q h (query-reading (encode q)) (read-form q h)
+    let list : take (r .form .count) (r .form .nodes) ≡ query-nodes q =
+    ap (λ (f : query-form.Form). take (f .count) (f .nodes)) (a .form) ∙ nodes-read q in
+    let w : Holds (both (r .table) (r .form .kind) (take (r .form .count) (r .form .nodes))) (body-nodes (fuse q .body)) =
+    rw (kind, list, a .table) (parts-held q h (a .rest)) in
+    let same : r .form .kind ≡ plan.kind-of (fuse q .body) = kind ∙ kind-fused q in
+    let paths : min (r .paths) 8 ≡ length (fuse q .paths) = omega (arith, a .paths, h .few-paths) in
+    let entries = ap (λ (k : ℕ). entries-of k (r .reductions)) kind ∙ entries-fused q h (r .reductions) (a .reductions) in
+    let count = w .len ∙ body-size (fuse q .body) in
+    λ i. record { kind = same i; paths = paths i; table = a .table i; entries = entries i; count = count i; nodes = w .list i }
 
 -- A FUSED PLAN IS ALWAYS ACCEPTED BY THE READER
 pub fused-accepted : (q : Query) → QueryLegal 256 q → plan-code (plan.encode (fuse q)) ≡ 0
 fused-accepted q h = reader.read-complete (fuse q) (fuse-legal 256 q h) .accepted
 
--- THE REPLY IS THE ENCODING OF THE FUSED TREE, or 15 where that does not fit
-pub fuse-encodes : (q : Query) → QueryLegal 256 q → (room : ℕ) → fuse-reply (encode q) room ≡ fitted (plan.encode (fuse q)) room
+-- the writer's reply to it is the encoding of the fused tree, or 15 where that does not fit
+written : (q : Query) → QueryLegal 256 q → (room : ℕ) → write-reply (fused-form (query-reading (encode q))) room ≡ fitted (plan.encode (fuse q)) room
 unfolding write-reply
-fuse-encodes q h room =
-    let e = write-form (fuse q) (fuse-legal 256 q h) (fused-form (query-reading (encode q))) (fuse-form q h) in
-    reply-written (encode q) room (read-form q h .code) ∙ rw (e, fused-accepted q h) refl
+written q h room =
+    let a = read-form q h in
+    let e : form-bytes (fused-form (query-reading (encode q))) ≡ plan.encode (fuse q) =
+    ap form-bytes (fused-as q h (query-reading (encode q)) a) ∙ write-form (fuse q) (fuse-legal 256 q h) (a .rest) in
+    rw (e, fused-accepted q h) refl
+
+-- THE PROGRAM FUSES AS IS SAID, all bytes
+pub fuse-steps : (s : List ℕ) → Bytes s → (room : ℕ) → steps-reply s room ≡ fuse-reply s room
+unfolding steps-reply fuse-reply
+fuse-steps s b room = go (eqb (query-code s) 0) refl
+  where
+    go : (t : Bool) → eqb (query-code s) 0 ≡ t → steps-reply s room ≡ fuse-reply s room
+    go false e = rw e refl
+    go true e =
+        let q = query-read s b (eqb-true (query-code s) 0 e) in
+        rw e
+        (subst (λ (t : List ℕ). write-reply (fused-form (query-reading t)) room ≡ fitted (plan.encode (fuse (query-of s))) room) (q .1)
+        (written (query-of s) (q .0) room))
+
+-- THE REPLY TO A LEGAL QUERY IS THE ENCODING OF ITS FUSED TREE, or 15 where that does not fit
+pub fuse-encodes : (q : Query) → QueryLegal 256 q → (room : ℕ) → fuse-reply (encode q) room ≡ fitted (plan.encode (fuse q)) room
+unfolding fuse-reply
+fuse-encodes q h room = rw (read-complete q h .accepted, query-back q h) refl
 
 -- NO LEGAL PLAN IS LONGER THAN 560 BYTES: 8, 6 for each of 8 path reductions, 7 for each of 72 nodes
 pub plan-short : (p : Plan) → PlanLegal 256 p → length (plan.encode p) ≤ 560
-unfolding form-bytes
+unfolding form-bytes plan-form.form-of
 plan-short p l =
     let none : List ℕ = replicate (8 - length (p .paths)) 0 in
-    let f : Form = record {
-      kind = plan.kind-of (p .body);
-      paths = length (p .paths);
-      table = map path-number (p .paths) ++ none;
-      entries = plan.entry-count (p .body);
-      count = plan-terms (p .body) + plan.entry-count (p .body);
-      nodes = padded (body-nodes (p .body));
-    } in
-    let e = ap length (write-form p l f (record { kind = refl; paths = refl; rest = none; table = refl; entries = refl; count = refl; nodes = refl })) in
+    let f : Form = plan-form.form-of p none in
+    let e = ap length (write-form p l none) in
     let rows = rows-text (take (f .paths) (f .table)) in
     let text = nodes-text (take (f .count) (f .nodes)) in
     let empty : List Node = replicate (72 - length (body-nodes (p .body))) (node Empty) in
-    let eight : length (f .table) ≡ 8 = omega (arith, length-append (map path-number (p .paths)) none, length-map (p .paths) path-number, length-replicate {A = ℕ} (8 - length (p .paths)) 0, l .few-paths) in
-    let all : length (f .nodes) ≡ 72 = omega (arith, length-append (body-nodes (p .body)) empty, length-replicate {A = Node} (72 - length (body-nodes (p .body))) (node Empty), body-short 256 p l) in
+    let eight : length (f .table) ≡ 8 =
+    omega (
+      arith,
+      length-append (map path-number (p .paths)) none,
+      length-map (p .paths) path-number,
+      length-replicate {A = ℕ} (8 - length (p .paths)) 0,
+      l .few-paths,
+    ) in
+    let all : length (f .nodes) ≡ 72 =
+    omega (
+      arith,
+      length-append (body-nodes (p .body)) empty,
+      length-replicate {A = Node} (72 - length (body-nodes (p .body))) (node Empty),
+      body-short 256 p l,
+    ) in
     omega (arith, e, length-append rows (f .entries ∷ text), rows-short (f .paths) (f .table) eight, nodes-short (f .count) (f .nodes) all)
 
 -- with room for 560 bytes nothing but the query is refused
@@ -171,28 +195,40 @@ fuse-fits q h room r =
 
 -- FOR ALL BYTES: a query that is refused is refused by its number ..
 pub fuse-refused : (s : List ℕ) → (query-code s ≡ 0 → ⊥) → (room : ℕ) → fuse-reply s room ≡ refused (query-code s)
-fuse-refused s n room = reply-refused s room (λ z. n (sym (reading-code s) ∙ z)) ∙ ap refused (reading-code s)
+unfolding fuse-reply
+fuse-refused s n room = rw (ne-eqb (query-code s) 0 n) refl
 
 -- .. and one that is accepted is a legal query's, and the reply is the encoding of its fused tree: a legal plan that its reader accepts, of at most 560 bytes
 pub record Fused (s : List ℕ) (room : ℕ) : Type 0 where
-  pub query : Query
-  pub legal : QueryLegal 256 query
-  pub read : encode query ≡ s
-  pub reply : fuse-reply s room ≡ fitted (plan.encode (fuse query)) room
-  pub fused-legal : PlanLegal 256 (fuse query)
-  pub accepted : plan-code (plan.encode (fuse query)) ≡ 0
-  pub short : length (plan.encode (fuse query)) ≤ 560
+  pub legal : QueryLegal 256 (query-of s)
+  pub read : encode (query-of s) ≡ s
+  pub reply : fuse-reply s room ≡ fitted (plan.encode (fuse (query-of s))) room
+  pub fused-legal : PlanLegal 256 (fuse (query-of s))
+  pub accepted : plan-code (plan.encode (fuse (query-of s))) ≡ 0
+  pub short : length (plan.encode (fuse (query-of s))) ≤ 560
 
 pub fuse-sound : (s : List ℕ) → Bytes s → query-code s ≡ 0 → (room : ℕ) → Fused s room
+unfolding fuse-reply
 fuse-sound s b z room =
-    let q = read-sound s b z in
-    let l = fuse-legal 256 (q .0) (q .1) in
+    let q = query-read s b z in
+    let l = fuse-legal 256 (query-of s) (q .0) in
     record {
-      query = q .0;
-      legal = q .1;
-      read = q .2;
-      reply = subst (λ (t : List ℕ). fuse-reply t room ≡ fitted (plan.encode (fuse (q .0))) room) (q .2) (fuse-encodes (q .0) (q .1) room);
+      legal = q .0;
+      read = q .1;
+      reply = rw z refl;
       fused-legal = l;
-      accepted = fused-accepted (q .0) (q .1);
-      short = plan-short (fuse (q .0)) l;
+      accepted = fused-accepted (query-of s) (q .0);
+      short = plan-short (fuse (query-of s)) l;
     }
+
+-- WHATEVER BUFFER WAS LENT: where fusing answered, the query was accepted, and the reply is the encoding of its fused tree
+pub fuse-answered : (s : List ℕ) (room : ℕ) → reply-number (fuse-reply s room) < 65536
+    → (query-code s ≡ 0) × (fuse-reply s room ≡ done (plan.encode (fuse (query-of s))))
+unfolding fuse-reply
+fuse-answered s room h = go (eqb (query-code s) 0) (ltb room (length (plan.encode (fuse (query-of s))))) refl refl
+  where
+    go : (a b : Bool) → eqb (query-code s) 0 ≡ a → ltb room (length (plan.encode (fuse (query-of s)))) ≡ b
+        → (query-code s ≡ 0) × (fuse-reply s room ≡ done (plan.encode (fuse (query-of s))))
+    go false b p q = absurd (omega (arith, rw p at h))
+    go true true p q = absurd (omega (arith, rw (p, q) at h))
+    go true false p q = (eqb-true (query-code s) 0 p, rw (p, q) refl)

@@ -19,7 +19,7 @@ use Rattle.terms.specs.Terms.{literal-tag}
 use Rattle.term_text.specs.Text.{path-number}
 use Rattle.term_text.proofs.Table.{same-number}
 use Rattle.walks.specs.Lists.{All}
-use Rattle.fusion.specs.Fusion.{entry-term, final-term, fused-term, index-of, reduces, size}
+use Rattle.fusion.specs.Steps.{entry-term, final-term, fused-term, index-of, reduces, size}
 use Rattle.fusion.proofs.Selected.{reduced, reduced-append, selected, selected-append}
 
 -- the number of a path reduction stands in the table where the path reduction stands in the list
@@ -55,7 +55,8 @@ result-reduced : (t : ResultTerm) → reduced (result-nodes t) ≡ length (leave
 unfolding reduced reduces apply-node literal-node literal-tag
 result-reduced (leaf e) = omega (arith, vertex-reduced (e .body))
 result-reduced (literal x) = refl
-result-reduced (apply o s t) = omega (arith, reduced-append (result-nodes s) (result-nodes t), result-reduced s, result-reduced t, length-append (leaves s) (leaves t))
+result-reduced (apply o s t) =
+    omega (arith, reduced-append (result-nodes s) (result-nodes t), result-reduced s, result-reduced t, length-append (leaves s) (leaves t))
 
 -- THE FINAL EXPRESSION: the reductions are numbered as written
 pub result-final : (table : List ℕ) (k : ℕ) (t : ResultTerm) → selected 1 table k (result-nodes t) ≡ final-nodes (enumerate k t)
@@ -74,7 +75,8 @@ entries-append : (es ds : List (VertexReduction ℕ)) → entries-nodes (es ++ d
 entries-append [] ds = refl
 entries-append (e ∷ es) ds =
     ap (λ (l : List Node). node (Entry (e .reduction)) ∷ l)
-    (ap (λ (l : List Node). entry-nodes (e .body) ++ l) (entries-append es ds) ∙ sym (append-assoc (entry-nodes (e .body)) (entries-nodes es) (entries-nodes ds)))
+    (ap (λ (l : List Node). entry-nodes (e .body) ++ l) (entries-append es ds)
+    ∙ sym (append-assoc (entry-nodes (e .body)) (entries-nodes es) (entries-nodes ds)))
 
 -- over the different path reductions of the query
 module _ (cs : List PathReduction) (legal : All (PathFits 256) cs) (rest : List ℕ) where
@@ -86,7 +88,8 @@ module _ (cs : List PathReduction) (legal : All (PathFits 256) cs) (rest : List 
   Known t = All (λ c. T (among c cs)) (leaves t)
 
   -- A VERTEX TERM IN AN ENTRY: each path reduction by its position
-  pub vertex-entry : (k : ℕ) (t : VertexTerm) → Every (PathFits 256) t → Known t → selected 0 table k (vertex-nodes t) ≡ entry-nodes (rename (λ c. position c cs) t)
+  pub vertex-entry : (k : ℕ) (t : VertexTerm) → Every (PathFits 256) t → Known t
+      → selected 0 table k (vertex-nodes t) ≡ entry-nodes (rename (λ c. position c cs) t)
   unfolding selected fused-term entry-term size apply-node literal-node literal-tag
   vertex-entry k (leaf c) f h = ap (λ (i : ℕ). node (PathIndex i) ∷ []) (index-position c f cs legal rest (h .0))
   vertex-entry k (literal x) f h = refl
@@ -94,7 +97,8 @@ module _ (cs : List PathReduction) (legal : All (PathFits 256) cs) (rest : List 
       let j = k + reduces (Apply o) in
       ap (λ (l : List Node). node (Apply o) ∷ l)
       (selected-append 0 table j (vertex-nodes s) (vertex-nodes t)
-      ∙ ap₂ _++_ (vertex-entry j s (f .2) (all-left _ (leaves s) (leaves t) h)) (vertex-entry (j + reduced (vertex-nodes s)) t (f .3) (all-right _ (leaves s) (leaves t) h)))
+      ∙ ap₂ _++_ (vertex-entry j s (f .2) (all-left _ (leaves s) (leaves t) h))
+      (vertex-entry (j + reduced (vertex-nodes s)) t (f .3) (all-right _ (leaves s) (leaves t) h)))
 
   -- THE ENTRIES: one for each reduction, in written order
   pub result-entries : (k : ℕ) (t : ResultTerm) → Every (EveryBody (PathFits 256)) t → All (λ e. Known (e .body)) (leaves t)
@@ -107,7 +111,8 @@ module _ (cs : List PathReduction) (legal : All (PathFits 256) cs) (rest : List 
   result-entries k (apply o s t) f h =
       let j = k + reduces (ResultApply o) in
       selected-append 0 table j (result-nodes s) (result-nodes t)
-      ∙ ap₂ _++_ (result-entries j s (f .2) (all-left _ (leaves s) (leaves t) h)) (result-entries (j + reduced (result-nodes s)) t (f .3) (all-right _ (leaves s) (leaves t) h))
+      ∙ ap₂ _++_ (result-entries j s (f .2) (all-left _ (leaves s) (leaves t) h))
+      (result-entries (j + reduced (result-nodes s)) t (f .3) (all-right _ (leaves s) (leaves t) h))
       ∙ sym (entries-append (map (entry cs) (leaves s)) (map (entry cs) (leaves t)))
       ∙ ap entries-nodes (sym (map-append (entry cs) (leaves s) (leaves t)))
 

@@ -11,7 +11,7 @@ use Rattle.nodes.specs.declared.Node.{Node}
 use Rattle.nodes.specs.declared.Term.{Term}
 use Rattle.nodes.specs.Nodes.{node}
 use Rattle.fusion.specs.declared.Written.{Written}
-use Rattle.fusion.specs.Fusion.{fused-term, index-of, put-part, put-term, reduces, size}
+use Rattle.fusion.specs.Steps.{fused-term, index-of, put-part, put-term, reduces, size}
 
 -- the search from index i on: i is added to what it finds there
 module _ (w : ℕ) (table : List ℕ) (i : ℕ) (h : i < length table) where

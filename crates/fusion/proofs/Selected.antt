@@ -14,7 +14,7 @@ use Rattle.nodes.specs.declared.Term.{Term}
 use Rattle.nodes.specs.declared.Term.the-variants.{Apply, Empty, Entry, EntryIndex, Literal, Path, PathIndex, Reduce, ResultApply, ResultLiteral}
 use Rattle.nodes.specs.Nodes.{node, padded}
 use Rattle.fusion.specs.declared.Written.{Written}
-use Rattle.fusion.specs.Fusion.{fused-term, put-part, put-term, reduces, size}
+use Rattle.fusion.specs.Steps.{fused-term, put-part, put-term, reduces, size}
 
 -- an empty term is no node, any other one
 abbrev pub one : Term → List Node
@@ -105,7 +105,8 @@ module _ (d : Written) (l : List Node) (h : Holds d l) where
       let n = length-append l (node t ∷ []) in
       rw (lt-leb 72 (d .len) (omega (arith, h .len)), z)
       (record {
-        list = next r t ∙ sym (append-snoc l (node t) (replicate (72 - (length l + 1)) (node Empty))) ∙ ap (λ (m : ℕ). (l ++ (node t ∷ [])) ++ replicate (72 - m) (node Empty)) (sym n);
+        list = next r t ∙ sym (append-snoc l (node t) (replicate (72 - (length l + 1)) (node Empty)))
+            ∙ ap (λ (m : ℕ). (l ++ (node t ∷ [])) ++ replicate (72 - m) (node Empty)) (sym n);
         len = omega (arith, h .len, n);
       })
 
@@ -118,7 +119,8 @@ module _ (d : Written) (l : List Node) (h : Holds d l) where
       go (inr e) = holds-one t e (omega arith)
 
 -- WHAT THE PROGRAM PUTS IS THE PART, behind the nodes written before
-pub holds-part : (part : ℕ) (table : List ℕ) (nodes : List Node) (k : ℕ) (d : Written) (l : List Node) → Holds d l → length l + length (selected part table k nodes) ≤ 72
+pub holds-part : (part : ℕ) (table : List ℕ) (nodes : List Node) (k : ℕ) (d : Written) (l : List Node) → Holds d l
+    → length l + length (selected part table k nodes) ≤ 72
     → Holds (put-part part table k d nodes) (l ++ selected part table k nodes)
 unfolding put-part selected
 holds-part part table [] k d l h r = subst (Holds d) (sym (append-nil l)) h

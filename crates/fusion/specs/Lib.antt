@@ -1,1 +1,2 @@
 pub mod Fusion
+pub mod Steps

@@ -1,5 +1,5 @@
-// Fusing, bytes to bytes (document 01: "Fusing puts equal chains together, in order of first writing, and reductions in order of writing"; "Fusing judges the question,
-// then 15"). The nodes of the query are gone through twice, for the two parts of the plan, each in written order.
+// Fusing, bytes to bytes (document 01: "Fusing puts equal chains together, in order of first writing, and reductions in order of writing"; "Fusing judges the
+// question, then 15"). The nodes of the query are gone through twice, for the two parts of the plan, each in written order.
 use nodes::Node;
 use nodes::Term;
 use plan_form::Form;
@@ -7,8 +7,9 @@ use query_form::Reading;
 ghost use mathlib.Core.Path.{_≡_};
 ghost use Prim.Native.Nat.{_≤_};
 ghost use lib.ListN.{length, take};
-ghost use Rattle.wire.specs.Wire.{reply-number, reply-buffer};
-ghost use Rattle.fusion.specs.Fusion.{index-of, entry-term, final-term, fused-term, size, reduces, started, put-part, entries-of, fused-form, fuse-reply};
+ghost use Rattle.wire.specs.Wire.{Returned};
+ghost use Rattle.fusion.specs.Fusion.{fuse-reply};
+ghost use Rattle.fusion.specs.Steps.{entries-of, entry-term, final-term, first-written, fused-form, fused-term, index-of, put-part, reduces, size};
 
 // The nodes of a plan as far as they are written: the first `len`.
 pub struct Written {
@@ -116,7 +117,7 @@ fn put_part(start: Written, part: u8, table: [u64; 8], nodes: [Node; 72], count:
 
 // What stands before the entries: nothing, or for kind 0 the reduction byte of its one entry.
 fn start_of(kind: u8) -> Written
-    ensures { λ r. ⌜ r ≡ started kind ⌝ }
+    ensures { λ r. ⌜ r ≡ first-written kind ⌝ }
 {
     let empty = Node { term: Term::Empty };
     let mut list = [empty; 72];
@@ -163,7 +164,7 @@ fn fused_form_of(r: Reading) -> Form
 
 // `fuse`: judges the query, then 15; writes the plan.
 pub fn fuse(query: &[u8], out: &mut [u8]) -> u32
-    ensures { λ r. ⌜ (r ≡ reply-number (fuse-reply (now (query .entry)) (length (now (out .entry))))) × (now (out .exit) ≡ reply-buffer (fuse-reply (now (query .entry)) (length (now (out .entry)))) (now (out .entry))) ⌝ }
+    ensures { λ r. ⌜ Returned (fuse-reply (now (query .entry)) (length (now (out .entry)))) r (now (out .entry)) (now (out .exit)) ⌝ }
 {
     let r = query_form::read(query);
     let code = r.code;

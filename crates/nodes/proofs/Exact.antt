@@ -15,7 +15,7 @@ use Rattle.wire.specs.Wire.{le16}
 use Rattle.nodes.specs.declared.Node.{Node}
 use Rattle.nodes.specs.declared.Term as single
 use Rattle.nodes.specs.declared.Term.the-variants.{EntryIndex, Path, PathIndex, Reduce}
-use Rattle.draft.specs.Draft.{texts}
+use Rattle.draft.specs.Texts.{texts}
 use Rattle.nodes.specs.Text.{nodes-text, path-text, term-text}
 use Rattle.nodes.specs.Nodes.{collected, node, passed, tagged}
 use Rattle.nodes.specs.Tree.{entry-nodes, final-nodes, result-nodes, term-nodes, vertex-nodes}

@@ -12,7 +12,7 @@ use Rattle.term_text.specs.Text.{term-bytes}
 use Rattle.term_text.proofs.Shape.{Leaves}
 use Rattle.term_text.proofs.Steps.{drop-on}
 use Rattle.nodes.specs.declared.Node.{Node}
-use Rattle.draft.specs.Draft.{texts}
+use Rattle.draft.specs.Texts.{texts}
 use Rattle.nodes.specs.Text.{node-text, nodes-text, term-text}
 use Rattle.nodes.specs.Nodes.{collected}
 use Rattle.nodes.specs.Tree.{apply-node, literal-node, term-nodes}

@@ -7,7 +7,7 @@ ghost use mathlib.Core.List.{_∷_};
 ghost use Rattle.wire.specs.Wire.{le32};
 ghost use Rattle.nodes.specs.Nodes.{term-at, next-at, nodes-read};
 ghost use Rattle.nodes.specs.Text.{key-text, path-text, term-text, nodes-text};
-ghost use Rattle.draft.specs.Draft.{put-list};
+ghost use Rattle.draft.specs.Steps.{put-list};
 
 // A term without those that it contains, or the reduction byte before an entry of a plan; a path reduction is its six bytes in a plan as one number.
 pub enum Term {

@@ -1,17 +1,19 @@
 -- READING GIVES THE TYPED FORM OF A PLAN, AND WRITING IT GIVES ITS BYTES. Assumes nothing.
 use Prim.Native.Nat.{ℕ, suc, _+_, _*_, _/_, _%_, _≤_, min}
-use mathlib.Core.Path.{_≡_, refl, sym, ap, ap₂, _∙_}
+use mathlib.Core.Path.{_≡_, refl, sym, ap, ap₂, _∙_, subst}
+use mathlib.Core.Bool.{Bool, true, false}
 use mathlib.Core.List.{List, [], _∷_, _++_, map, append-assoc, append-nil}
 use native.Mathlib.Omega.{arith}
-use borrow.Author.Tests.{le-ltb, eq-eqb}
+use borrow.Author.Tests.{le-ltb, eq-eqb, eqb-true}
+use lib.Dec.{eqb}
 use lib.ListN.{length, drop, take, length-append, length-map}
-use lib.Seq.{take-at}
+use lib.Seq.{drop-at, take-at}
 use Rattle.meaning.specs.Limits.{BodyLegal, EntryLegal, PathFits, PlanLegal, entry-terms, plan-terms, terms, unit}
 use Rattle.meaning.specs.Plan.{Body, Plan, each-vertex, one-result}
 use Rattle.meaning.specs.Query.{PathReduction, VertexReduction}
 use Rattle.nodes.specs.declared.Node.{Node}
 use Rattle.nodes.specs.declared.Term.the-variants.{Entry}
-use Rattle.draft.specs.Draft.{texts}
+use Rattle.draft.specs.Texts.{texts}
 use Rattle.nodes.specs.Text.{node-text, nodes-text, term-text}
 use Rattle.nodes.specs.Nodes.{collected, node, nodes-read, padded}
 use Rattle.nodes.specs.Tree.{entry-nodes, final-nodes}
@@ -20,15 +22,19 @@ use Rattle.nodes.proofs.Exact.{entry-collected, entry-size, entry-text, final-c
 use Rattle.nodes.proofs.Fields.{entry-read, path-digits}
 use Rattle.nodes.proofs.Held.{first-nodes, read-whole}
 use Rattle.plan.specs.Plan.{plan-code, plan-scan}
-use Rattle.plan.specs.Text.{body-bytes, encode, entries-bytes, entry-count, row-bytes, rows-bytes}
-use Rattle.plan.proofs.Exact.{read-complete, read-sound}
+use Rattle.plan.specs.Text.{body-bytes, encode, entries-bytes, entry-count, kind-of, row-bytes, rows-bytes}
+use Rattle.plan.specs.Tree.{plan-of}
+use Rattle.plan.proofs.Exact.{read-complete}
 use Rattle.plan.proofs.PathRows.{rows-size}
+use Rattle.plan.proofs.Tree.{plan-back, plan-read}
+use Rattle.progress.specs.declared.Progress.{Progress}
 use Rattle.term_text.specs.Text.{expression-bytes, path-number}
 use Rattle.term_text.proofs.Steps.{drop-on}
+use Rattle.term_text.proofs.Table.{Table}
 use Rattle.walks.specs.Lists.{All}
 use Rattle.wire.specs.Wire.{Bytes, done}
-use Rattle.plan_form.specs.declared.Form.{Form}
-use Rattle.plan_form.specs.Form.{FormOf, body-nodes, entries-nodes, form-bytes, plan-reading, read-after, row-text, rows-text, write-reply}
+use Rattle.plan_form.specs.Form.{body-nodes, entries-nodes, form-bytes, form-of, plan-reading, row-text, rows-text, write-reply}
+use Rattle.plan_form.specs.Steps.{form-after, read-after}
 
 -- the bytes behind the entry count
 abbrev inner : Body → List ℕ
@@ -51,7 +57,8 @@ module _ (s : List ℕ) (count : ℕ) where
       let n = terms unit (e .body) in
       let m = entry-terms es + length es + k in
       let g = f .0 in
-      let d0 : drop i s ≡ e .reduction ∷ (b ++ (entries-bytes es ++ rest)) = d ∙ ap (λ (l : List ℕ). e .reduction ∷ l) (append-assoc b (entries-bytes es) rest) in
+      let d0 : drop i s ≡ e .reduction ∷ (b ++ (entries-bytes es ++ rest)) =
+      d ∙ ap (λ (l : List ℕ). e .reduction ∷ l) (append-assoc b (entries-bytes es) rest) in
       let d1 = drop-on s i 1 (e .reduction ∷ []) (b ++ (entries-bytes es ++ rest)) d0 refl in
       let d2 = drop-on s (i + 1) (length b) b (entries-bytes es ++ rest) d1 refl in
       let p = entry-collected count s (e .body) (g .2 .0) (i + 1) m (entries-bytes es ++ rest) d1 in
@@ -78,7 +85,8 @@ body-collected s count (one-result es t) l i d =
     let m = i + length (entries-bytes es) in
     let d2 = drop-on s i (length (entries-bytes es)) (entries-bytes es) e d refl ∙ sym (append-nil e) in (
       m + length e,
-      ap (λ (j : ℕ). collected j s i) (let z : entry-terms es + terms unit t + length es + 0 ≡ entry-terms es + length es + (terms unit t + 0) = omega arith in z)
+      ap (λ (j : ℕ). collected j s i)
+          (let z : entry-terms es + terms unit t + length es + 0 ≡ entry-terms es + length es + (terms unit t + 0) = omega arith in z)
           ∙ entries-collected s count es (l .1) i (terms unit t + 0) e d
           ∙ ap (λ (l : List Node). entries-nodes es ++ l) (final-collected (length es) s t (l .2 .0) m 0 [] d2)
           ∙ sym (append-assoc (entries-nodes es) (final-nodes t) (collected 0 s (m + length e))),
@@ -99,34 +107,66 @@ few-entries count (each-vertex t) l = omega arith
 few-entries count (one-result es t) l = l .0
 
 -- the nodes read from a legal plan's bytes are the plan's
-nodes-are : (p : Plan) → PlanLegal 256 p → nodes-read (plan-terms (p .body) + entry-count (p .body)) (encode p) (8 + 6 * length (p .paths)) ≡ padded (body-nodes (p .body))
+nodes-are : (p : Plan) → PlanLegal 256 p
+    → nodes-read (plan-terms (p .body) + entry-count (p .body)) (encode p) (8 + 6 * length (p .paths)) ≡ padded (body-nodes (p .body))
 nodes-are p l =
     let b = body-collected (encode p) (length (p .paths)) (p .body) (l .body-legal) (8 + 6 * length (p .paths)) (inner-there p) in
     read-whole (encode p) (8 + 6 * length (p .paths)) (b .0) (plan-terms (p .body) + entry-count (p .body)) (body-nodes (p .body))
     (omega (arith, l .few-terms, few-entries (length (p .paths)) (p .body) (l .body-legal))) (b .1)
 
--- THE BYTES OF A LEGAL PLAN ARE READ AS ITS TYPED FORM
-pub read-form : (p : Plan) → PlanLegal 256 p → (plan-reading (encode p) .code ≡ 0) × FormOf p (plan-reading (encode p) .form)
-unfolding read-after
-read-form p l =
+-- what the table holds behind the path reductions
+abbrev behind : Progress → List ℕ
+behind w = drop (w .paths) (w .table)
+
+table-is : (w : Progress) (cs : List PathReduction) → Table w cs → w .table ≡ map path-number cs ++ behind w
+table-is w cs t =
+    let n : length (map path-number cs) ≡ w .paths = length-map cs path-number ∙ sym (t .count) in
+    t .holds ∙ ap (λ (l : List ℕ). map path-number cs ++ l) (sym (ap (drop (w .paths)) (t .holds) ∙ drop-at (map path-number cs) (t .rest) (w .paths) n))
+
+-- the form made of the bytes of a legal plan is the plan's
+form-made : (p : Plan) → PlanLegal 256 p → form-after (encode p) (plan-scan (encode p)) ≡ form-of p (behind (plan-scan (encode p)))
+unfolding form-after form-of
+form-made p l =
     let a = read-complete p l in
     let w = plan-scan (encode p) in
     let few = few-entries (length (p .paths)) (p .body) (l .body-legal) in
     let t : min (w .terms) 64 ≡ plan-terms (p .body) = omega (arith, a .terms, l .few-terms) in
     let r : min (w .reductions) 8 ≡ entry-count (p .body) = omega (arith, a .reductions, few) in
     let c : min (w .paths) 8 ≡ length (p .paths) = omega (arith, a .table .count, l .few-paths) in
-    rw (eq-eqb (w .code) 0 (a .accepted), t, r, c) (
-      refl,
-      record {
-        kind = refl;
-        paths = refl;
-        rest = a .table .rest;
-        table = a .table .holds;
-        entries = refl;
-        count = refl;
-        nodes = nodes-are p l;
-      },
-    )
+    rw (t, r, c)
+    (λ i. record {
+      kind = kind-of (p .body);
+      paths = length (p .paths);
+      table = table-is w (p .paths) (a .table) i;
+      entries = entry-count (p .body);
+      count = plan-terms (p .body) + entry-count (p .body);
+      nodes = nodes-are p l i;
+    })
+
+-- what is made of accepted bytes
+reading-is : (s : List ℕ) → plan-code s ≡ 0 → (plan-reading s .code ≡ 0) × (plan-reading s .form ≡ form-of (plan-of s) (behind (plan-scan s)))
+unfolding plan-reading
+reading-is s z = rw (eq-eqb (plan-code s) 0 z) (refl, refl)
+
+-- THE BYTES OF A LEGAL PLAN ARE READ AS ITS TYPED FORM
+pub read-form : (p : Plan) → PlanLegal 256 p → (plan-reading (encode p) .code ≡ 0) × ((rest : List ℕ) × (plan-reading (encode p) .form ≡ form-of p rest))
+read-form p l =
+    let r = reading-is (encode p) (read-complete p l .accepted) in
+    let rest = behind (plan-scan (encode p)) in
+    (r .0, (rest, r .1 ∙ ap (λ (q : Plan). form-of q rest) (plan-back p l)))
+
+-- THE PROGRAM READS AS IS SAID, all bytes
+pub read-steps : (s : List ℕ) → Bytes s → read-after s (plan-scan s) ≡ plan-reading s
+unfolding read-after plan-reading
+read-steps s b = go (eqb (plan-code s) 0) refl
+  where
+    go : (t : Bool) → eqb (plan-code s) 0 ≡ t → read-after s (plan-scan s) ≡ plan-reading s
+    go false e = rw e refl
+    go true e =
+        let p = plan-read s b (eqb-true (plan-code s) 0 e) in
+        let made : form-after s (plan-scan s) ≡ form-of (plan-of s) (behind (plan-scan s)) =
+        subst (λ (t : List ℕ). form-after t (plan-scan t) ≡ form-of (plan-of s) (behind (plan-scan t))) (p .1) (form-made (plan-of s) (p .0)) in
+        rw (e, made) refl
 
 -- THE TEXT OF THE NODES IS THE BYTES
 entries-text : (count : ℕ) (es : List (VertexReduction ℕ)) → All (EntryLegal count) es → nodes-text (entries-nodes es) ≡ entries-bytes es
@@ -167,21 +207,21 @@ rows-written [] f = refl
 rows-written (c ∷ cs) f = ap₂ _++_ (row-written c (f .0)) (rows-written cs (f .1))
 
 -- WRITTEN, THE TYPED FORM IS THE BYTES
-pub write-form : (p : Plan) → PlanLegal 256 p → (f : Form) → FormOf p f → form-bytes f ≡ encode p
-unfolding form-bytes
-write-form p l f h =
-    let rows : rows-text (take (f .paths) (f .table)) ≡ rows-bytes (p .paths) =
-    ap rows-text (rw (h .table) (take-at (map path-number (p .paths)) (h .rest) (f .paths) (length-map (p .paths) path-number ∙ sym (h .paths))))
-    ∙ rows-written (p .paths) (l .paths-legal) in
-    let list : nodes-text (take (f .count) (f .nodes)) ≡ inner (p .body) =
-    ap nodes-text (rw (h .nodes) (first-nodes (f .count) (body-nodes (p .body)) (body-size (p .body) ∙ sym (h .count)))) ∙ body-text (length (p .paths)) (p .body) (l .body-legal) in
-    rw (rows, list, h .kind, h .paths, h .entries, body-is (p .body)) refl
+pub write-form : (p : Plan) → PlanLegal 256 p → (rest : List ℕ) → form-bytes (form-of p rest) ≡ encode p
+unfolding form-bytes form-of
+write-form p l rest =
+    let n = length (p .paths) in
+    let rows : rows-text (take n (map path-number (p .paths) ++ rest)) ≡ rows-bytes (p .paths) =
+    ap rows-text (take-at (map path-number (p .paths)) rest n (length-map (p .paths) path-number)) ∙ rows-written (p .paths) (l .paths-legal) in
+    let count = plan-terms (p .body) + entry-count (p .body) in
+    let list : nodes-text (take count (padded (body-nodes (p .body)))) ≡ inner (p .body) =
+    ap nodes-text (first-nodes count (body-nodes (p .body)) (body-size (p .body))) ∙ body-text n (p .body) (l .body-legal) in
+    rw (rows, list, body-is (p .body)) refl
 
 -- WRITING WHAT WAS READ GIVES THE BYTES READ
 pub write-read : (s : List ℕ) → Bytes s → plan-code s ≡ 0 → (room : ℕ) → length s ≤ room → write-reply (plan-reading s .form) room ≡ done s
 unfolding write-reply
 write-read s b z room h =
-    let p = read-sound s b z in
-    let e : form-bytes (plan-reading s .form) ≡ s =
-    ap (λ (t : List ℕ). form-bytes (plan-reading t .form)) (sym (p .2)) ∙ write-form (p .0) (p .1) (plan-reading (encode (p .0)) .form) (read-form (p .0) (p .1) .1) ∙ p .2 in
+    let p = plan-read s b z in
+    let e : form-bytes (plan-reading s .form) ≡ s = ap form-bytes (reading-is s z .1) ∙ write-form (plan-of s) (p .0) (behind (plan-scan s)) ∙ p .1 in
     rw (e, z, le-ltb room (length s) h) refl

@@ -1,24 +1,23 @@
 -- Plans in their typed form, and what reading and writing them says (document 01: worksheet `LPW`).
-use Prim.Native.Nat.{ℕ, _+_, _*_, _/_, min}
-use mathlib.Core.Path.{_≡_}
+use Prim.Native.Nat.{ℕ, _+_, _/_}
 use mathlib.Core.Bool.{cond}
 use mathlib.Core.List.{List, [], _∷_, _++_, map}
 use lib.Dec.{eqb}
-use lib.ListN.{length, getD, take, replicate}
+use lib.ListN.{length, drop, take, replicate}
 use Rattle.meaning.specs.Limits.{plan-terms}
 use Rattle.meaning.specs.Plan.{Body, Plan, each-vertex, one-result}
 use Rattle.meaning.specs.Query.{VertexReduction}
 use Rattle.nodes.specs.declared.Node.{Node}
 use Rattle.nodes.specs.declared.Term.the-variants.{Empty, Entry}
-use Rattle.draft.specs.Draft.{texts}
+use Rattle.draft.specs.Texts.{texts}
 use Rattle.nodes.specs.Text.{nodes-text}
-use Rattle.nodes.specs.Nodes.{node, nodes-read, padded}
+use Rattle.nodes.specs.Nodes.{node, padded}
 use Rattle.nodes.specs.Tree.{entry-nodes, final-nodes}
 use Rattle.plan.specs.Plan.{plan-code, plan-scan}
 use Rattle.plan.specs.Text.{entry-count, kind-of}
+use Rattle.plan.specs.Tree.{plan-of}
 use Rattle.term_text.specs.Text.{path-number}
 use Rattle.wire.specs.Header.{header-bytes}
-use Rattle.progress.specs.declared.Progress.{Progress}
 use Rattle.wire.specs.Wire.{Reply, fitted, le16, unless}
 use Rattle.plan_form.specs.declared.Form.{Form}
 use Rattle.plan_form.specs.declared.Reading.{Reading}
@@ -33,15 +32,16 @@ abbrev pub body-nodes : Body → List Node
 body-nodes (each-vertex t) = node (Entry 0) ∷ entry-nodes t
 body-nodes (one-result es t) = entries-nodes es ++ final-nodes t
 
--- THE TYPED FORM OF A PLAN; behind its path reductions the table may hold anything
-pub record FormOf (p : Plan) (f : Form) : Type 0 where
-  pub kind : f .kind ≡ kind-of (p .body)
-  pub paths : f .paths ≡ length (p .paths)
-  pub rest : List ℕ
-  pub table : f .table ≡ map path-number (p .paths) ++ rest
-  pub entries : f .entries ≡ entry-count (p .body)
-  pub count : f .count ≡ plan-terms (p .body) + entry-count (p .body)
-  pub nodes : f .nodes ≡ padded (body-nodes (p .body))
+-- THE TYPED FORM OF A PLAN; behind its path reductions the table may hold anything, `rest`
+unfoldable pub form-of : Plan → (rest : List ℕ) → Form
+form-of p rest = record {
+  kind = kind-of (p .body);
+  paths = length (p .paths);
+  table = map path-number (p .paths) ++ rest;
+  entries = entry-count (p .body);
+  count = plan-terms (p .body) + entry-count (p .body);
+  nodes = padded (body-nodes (p .body));
+}
 
 -- the six bytes of a path reduction, from their number
 unfoldable pub row-text : ℕ → List ℕ
@@ -59,32 +59,15 @@ form-bytes f = header-bytes 0x57 ++ (f .kind ∷ f .paths ∷ (rows-text (take (
 unfoldable pub write-reply : Form → ℕ → Reply
 write-reply f room = unless (plan-code (form-bytes f)) (fitted (form-bytes f) room)
 
--- THE READING OF BYTES. This and what follows mirrors the program and need not be believed: `read-form` says that the reading of a legal plan's bytes is its typed form.
--- After a refusal: its number, and nothing else
+-- after a refusal: its number, and nothing else
 abbrev pub blank-reading : ℕ → Reading
 blank-reading code = record {
   code = code;
   form = record { kind = 0; paths = 0; table = replicate 8 0; entries = 0; count = 0; nodes = replicate 72 (node Empty) };
 }
 
--- from what the reader of the bytes has found
-unfoldable pub read-after : List ℕ → Progress → Reading
-read-after s w =
-    let count = min (w .terms) 64 + min (w .reductions) 8 in
-    cond (eqb (w .code) 0)
-    (record {
-      code = 0;
-      form = record {
-        kind = getD s 5 0;
-        paths = min (w .paths) 8;
-        table = w .table;
-        entries = min (w .reductions) 8;
-        count = count;
-        nodes = nodes-read count s (8 + 6 * min (w .paths) 8);
-      };
-    })
-    (blank-reading (w .code))
-
--- of any bytes
-abbrev pub plan-reading : List ℕ → Reading
-plan-reading s = read-after s (plan-scan s)
+-- THE READING OF BYTES: of accepted ones the typed form of the plan that they write; behind its path reductions the table holds what the scan leaves there
+unfoldable pub plan-reading : List ℕ → Reading
+plan-reading s =
+    let w = plan-scan s in
+    cond (eqb (w .code) 0) (record { code = 0; form = form-of (plan-of s) (drop (w .paths) (w .table)) }) (blank-reading (w .code))

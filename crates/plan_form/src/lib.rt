@@ -5,8 +5,8 @@ use nodes::Term;
 ghost use mathlib.Core.Path.{_≡_};
 ghost use Prim.Native.Nat.{_≤_};
 ghost use lib.ListN.{length, take};
-ghost use Rattle.draft.specs.Draft.{put-list};
-ghost use Rattle.wire.specs.Wire.{reply-number, reply-buffer};
+ghost use Rattle.draft.specs.Steps.{put-list};
+ghost use Rattle.wire.specs.Wire.{Returned};
 ghost use Rattle.plan_form.specs.Form.{row-text, rows-text, form-bytes, write-reply, blank-reading, plan-reading};
 
 // A plan: its kind; the first `paths` of its path reductions, each as its six bytes in one number; how many entries it has; and the first `count` of its nodes:
@@ -109,7 +109,7 @@ fn draft_of(form: Form) -> Draft
 
 // The writer of plans: what it is handed is judged by the reader of its bytes, then 15.
 pub fn write(form: Form, out: &mut [u8]) -> u32
-    ensures { λ r. ⌜ (r ≡ reply-number (write-reply form (length (now (out .entry))))) × (now (out .exit) ≡ reply-buffer (write-reply form (length (now (out .entry)))) (now (out .entry))) ⌝ }
+    ensures { λ r. ⌜ Returned (write-reply form (length (now (out .entry)))) r (now (out .entry)) (now (out .exit)) ⌝ }
 {
     let d = draft_of(form);
     let bytes = d.bytes;

@@ -1,10 +1,12 @@
 -- READING GIVES THE TYPED FORM OF A QUERY, AND WRITING IT GIVES ITS BYTES. Assumes nothing.
 use Prim.Native.Nat.{ℕ, _+_, _≤_}
 use mathlib.Core.Path.{_≡_, refl, sym, ap, _∙_}
+use mathlib.Core.Bool.{Bool, true, false}
 use mathlib.Core.List.{List, [], _∷_, _++_, map, append-nil}
 use native.Mathlib.Omega.{arith}
-use borrow.Author.Tests.{le-ltb, eq-eqb}
-use lib.ListN.{length, getD}
+use borrow.Author.Tests.{le-ltb, eq-eqb, eqb-true}
+use lib.Dec.{eqb}
+use lib.ListN.{length}
 use Rattle.meaning.specs.Limits.{QueryLegal, query-reductions, query-terms}
 use Rattle.meaning.specs.Plan.{put-all}
 use Rattle.meaning.specs.Query.{Query, each, single, written-paths}
@@ -15,13 +17,15 @@ use Rattle.nodes.specs.Tree.{result-nodes, vertex-nodes}
 use Rattle.nodes.proofs.Exact.{result-collected, result-size, result-text, vertex-collected, vertex-size, vertex-text}
 use Rattle.nodes.proofs.Held.{first-nodes, read-whole}
 use Rattle.query.specs.Query.{encode, query-code, query-scan}
-use Rattle.query.proofs.Exact.{read-complete, read-sound}
+use Rattle.query.specs.Tree.{query-of}
+use Rattle.query.proofs.Exact.{read-complete}
+use Rattle.query.proofs.Tree.{query-back, query-read}
 use Rattle.term_text.specs.Text.{path-number, result-bytes, vertex-bytes}
 use Rattle.wire.specs.Header.{header-bytes}
 use Rattle.wire.specs.Wire.{Bytes, done}
-use Rattle.query_form.specs.declared.Form.{Form}
 use Rattle.query_form.specs.declared.Reading.{Reading}
-use Rattle.query_form.specs.Form.{form-bytes, form-of, query-reading, read-after, write-reply}
+use Rattle.query_form.specs.Form.{form-bytes, form-of, query-reading, write-reply}
+use Rattle.query_form.specs.Steps.{form-after, read-after}
 
 -- the terms behind the six bytes
 nodes-are : (q : Query) → QueryLegal 256 q → nodes-read (query-terms q) (encode q) 6 ≡ form-of q .nodes
@@ -33,9 +37,9 @@ nodes-are (single t) l =
     read-whole (encode (single t)) 6 (6 + length (result-bytes t)) (query-terms (single t)) (result-nodes t) (omega (arith, l .few-terms))
     (result-collected (encode (single t)) t (l .legal) 6 0 [] (sym (append-nil (result-bytes t))))
 
--- the form made of the kind byte and of these is the query's
-form-made : (q : Query) → QueryLegal 256 q → _≡_ {A = Form} (record { kind = getD (encode q) 5 0; count = query-terms q; nodes = nodes-read (query-terms q) (encode q) 6 }) (form-of q)
-unfolding form-of
+-- the form made of the bytes of a legal query is the query's
+form-made : (q : Query) → QueryLegal 256 q → form-after (encode q) (query-terms q) ≡ form-of q
+unfolding form-of form-after
 form-made (each t) l = ap (λ (n : List Node). record { kind = 0; count = query-terms (each t); nodes = n }) (nodes-are (each t) l)
 form-made (single t) l = ap (λ (n : List Node). record { kind = 1; count = query-terms (single t); nodes = n }) (nodes-are (single t) l)
 
@@ -48,34 +52,54 @@ pub record ReadAs (r : Reading) (q : Query) : Type 0 where
   pub table : r .table ≡ map path-number (put-all [] (written-paths q)) ++ rest
   pub reductions : r .reductions ≡ query-reductions q
 
+-- what is made of accepted bytes: the typed form of the query that they write
+pub reading-is : (s : List ℕ) → query-code s ≡ 0 → (query-reading s .code ≡ 0) × (query-reading s .form ≡ form-of (query-of s))
+unfolding query-reading
+reading-is s z = rw (eq-eqb (query-code s) 0 z) (refl, refl)
+
 -- THE BYTES OF A LEGAL QUERY ARE READ AS ITS TYPED FORM
 pub read-form : (q : Query) → QueryLegal 256 q → ReadAs (query-reading (encode q)) q
-unfolding read-after
+unfolding query-reading
 read-form q l =
     let a = read-complete q l in
     rw (eq-eqb (query-scan (encode q) .code) 0 (a .accepted))
     (record {
       code = refl;
-      form = rw (a .terms) (form-made q l);
+      form = ap form-of (query-back q l);
       paths = a .table .count;
       rest = a .table .rest;
       table = a .table .holds;
       reductions = a .reductions;
     })
 
+-- THE PROGRAM READS AS IS SAID, all bytes
+pub read-steps : (s : List ℕ) → Bytes s → read-after s (query-scan s) ≡ query-reading s
+unfolding read-after query-reading
+read-steps s b = go (eqb (query-code s) 0) refl
+  where
+    go : (t : Bool) → eqb (query-code s) 0 ≡ t → read-after s (query-scan s) ≡ query-reading s
+    go false e = rw e refl
+    go true e =
+        let q = query-read s b (eqb-true (query-code s) 0 e) in
+        let n = query-terms (query-of s) in
+        let count : query-scan s .terms ≡ n = ap (λ (t : List ℕ). query-scan t .terms) (sym (q .1)) ∙ read-complete (query-of s) (q .0) .terms in
+        let made : form-after s n ≡ form-of (query-of s) = ap (λ (t : List ℕ). form-after t n) (sym (q .1)) ∙ form-made (query-of s) (q .0) in
+        rw (e, count, made) refl
+
 -- WRITTEN, THE TYPED FORM IS THE BYTES
 pub write-form : (q : Query) → QueryLegal 256 q → form-bytes (form-of q) ≡ encode q
 unfolding form-of form-bytes
 write-form (each t) l =
-    ap (λ (b : List ℕ). header-bytes 0x51 ++ (0 ∷ b)) (ap nodes-text (first-nodes (query-terms (each t)) (vertex-nodes t) (vertex-size t)) ∙ vertex-text t (l .legal))
+    let list = first-nodes (query-terms (each t)) (vertex-nodes t) (vertex-size t) in
+    ap (λ (b : List ℕ). header-bytes 0x51 ++ (0 ∷ b)) (ap nodes-text list ∙ vertex-text t (l .legal))
 write-form (single t) l =
-    ap (λ (b : List ℕ). header-bytes 0x51 ++ (1 ∷ b)) (ap nodes-text (first-nodes (query-terms (single t)) (result-nodes t) (result-size t)) ∙ result-text t (l .legal))
+    let list = first-nodes (query-terms (single t)) (result-nodes t) (result-size t) in
+    ap (λ (b : List ℕ). header-bytes 0x51 ++ (1 ∷ b)) (ap nodes-text list ∙ result-text t (l .legal))
 
 -- WRITING WHAT WAS READ GIVES THE BYTES READ
 pub write-read : (s : List ℕ) → Bytes s → query-code s ≡ 0 → (room : ℕ) → length s ≤ room → write-reply (query-reading s .form) room ≡ done s
 unfolding write-reply
 write-read s b z room h =
-    let q = read-sound s b z in
-    let e : form-bytes (query-reading s .form) ≡ s =
-    ap (λ (t : List ℕ). form-bytes (query-reading t .form)) (sym (q .2)) ∙ ap form-bytes (read-form (q .0) (q .1) .form) ∙ write-form (q .0) (q .1) ∙ q .2 in
+    let q = query-read s b z in
+    let e : form-bytes (query-reading s .form) ≡ s = ap form-bytes (reading-is s z .1) ∙ write-form (query-of s) (q .0) ∙ q .1 in
     rw (e, z, le-ltb room (length s) h) refl

@@ -3,15 +3,15 @@ use Prim.Native.Nat.{ℕ}
 use mathlib.Core.Bool.{cond}
 use mathlib.Core.List.{List, _∷_, _++_}
 use lib.Dec.{eqb}
-use lib.ListN.{getD, take, replicate}
+use lib.ListN.{take, replicate}
 use Rattle.meaning.specs.Limits.{query-terms}
 use Rattle.meaning.specs.Query.{Query, each, single}
 use Rattle.nodes.specs.declared.Term.the-variants.{Empty}
 use Rattle.nodes.specs.Text.{nodes-text}
-use Rattle.nodes.specs.Nodes.{node, nodes-read, padded}
+use Rattle.nodes.specs.Nodes.{node, padded}
 use Rattle.nodes.specs.Tree.{result-nodes, vertex-nodes}
 use Rattle.query.specs.Query.{query-code, query-scan}
-use Rattle.progress.specs.declared.Progress.{Progress}
+use Rattle.query.specs.Tree.{query-of}
 use Rattle.wire.specs.Header.{header-bytes}
 use Rattle.wire.specs.Wire.{Reply, fitted, unless}
 use Rattle.query_form.specs.declared.Form.{Form}
@@ -30,8 +30,7 @@ form-bytes f = header-bytes 0x51 ++ (f .kind ∷ nodes-text (take (f .count) (f 
 unfoldable pub write-reply : Form → ℕ → Reply
 write-reply f room = unless (query-code (form-bytes f)) (fitted (form-bytes f) room)
 
--- THE READING OF BYTES. This and what follows mirrors the program and need not be believed: `read-form` says that the reading of a legal query's bytes is its typed form.
--- After a refusal: its number, and nothing else
+-- after a refusal: its number, and nothing else
 abbrev pub blank-reading : ℕ → Reading
 blank-reading code = record {
   code = code;
@@ -41,19 +40,11 @@ blank-reading code = record {
   reductions = 0;
 }
 
--- from what the reader of the bytes has found
-unfoldable pub read-after : List ℕ → Progress → Reading
-read-after s w =
+-- THE READING OF BYTES: of accepted ones the typed form of the query that they write, its different path reductions in order of first writing (`table`) and how
+-- many reductions it has, as the scan finds them
+unfoldable pub query-reading : List ℕ → Reading
+query-reading s =
+    let w = query-scan s in
     cond (eqb (w .code) 0)
-    (record {
-      code = 0;
-      form = record { kind = getD s 5 0; count = w .terms; nodes = nodes-read (w .terms) s 6 };
-      paths = w .paths;
-      table = w .table;
-      reductions = w .reductions;
-    })
+    (record { code = 0; form = form-of (query-of s); paths = w .paths; table = w .table; reductions = w .reductions })
     (blank-reading (w .code))
-
--- of any bytes
-abbrev pub query-reading : List ℕ → Reading
-query-reading s = read-after s (query-scan s)

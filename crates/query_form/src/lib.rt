@@ -4,7 +4,7 @@ use nodes::Node;
 use nodes::Term;
 ghost use mathlib.Core.Path.{_≡_};
 ghost use lib.ListN.{length, take};
-ghost use Rattle.wire.specs.Wire.{reply-number, reply-buffer};
+ghost use Rattle.wire.specs.Wire.{Returned};
 ghost use Rattle.query_form.specs.Form.{form-bytes, write-reply, blank-reading, query-reading};
 
 // A query: its kind and the first `count` of its terms in written order.
@@ -80,7 +80,7 @@ fn draft_of(form: Form) -> Draft
 
 // The writer of queries: what it is handed is judged by the reader of its bytes, then 15.
 pub fn write(form: Form, out: &mut [u8]) -> u32
-    ensures { λ r. ⌜ (r ≡ reply-number (write-reply form (length (now (out .entry))))) × (now (out .exit) ≡ reply-buffer (write-reply form (length (now (out .entry)))) (now (out .entry))) ⌝ }
+    ensures { λ r. ⌜ Returned (write-reply form (length (now (out .entry)))) r (now (out .entry)) (now (out .exit)) ⌝ }
 {
     let d = draft_of(form);
     let bytes = d.bytes;

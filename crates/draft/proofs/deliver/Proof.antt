@@ -29,7 +29,8 @@ returns-2 : tie.Need-returns-2
 returns-2 c =
     let a = c .before .before .before .before .before .before .before .before .args in
     let z = c .before .before .before .before .before .before .if1 .left in
-    rw (delivered (a .t1) (a .len) (a .code) (length (a .out .now)) (omega arith) z, ← c .before .before .before .before .front .ensures) (c .before .before .lay .ensures)
+    rw (delivered (a .t1) (a .len) (a .code) (length (a .out .now)) (omega arith) z, ← c .before .before .before .before .front .ensures)
+    (c .before .before .lay .ensures)
 
 pub deliver-spec : {M : Type 1} → statement M
 deliver-spec =

@@ -2,7 +2,7 @@
 use mathlib.Core.Path.{refl}
 use borrow.Author.Needs.{needs}
 use borrow.Author.Tests.{le-leb, lt-leb}
-use Rattle.draft.specs.Draft.{put-byte}
+use Rattle.draft.specs.Steps.{put-byte}
 use Rattle.draft.proofs.put.Statement.{statement}
 use Rattle.draft.proofs.put.Tie as tie
 

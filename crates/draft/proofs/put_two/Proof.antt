@@ -1,7 +1,7 @@
 -- `draft::put_two` meets its contract. Assumes nothing.
 use mathlib.Core.Path.{refl, _∙_}
 use borrow.Author.Needs.{needs}
-use Rattle.draft.specs.Draft.{put-list}
+use Rattle.draft.specs.Steps.{put-list}
 use Rattle.draft.proofs.put_two.Statement.{statement}
 use Rattle.draft.proofs.put_two.Tie as tie
 

@@ -2,7 +2,7 @@
 use mathlib.Core.Path.{refl}
 use borrow.Author.Needs.{needs}
 use borrow.Author.Tests.{eq-eqb, ne-eqb}
-use Rattle.fusion.specs.Fusion.{entries-of}
+use Rattle.fusion.specs.Steps.{entries-of}
 use Rattle.fusion.proofs.entries_of_kind.Statement.{statement}
 use Rattle.fusion.proofs.entries_of_kind.Tie as tie
 

@@ -1,7 +1,7 @@
 -- `fusion::entry_term_of` meets its contract. Assumes nothing.
 use mathlib.Core.Path.{refl}
 use borrow.Author.Needs.{needs}
-use Rattle.fusion.specs.Fusion.{entry-term}
+use Rattle.fusion.specs.Steps.{entry-term}
 use Rattle.fusion.proofs.Arms.{entry-others}
 use Rattle.fusion.proofs.entry_term_of.Statement.{statement}
 use Rattle.fusion.proofs.entry_term_of.Tie as tie
@@ -28,4 +28,5 @@ returns-5 c = rw (entry-others _ _ (c .match .keys5)) refl
 pub entry-term-of-spec : {M : Type 1} → statement M
 entry-term-of-spec =
     tie.close
-    (tie.spec (λ c. search needs) (λ c κs. search needs) (λ c. search needs) (λ c. search needs) (λ c. search needs) (λ c. search needs) returns returns-2 returns-3 returns-4 returns-5)
+    (tie.spec (λ c. search needs) (λ c κs. search needs) (λ c. search needs) (λ c. search needs) (λ c. search needs) (λ c. search needs)
+    returns returns-2 returns-3 returns-4 returns-5)

@@ -1,7 +1,7 @@
 -- `fusion::final_term_of` meets its contract. Assumes nothing.
 use mathlib.Core.Path.{refl}
 use borrow.Author.Needs.{needs}
-use Rattle.fusion.specs.Fusion.{final-term}
+use Rattle.fusion.specs.Steps.{final-term}
 use Rattle.fusion.proofs.Arms.{final-others}
 use Rattle.fusion.proofs.final_term_of.Statement.{statement}
 use Rattle.fusion.proofs.final_term_of.Tie as tie

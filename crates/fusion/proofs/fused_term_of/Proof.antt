@@ -2,7 +2,7 @@
 use mathlib.Core.Path.{refl}
 use borrow.Author.Needs.{needs}
 use borrow.Author.Tests.{eq-eqb, ne-eqb}
-use Rattle.fusion.specs.Fusion.{fused-term}
+use Rattle.fusion.specs.Steps.{fused-term}
 use Rattle.fusion.proofs.fused_term_of.Statement.{statement}
 use Rattle.fusion.proofs.fused_term_of.Tie as tie
 

@@ -3,7 +3,7 @@ use Prim.Native.Nat.{_+_, _-_, _≤_}
 use mathlib.Core.Path.{_≡_, sym, _∙_}
 use native.Mathlib.Omega.{arith}
 use lib.ListN.{drop}
-use Rattle.fusion.specs.Fusion.{index-of}
+use Rattle.fusion.specs.Steps.{index-of}
 use Rattle.fusion.proofs.Parts.{index-here, index-next, index-none}
 use Rattle.fusion.proofs.position_of.Statement.{statement}
 use Rattle.fusion.proofs.position_of.Tie as tie

@@ -8,7 +8,7 @@ use lib.ListN.{take}
 use Rattle.draft.proofs.Texts.{take-least}
 use Rattle.nodes.specs.declared.Term.the-variants.{Empty}
 use Rattle.nodes.specs.Nodes.{node}
-use Rattle.fusion.specs.Fusion.{put-part}
+use Rattle.fusion.specs.Steps.{put-part}
 use Rattle.fusion.proofs.Parts.{left, part-done, part-full, part-more, written}
 use Rattle.fusion.proofs.put_part.Statement.{statement}
 use Rattle.fusion.proofs.put_part.Tie as tie
@@ -63,7 +63,8 @@ loop-again c =
       omega arith,
       omega (arith, c .reduces-of .ensures .1),
       rw (c .reduces-of .ensures .0, c .before .size-of .ensures .0, f .fused-term-of .ensures)
-          (sym (part-more (a .part) (a .table) (l .k) (l .list) (l .len) (a .t4) _ (l .i) (node Empty) (f .before .before .if1 .left) (f .before .before .before .loop-test .taken) (omega arith))
+          (sym (part-more (a .part) (a .table) (l .k) (l .list) (l .len) (a .t4) _ (l .i) (node Empty)
+          (f .before .before .if1 .left) (f .before .before .before .loop-test .taken) (omega arith))
           ∙ l .inv .2),
     )
 

@@ -2,7 +2,7 @@
 use mathlib.Core.Path.{refl}
 use native.Mathlib.Omega.{arith}
 use borrow.Author.Needs.{needs}
-use Rattle.fusion.specs.Fusion.{reduces}
+use Rattle.fusion.specs.Steps.{reduces}
 use Rattle.fusion.proofs.Arms.{reduces-others}
 use Rattle.fusion.proofs.reduces_of.Statement.{statement}
 use Rattle.fusion.proofs.reduces_of.Tie as tie

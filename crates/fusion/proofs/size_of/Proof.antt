@@ -2,7 +2,7 @@
 use mathlib.Core.Path.{refl}
 use native.Mathlib.Omega.{arith}
 use borrow.Author.Needs.{needs}
-use Rattle.fusion.specs.Fusion.{size}
+use Rattle.fusion.specs.Steps.{size}
 use Rattle.fusion.proofs.Arms.{size-others}
 use Rattle.fusion.proofs.size_of.Statement.{statement}
 use Rattle.fusion.proofs.size_of.Tie as tie

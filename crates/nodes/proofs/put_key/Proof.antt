@@ -1,7 +1,7 @@
 -- `nodes::put_key` meets its contract. Assumes nothing.
 use borrow.Author.Needs.{needs}
 use borrow.Author.Tests.{le-ltb, lt-ltb}
-use Rattle.draft.specs.Draft.{put-list}
+use Rattle.draft.specs.Steps.{put-list}
 use Rattle.nodes.proofs.put_key.Statement.{statement}
 use Rattle.nodes.proofs.put_key.Tie as tie
 

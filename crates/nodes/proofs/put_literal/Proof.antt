@@ -1,7 +1,7 @@
 -- `nodes::put_literal` meets its contract. Assumes nothing.
 use mathlib.Core.Path.{refl, _∙_}
 use borrow.Author.Needs.{needs}
-use Rattle.draft.specs.Draft.{put-list}
+use Rattle.draft.specs.Steps.{put-list}
 use Rattle.nodes.proofs.put_literal.Statement.{statement}
 use Rattle.nodes.proofs.put_literal.Tie as tie
 

@@ -3,7 +3,7 @@ use Prim.Native.Nat.{_/_, _%_}
 use mathlib.Core.Path.{sym, _∙_}
 use borrow.Author.Needs.{needs}
 use Rattle.wire.specs.Wire.{le16}
-use Rattle.draft.specs.Draft.{put-byte, put-list}
+use Rattle.draft.specs.Steps.{put-byte, put-list}
 use Rattle.nodes.specs.Text.{key-text, path-text}
 use Rattle.draft.proofs.Drafts.{put-four}
 use Rattle.nodes.proofs.put_path.Statement.{statement}

@@ -1,6 +1,6 @@
 -- `nodes::put_term` meets its contract. Assumes nothing.
 use borrow.Author.Needs.{needs}
-use Rattle.draft.specs.Draft.{put-list}
+use Rattle.draft.specs.Steps.{put-list}
 use Rattle.nodes.specs.Text.{term-text}
 use Rattle.nodes.proofs.put_term.Statement.{statement}
 use Rattle.nodes.proofs.put_term.Tie as tie

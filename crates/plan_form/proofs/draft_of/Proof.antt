@@ -4,7 +4,7 @@ use mathlib.Core.List.{_∷_, []}
 use native.Mathlib.Omega.{arith}
 use borrow.Author.Needs.{needs}
 use lib.ListN.{take, length-append}
-use Rattle.draft.specs.Draft.{empty-draft, put-list}
+use Rattle.draft.specs.Steps.{empty-draft, put-list}
 use Rattle.nodes.specs.Text.{nodes-text}
 use Rattle.draft.proofs.Drafts.{drafted, put-append}
 use Rattle.wire.specs.Header.{header-bytes}
@@ -27,13 +27,19 @@ put-requires c κs = search needs
 put-nodes-requires : tie.Need-put-nodes-requires
 put-nodes-requires c κs = search needs
 
-made : (c : tie.After-put-nodes) → c .put-nodes .result ≡ put-list empty-draft (form-bytes (c .before .before .before .before .before .before .before .args .form))
+made : (c : tie.After-put-nodes)
+    → c .put-nodes .result ≡ put-list empty-draft (form-bytes (c .before .before .before .before .before .before .before .args .form))
 unfolding put-list form-bytes
 made c =
     let f = c .before .before .before .before .before .before .before .args .form in
     let start = put-list (put-list empty-draft (header-bytes 0x57)) (f .kind ∷ f .paths ∷ []) in
     c .put-nodes .ensures .0
-    ∙ rw (c .before .put .ensures, c .before .before .put-rows .ensures .0, c .before .before .before .put-two .ensures, c .before .before .before .before .header .ensures)
+    ∙ rw (
+      c .before .put .ensures,
+      c .before .before .put-rows .ensures .0,
+      c .before .before .before .put-two .ensures,
+      c .before .before .before .before .header .ensures,
+    )
     (sym (put-append (rows-text (take (f .paths) (f .table))) (f .entries ∷ nodes-text (take (f .count) (f .nodes))) start))
 
 returns : tie.Need-returns
@@ -42,7 +48,8 @@ returns c =
     let f = c .before .before .before .before .before .before .before .args .form in
     let rows = rows-text (take (f .paths) (f .table)) in
     let rest = nodes-text (take (f .count) (f .nodes)) in
-    drafted (form-bytes f) (omega (arith, c .put-nodes .ensures .1, c .before .before .put-rows .ensures .1, length-append rows (f .entries ∷ rest))) (c .put-nodes .result) (made c)
+    drafted (form-bytes f) (omega (arith, c .put-nodes .ensures .1, c .before .before .put-rows .ensures .1, length-append rows (f .entries ∷ rest)))
+    (c .put-nodes .result) (made c)
 
 pub draft-of-spec : {M : Type 1} → statement M
 draft-of-spec =

@@ -1,7 +1,7 @@
 -- `plan_form::put_row` meets its contract. Assumes nothing.
 use mathlib.Core.Path.{refl, _∙_}
 use borrow.Author.Needs.{needs}
-use Rattle.draft.specs.Draft.{put-list}
+use Rattle.draft.specs.Steps.{put-list}
 use Rattle.plan_form.specs.Form.{row-text}
 use Rattle.plan_form.proofs.put_row.Statement.{statement}
 use Rattle.plan_form.proofs.put_row.Tie as tie

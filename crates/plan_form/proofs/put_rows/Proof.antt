@@ -5,7 +5,7 @@ use native.Mathlib.Omega.{arith}
 use native.Mathlib.Nat.{sub-zero}
 use borrow.Author.Needs.{needs}
 use lib.ListN.{take}
-use Rattle.draft.specs.Draft.{put-list}
+use Rattle.draft.specs.Steps.{put-list}
 use Rattle.draft.proofs.Texts.{left, put-more, put-done}
 use Rattle.plan_form.specs.Form.{row-text, rows-text}
 use Rattle.plan_form.proofs.Written.{rows-short}

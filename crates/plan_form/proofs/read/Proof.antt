@@ -1,8 +1,10 @@
 -- `plan_form::read` meets its contract. Assumes nothing.
 use mathlib.Core.Path.{refl}
+use native.Mathlib.Omega.{arith}
 use borrow.Author.Needs.{needs}
 use borrow.Author.Tests.{eq-eqb, ne-eqb}
-use Rattle.plan_form.specs.Form.{read-after}
+use Rattle.plan_form.specs.Steps.{form-after, read-after}
+use Rattle.plan_form.proofs.Exact.{read-steps}
 use Rattle.plan_form.proofs.read.Statement.{statement}
 use Rattle.plan_form.proofs.read.Tie as tie
 
@@ -14,7 +16,13 @@ blank-requires c κs = search needs
 
 returns : tie.Need-returns
 unfolding read-after
-returns c = rw (← c .before .before .scan .ensures, ne-eqb _ _ (c .before .if1 .taken)) (c .blank .ensures)
+returns c =
+    let known = c .before .before .before in
+    rw (
+      ← read-steps (known .before .args .s .now) (λ i. omega (arith, known .shared-slice-known .given i)),
+      ← c .before .before .scan .ensures,
+      ne-eqb _ _ (c .before .if1 .taken),
+    ) (c .blank .ensures)
 
 lesser-requires : tie.Need-lesser-requires
 lesser-requires c κs = search needs
@@ -47,10 +55,20 @@ cast-t14 : tie.Need-cast-t14
 cast-t14 c = search needs
 
 returns-2 : tie.Need-returns-2
-unfolding read-after
+unfolding read-after form-after
 returns-2 c =
     let least = c .before .before .before .before .before in
-    rw (← least .before .before .scan .ensures, eq-eqb _ _ (least .before .if1 .left), c .before .before .read-nodes .ensures, c .before .byte .ensures, c .before .before .before .lesser3 .ensures .0, c .before .before .before .before .lesser2 .ensures .0, least .lesser .ensures .0) refl
+    let known = least .before .before .before in
+    rw (
+      ← read-steps (known .before .args .s .now) (λ i. omega (arith, known .shared-slice-known .given i)),
+      ← least .before .before .scan .ensures,
+      eq-eqb _ _ (least .before .if1 .left),
+      c .before .before .read-nodes .ensures,
+      c .before .byte .ensures,
+      c .before .before .before .lesser3 .ensures .0,
+      c .before .before .before .before .lesser2 .ensures .0,
+      least .lesser .ensures .0,
+    ) refl
 
 pub read-spec : {M : Type 1} → statement M
 read-spec =

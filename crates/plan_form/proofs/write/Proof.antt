@@ -10,8 +10,10 @@ returns : tie.Need-returns
 unfolding write-reply
 returns c =
     let judged = c .before .before .before .before in
-    rw (← judged .before .before .before .before .draft-of .ensures, ← judged .judge .ensures ∙ ap plan-code (judged .before .front .ensures)) (c .before .before .deliver .ensures)
+    rw (← judged .before .before .before .before .draft-of .ensures, ← judged .judge .ensures ∙ ap plan-code (judged .before .front .ensures))
+    (c .before .before .deliver .ensures)
 
 pub write-spec : {M : Type 1} → statement M
 write-spec =
-    tie.close (tie.spec (λ c κs. search needs) (λ c. search needs) (λ c κs. search needs) (λ c κs. search needs) (λ c κs. search needs) (λ c. search needs) returns)
+    tie.close
+    (tie.spec (λ c κs. search needs) (λ c. search needs) (λ c κs. search needs) (λ c κs. search needs) (λ c κs. search needs) (λ c. search needs) returns)

@@ -2,7 +2,7 @@
 use mathlib.Core.Path.{_≡_, refl, _∙_}
 use native.Mathlib.Omega.{arith}
 use borrow.Author.Needs.{needs}
-use Rattle.draft.specs.Draft.{empty-draft, put-list}
+use Rattle.draft.specs.Steps.{empty-draft, put-list}
 use Rattle.draft.proofs.Drafts.{drafted}
 use Rattle.query_form.specs.Form.{form-bytes}
 use Rattle.query_form.proofs.draft_of.Statement.{statement}

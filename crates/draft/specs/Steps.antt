@@ -1,8 +1,8 @@
--- Bytes put one after the other into a draft. All but `texts` mirrors the program and need not be believed: what a draft holds is said of the bytes put (`put-holds`,
--- proofs/Drafts).
+-- Bytes put one after the other into a draft, as the program goes. Nothing to believe: `put-holds` (proofs/Drafts) says that a draft holds the bytes put, and
+-- `drafted` that one made of nothing but these bytes is them.
 use Prim.Native.Nat.{ℕ, _+_}
 use mathlib.Core.Bool.{cond}
-use mathlib.Core.List.{List, [], _∷_, _++_}
+use mathlib.Core.List.{List, [], _∷_}
 use lib.Dec.{leb}
 use lib.ListN.{set, replicate}
 use Rattle.draft.specs.declared.Draft.{Draft}
@@ -19,8 +19,3 @@ put-byte d b = cond (leb 576 (d .len)) d (record { bytes = set (d .bytes) (d .le
 unfoldable pub put-list : Draft → List ℕ → Draft
 put-list d [] = d
 put-list d (b ∷ l) = put-list (put-byte d b) l
-
--- things one after the other, each by its text
-unfoldable pub texts : {A : Type 0} → (A → List ℕ) → List A → List ℕ
-texts text [] = []
-texts text (a ∷ l) = text a ++ texts text l

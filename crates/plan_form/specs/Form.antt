@@ -12,7 +12,8 @@ use Rattle.nodes.specs.declared.Node.{Node}
 use Rattle.nodes.specs.declared.Term.the-variants.{Empty, Entry}
 use Rattle.draft.specs.Draft.{texts}
 use Rattle.nodes.specs.Text.{nodes-text}
-use Rattle.nodes.specs.Nodes.{node, nodes-read, padded}
+use Rattle.nodes.specs.Nodes.{node, padded}
+use Rattle.nodes.specs.Steps.{nodes-read}
 use Rattle.nodes.specs.Tree.{entry-nodes, final-nodes}
 use Rattle.plan.specs.Plan.{plan-code, plan-scan}
 use Rattle.plan.specs.Text.{entry-count, kind-of}

@@ -8,7 +8,8 @@ use Rattle.meaning.specs.Limits.{query-terms}
 use Rattle.meaning.specs.Query.{Query, each, single}
 use Rattle.nodes.specs.declared.Term.the-variants.{Empty}
 use Rattle.nodes.specs.Text.{nodes-text}
-use Rattle.nodes.specs.Nodes.{node, nodes-read, padded}
+use Rattle.nodes.specs.Nodes.{node, padded}
+use Rattle.nodes.specs.Steps.{nodes-read}
 use Rattle.nodes.specs.Tree.{result-nodes, vertex-nodes}
 use Rattle.query.specs.Query.{query-code, query-scan}
 use Rattle.progress.specs.declared.Progress.{Progress}

@@ -5,10 +5,10 @@ use Rattle.meaning.specs.Run.{pull, push, run, stopped}
 use Rattle.query.specs.Query.{query-code, query-scan}
 use Rattle.query_form.specs.Form as query-form
 use Rattle.plan_form.specs.Form.{form-bytes, row-text, write-reply}
-use Rattle.plan.specs.Plan.{body-scan, plan-code, entries-scan, entry-scan, final-scan, moved, plan-scan, row-code, row-step, row-word, rows-scan}
+use Rattle.plan.specs.Plan.{body-scan, plan-code, entries-scan, entry-scan, final-scan, moved, plan-scan, listed-code, listed-step, listed-word, listed-scan}
 use Rattle.fusion.specs.Fusion.{entries-of, entry-term, final-term, fuse-reply, fused-form, fused-term, index-of, put-part, put-term, reduces, size}
 use Rattle.fusion.specs.Fusion as fusion
-use Rattle.nodes.specs.Nodes.{collected, next-at, nodes-read, term-at}
+use Rattle.nodes.specs.Steps.{collected, next-at, nodes-read, term-at}
 use Rattle.nodes.specs.Text.{term-text}
 use Rattle.draft.specs.Draft.{texts}
 use Rattle.wire.specs.Wire.{done}
@@ -28,7 +28,7 @@ pub marked-trials : (map (found pull) trials ≡ map (λ (t : Trial). t .expecte
     × (map (found push) trials ≡ map (λ (t : Trial). t .expected) trials)
     × (map (λ (r : Reading). query-code (r .bytes)) readings ≡ map (λ (r : Reading). r .number) readings)
     × (map (λ (f : Fusing). fuse-reply (f .query-bytes) 560) fusings ≡ map (λ (f : Fusing). done (f .plan-bytes)) fusings)
-unfolding run stopped rounds first state marked gather best row query-scan header-code ended started blank read term-step leaf-step leaf-tag literal-tag path-step path-code keys-code kept-path slot-of advanced path-word reduce-step query-form.read-after nodes-read collected term-at next-at fuse-reply fused-form put-part put-term fused-term entry-term final-term index-of size reduces fusion.started entries-of write-reply form-bytes texts term-text row-text plan-scan rows-scan row-step row-code row-word body-scan moved entries-scan entry-scan final-scan index-step compute combine
+unfolding run stopped rounds first state marked gather best row query-scan header-code ended started blank read term-step leaf-step leaf-tag literal-tag path-step path-code keys-code kept-path slot-of advanced path-word reduce-step query-form.read-after nodes-read collected term-at next-at fuse-reply fused-form put-part put-term fused-term entry-term final-term index-of size reduces fusion.started entries-of write-reply form-bytes texts term-text row-text plan-scan listed-scan listed-step listed-code listed-word body-scan moved entries-scan entry-scan final-scan index-step compute combine
 marked-trials = (refl, refl, refl, refl)
 
 -- operators and reductions
@@ -44,5 +44,5 @@ runs-hold = (refl, refl)
 -- the numbers that readers of questions and worksheets give
 pub numbers-hold : (map (λ (r : Reading). query-code (r .bytes)) queries ≡ map (λ (r : Reading). r .number) queries)
     × (map (λ (r : Reading). plan-code (r .bytes)) plans ≡ map (λ (r : Reading). r .number) plans)
-unfolding query-scan header-code ended started blank read term-step leaf-step leaf-tag literal-tag path-step path-code keys-code kept-path slot-of advanced path-word reduce-step index-step literal-step row plan-scan rows-scan row-step row-code row-word body-scan moved entries-scan entry-scan final-scan
+unfolding query-scan header-code ended started blank read term-step leaf-step leaf-tag literal-tag path-step path-code keys-code kept-path slot-of advanced path-word reduce-step index-step literal-step row plan-scan listed-scan listed-step listed-code listed-word body-scan moved entries-scan entry-scan final-scan
 numbers-hold = (refl, refl)

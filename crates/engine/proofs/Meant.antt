@@ -23,7 +23,8 @@ use Rattle.plan.specs.Text.{encode, kind-of}
 use Rattle.plan.specs.Tree.{plan-of}
 use Rattle.plan.proofs.Exact.{read-complete}
 use Rattle.plan.proofs.Tree.{plan-read}
-use Rattle.rows.specs.Rows.{body-count, body-read, many, rows-at}
+use Rattle.eval.specs.Steps.{body-found}
+use Rattle.rows.specs.Steps.{body-count, many, rows-at}
 use Rattle.rows.proofs.Exact.{Holds, answer-rows, rows-length}
 use Rattle.term_text.proofs.Table.{Table}
 use Rattle.progress.specs.declared.Progress.{Progress}
@@ -228,13 +229,13 @@ module _ (s m : List ℕ) (bs : Bytes s) (bm : Bytes m) (z : run-code (plan-scan
   -- A TABLE THAT HOLDS THE VALUES after the rounds reported: the answer written from it is the run's
   pub finish-answers : (limit : Limit) (room rounds : ℕ) (figures : List ℕ) → rounds ≡ outcome limit (graph-of m) (plan-of s) .rounds
       → Holds (at16 m 5) (length (plan-of s .paths)) figures (values-at (pull (graph-of m)) (plan-of s .paths) (outcome limit (graph-of m) (plan-of s) .rounds))
-      → run-reply limit s m room ≡ answer-reply (at16 m 5) rounds (getD s 5 0) (values (many (body-read s (rows-at figures (min (plan-scan s .paths) 8)) (min (at16 m 5) 256)))) room
+      → run-reply limit s m room ≡ answer-reply (at16 m 5) rounds (getD s 5 0) (values (many (body-found s (rows-at figures (min (plan-scan s .paths) 8)) (min (at16 m 5) 256)))) room
   finish-answers limit room rounds figures told holds =
       let o : Outcome = outcome limit g p in
-      let vs = values (many (body-read s (rows-at figures (length (p .paths))) (min n 256))) in
+      let vs = values (many (body-found s (rows-at figures (length (p .paths))) (min n 256))) in
       let G : ℕ → List Value = values-at (pull g) (p .paths) (o .rounds) in
       let first =
-      subst (λ (t : List ℕ). take (body-count (encode p) n) (values (many (body-read t (rows-at figures (length (p .paths))) (min n 256)))) ≡ body-rows (p .body) G n)
+      subst (λ (t : List ℕ). take (body-count (encode p) n) (values (many (body-found t (rows-at figures (length (p .paths))) (min n 256)))) ≡ body-rows (p .body) G n)
       (a .written) (answer-rows p 256 (a .legal) figures n few G holds) in
       let begin : take (length (o .rows)) vs ≡ o .rows = rw (ap length (rows-are limit) ∙ rows-length p G n, rows-are limit) first in
       run-means s m bs bm z .1 limit room

@@ -1,5 +1,5 @@
 -- THE ROWS OF A PLAN'S BODY, by the bytes of a legal plan, are the rows of its tree: `body-value`. Assumes nothing.
-use Prim.Native.Nat.{ℕ, zero, suc, _+_, _-_, _*_, _<_}
+use Prim.Native.Nat.{ℕ, zero, suc, _+_, _-_, _*_, _≤_, _<_, min}
 use mathlib.Core.Path.{_≡_, refl, sym, ap, ap₂, _∙_}
 use mathlib.Core.List.{List, [], _∷_, _++_, map, append-assoc, append-nil}
 use native.Mathlib.Omega.{arith}
@@ -10,8 +10,9 @@ use Rattle.meaning.specs.Plan.{Body, Plan, each-vertex, one-result}
 use Rattle.meaning.specs.Query.{PathReduction, Term, VertexReduction}
 use Rattle.meaning.specs.Run.{at-vertices, body-rows, evaluate, reduced, tabulate}
 use Rattle.meaning.proofs.Lists.{tabulate-at, tabulate-length}
-use Rattle.plan.proofs.PathRows.{rows-size}
-use Rattle.plan.specs.Text.{body-bytes, encode, entries-bytes, rows-bytes}
+use Rattle.plan.proofs.ListedPaths.{listed-size}
+use Rattle.plan.specs.Text.{body-bytes, encode, entries-bytes, all-listed-bytes}
+use Rattle.terms.specs.declared.TermKind.the-variants.{OfEntry, OfFinal}
 use Rattle.term_text.specs.Text.{expression-bytes}
 use Rattle.term_text.proofs.Steps.{drop-on, tag-there}
 use Rattle.value.specs.declared.Row.{Row}
@@ -20,8 +21,7 @@ use Rattle.value.specs.declared.Value.the-variants.{Absent}
 use Rattle.value.specs.Value.{values}
 use Rattle.walks.specs.Lists.{All}
 use Rattle.eval.specs.declared.Found.{Found}
-use Rattle.eval.specs.Body.{expression-end, body-found, eight, entries-end, entry-rows, results, row}
-use Rattle.eval.specs.Eval.{evaluated}
+use Rattle.eval.specs.Steps.{body-found, eight, entries-end, entry-rows, evaluated, expression-end, final-found, results, row}
 use Rattle.eval.proofs.Laws.{row-value}
 use Rattle.eval.proofs.Tree.{entry-value, evaluate-same, final-value}
 
@@ -47,8 +47,8 @@ tabulate-same f g n h =
 
 module _ (n count : ℕ) (F : ℕ → List Row) (G : ℕ → List Value) (agrees : Agrees n count F G) (s : List ℕ) where
   -- an entry
-  module _ (t : Term ℕ) (legal : Expression count t) (at : ℕ) (rest : List ℕ) (e : drop at s ≡ expression-bytes 2 t ++ rest) where
-    entry-end : expression-end s at ≡ at + length (expression-bytes 2 t)
+  module _ (t : Term ℕ) (legal : Expression count t) (at : ℕ) (rest : List ℕ) (e : drop at s ≡ expression-bytes OfEntry t ++ rest) where
+    entry-end : expression-end s at ≡ at + length (expression-bytes OfEntry t)
     unfolding expression-end
     entry-end = ap (λ (f : Found). f .next) (entry-value count s (eight []) t legal at rest e)
 
@@ -69,7 +69,7 @@ module _ (n count : ℕ) (F : ℕ → List Row) (G : ℕ → List Value) (agrees
   entries-value [] a at rest e = record { worth = refl; end = omega arith }
   entries-value (x ∷ es) a at rest e =
       let t : Term ℕ = x .body in
-      let l : List ℕ = expression-bytes 2 t in
+      let l : List ℕ = expression-bytes OfEntry t in
       let legal = a .0 .2 in
       let tag = tag-there s at (x .reduction) ((l ++ entries-bytes es) ++ rest) e in
       let d1 : drop (at + 1) s ≡ l ++ (entries-bytes es ++ rest) =
@@ -80,7 +80,9 @@ module _ (n count : ℕ) (F : ℕ → List Row) (G : ℕ → List Value) (agrees
       let others = entries-value es (a .1) (at + 1 + length l) rest d2 in
       record {
         worth = rw (tag, rows, next, others .worth) refl;
-        end = ap (entries-end (length es) s) next ∙ others .end ∙ (let z : at + 1 + length l + length (entries-bytes es) ≡ at + suc (length (l ++ entries-bytes es)) = omega (arith, length-append l (entries-bytes es)) in z);
+        end = ap (entries-end (length es) s) next ∙ others .end
+            ∙ (let z : at + 1 + length l + length (entries-bytes es) ≡ at + suc (length (l ++ entries-bytes es)) =
+            omega (arith, length-append l (entries-bytes es)) in z);
       }
 
 module _ (n : ℕ) (F : ℕ → List Row) (G : ℕ → List Value) (cs : List PathReduction) (agrees : Agrees n (length cs) F G) where
@@ -91,27 +93,27 @@ module _ (n : ℕ) (F : ℕ → List Row) (G : ℕ → List Value) (cs : List Pa
   at-count = 7 + 6 * length cs
 
   body-there : (b : Body) → drop (7 + 6 * length cs) (encode (record { paths = cs; body = b })) ≡ body-bytes b
-  body-there b = drop-on (text b) 7 (6 * length cs) (rows-bytes cs) (body-bytes b) refl (rows-size cs)
+  body-there b = drop-on (text b) 7 (6 * length cs) (all-listed-bytes cs) (body-bytes b) refl (listed-size cs)
 
   -- "Kind 0 has e = 1": the rows of the one entry
   each-value : (t : Term ℕ) → Expression (length cs) t → values (body-found (encode (record { paths = cs; body = each-vertex t })) F n) ≡ at-vertices G n t
   unfolding body-found
   each-value t legal =
       let s : List ℕ = text (each-vertex t) in
-      let l : List ℕ = expression-bytes 2 t in
+      let l : List ℕ = expression-bytes OfEntry t in
       entry-rows-value n (length cs) F G agrees s t legal (at-count + 2) []
       (drop-on s at-count 2 (1 ∷ 0 ∷ []) l (body-there (each-vertex t)) refl ∙ sym (append-nil l))
 
-  -- kind 1: the final expression over the results of the entries
-  one-value : (es : List (VertexReduction ℕ)) (t : Term ℕ) → All (EntryLegal (length cs)) es → Expression (length es) t
+  -- kind 1: the final expression over the results of the entries; "e from 0 to 8" is not cut
+  one-value : (es : List (VertexReduction ℕ)) (t : Term ℕ) → length es ≤ 8 → All (EntryLegal (length cs)) es → Expression (length es) t
       → values (body-found (encode (record { paths = cs; body = one-result es t })) F n) ≡ evaluate (map (reduced G n) es) t ∷ []
-  unfolding body-found
-  one-value es t a legal =
+  unfolding body-found final-found
+  one-value es t few a legal =
       let s : List ℕ = text (one-result es t) in
-      let l : List ℕ = expression-bytes 3 t in
+      let l : List ℕ = expression-bytes OfFinal t in
       let vs : List Value = map (reduced G n) es in
       let there = body-there (one-result es t) in
-      let count = tag-there s at-count (length es) (entries-bytes es ++ l) there in
+      let count : min (getD s at-count 0) 8 ≡ length es = omega (arith, tag-there s at-count (length es) (entries-bytes es ++ l) there) in
       let d1 = drop-on s at-count 1 (length es ∷ []) (entries-bytes es ++ l) there refl in
       let E = entries-value n (length cs) F G agrees s es a (at-count + 1) l d1 in
       let d2 = drop-on s (at-count + 1) (length (entries-bytes es)) (entries-bytes es) l d1 refl ∙ sym (append-nil l) in
@@ -130,4 +132,4 @@ body-value p m legal n F G agrees = go (p .body) (legal .body-legal)
   where
     go : (b : Body) → BodyLegal (length (p .paths)) b → values (body-found (encode (record { paths = p .paths; body = b })) F n) ≡ body-rows b G n
     go (each-vertex t) l = each-value n F G (p .paths) agrees t l
-    go (one-result es t) l = one-value n F G (p .paths) agrees es t (l .1) (l .2)
+    go (one-result es t) l = one-value n F G (p .paths) agrees es t (l .0) (l .1) (l .2)

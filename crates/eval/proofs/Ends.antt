@@ -14,8 +14,7 @@ use Rattle.wire.specs.Wire.{at32}
 use Rattle.eval.specs.declared.Found.{Found}
 use Rattle.eval.specs.declared.Head.{Head}
 use Rattle.eval.specs.declared.Head.the-variants.{Apply, Leaf}
-use Rattle.eval.specs.Body.{eight, expression-end}
-use Rattle.eval.specs.Eval.{evaluated, found, head, joined, one-of}
+use Rattle.eval.specs.Steps.{eight, evaluated, expression-end, found, head, joined, one-of}
 
 module _ (s : List ℕ) (rows : List Row) (most : ℕ) (far : length s + 4 ≤ most) where
   abbrev Within : Head → Type 0
@@ -39,7 +38,8 @@ module _ (s : List ℕ) (rows : List Row) (most : ℕ) (far : length s + 4 ≤ m
       within-test (leb (length s) at) none (cond (one-of tag 0x30 0x31) index later) (λ e. h)
       (λ e. let lt = leb-false (length s) at e in
       within-test (one-of tag 0x30 0x31) index later (λ q. omega arith)
-      (λ q. within-test (one-of tag 0x11 0x21) number last (λ q. omega arith) (λ q. within-test (one-of tag 0x12 0x22) operator none (λ q. omega arith) (λ q. h))))
+      (λ q. within-test (one-of tag 0x11 0x21) number last (λ q. omega arith)
+      (λ q. within-test (one-of tag 0x12 0x22) operator none (λ q. omega arith) (λ q. h))))
 
   joined-within : (go : ℕ → Found) → ((at : ℕ) → at ≤ most → go at .next ≤ most) → (x : Head) → Within x → joined go x .next ≤ most
   unfolding joined

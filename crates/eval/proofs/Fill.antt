@@ -17,7 +17,8 @@ module _ {A : Type 0} (size : ℕ) (f : ℕ → A) (blank : A) where
   tabulate-more : (i from : ℕ) → tabulate (suc i) from f ≡ tabulate i from f ++ (f (from + i) ∷ [])
   tabulate-more zero from = ap (λ (k : ℕ). f k ∷ []) (let e : from ≡ from + 0 = omega arith in e)
   tabulate-more (suc i) from =
-      ap (λ (l : List A). f from ∷ l) (tabulate-more i (suc from) ∙ ap (λ (k : ℕ). tabulate i (suc from) f ++ (f k ∷ [])) (let e : suc from + i ≡ from + suc i = omega arith in e))
+      ap (λ (l : List A). f from ∷ l)
+      (tabulate-more i (suc from) ∙ ap (λ (k : ℕ). tabulate i (suc from) f ++ (f k ∷ [])) (let e : suc from + i ≡ from + suc i = omega arith in e))
 
   -- none is set
   pub fill-none : filled 0 ≡ replicate size blank
@@ -31,7 +32,9 @@ module _ {A : Type 0} (size : ℕ) (f : ℕ → A) (blank : A) where
       ap (λ (k : ℕ). set (front ++ replicate k blank) i (f i)) (let e : size - i ≡ suc (size - (i + 1)) = omega arith in e)
       ∙ set-at front blank rest (f i) i (tabulate-length i zero f)
       ∙ sym (append-snoc front (f i) rest)
-      ∙ ap (λ (l : List A). l ++ rest) (ap (λ (k : ℕ). front ++ (f k ∷ [])) (let e : i ≡ 0 + i = omega arith in e) ∙ sym (tabulate-more i 0) ∙ ap (λ (k : ℕ). tabulate k zero f) (sym (add-one i)))
+      ∙ ap (λ (l : List A). l ++ rest)
+      (ap (λ (k : ℕ). front ++ (f k ∷ [])) (let e : i ≡ 0 + i = omega arith in e) ∙ sym (tabulate-more i 0)
+      ∙ ap (λ (k : ℕ). tabulate k zero f) (sym (add-one i)))
 
   -- those that are set are the first i
   pub fill-front : (i : ℕ) → take i (filled i) ≡ tabulate i zero f

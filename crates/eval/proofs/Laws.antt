@@ -7,7 +7,7 @@ use lib.ListN.{length, getD, length-map, List·getD-eq-default, List·getD-map}
 use Rattle.value.specs.declared.Row.{Row}
 use Rattle.value.specs.declared.Value.the-variants.{Absent}
 use Rattle.value.specs.Value.{values}
-use Rattle.eval.specs.Eval.{evaluated, found, head, joined}
+use Rattle.eval.specs.Steps.{evaluated, found, head, joined}
 
 -- the value of a row
 pub row-value : (rows : List Row) (i : ℕ) → getD (values rows) i Absent ≡ getD rows i (record { value = Absent }) .value

@@ -5,8 +5,7 @@ use value::Value;
 ghost use mathlib.Core.Path.{_≡_};
 ghost use lib.ListN.{getD};
 ghost use Rattle.value.specs.Value.{values};
-ghost use Rattle.eval.specs.Eval.{one-of, head, evaluated};
-ghost use Rattle.eval.specs.Body.{expression-end};
+ghost use Rattle.eval.specs.Steps.{evaluated, expression-end, head, one-of};
 
 // The value of a term, and where the term behind it starts.
 pub struct Found {

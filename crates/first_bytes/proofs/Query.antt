@@ -1,5 +1,5 @@
--- A question longer than 455 bytes is judged by them as it is whole: of 64 terms, at most 7 bytes each behind the first 6, nothing lies past 454, and of what stands
--- behind them only whether it is there is asked. Assumes nothing.
+-- A question longer than 455 bytes is judged by them as it is whole: of 64 terms, at most 7 bytes each behind the first 6, nothing lies past 454, and of what
+-- stands behind them only whether it is there is asked. Assumes nothing.
 use Prim.Native.Nat.{ℕ, zero, suc, _+_, _*_, _≤_, _<_, max}
 use mathlib.Core.Path.{_≡_, refl, ap, ap₂, _∙_}
 use mathlib.Core.Bool.{Bool, true, false, cond}
@@ -11,11 +11,14 @@ use lib.ListN.{length, getD, set}
 use Rattle.fields.specs.Fields.{code-of, key-code, opening-code, source-code}
 use Rattle.path_fields.specs.Paths.{keys-code, path-code, path-word}
 use Rattle.terms.specs.declared.Step.{Step}
+use Rattle.terms.specs.declared.TermKind.{TermKind}
+use Rattle.terms.specs.declared.TermKind.the-variants.{OfVertex, OfResult, OfEntry, OfFinal}
 use Rattle.progress.specs.declared.Progress.{Progress}
-use Rattle.terms.specs.Terms.{advanced, apply-step, index-step, kept-path, leaf-step, leaf-tag, literal-step, literal-tag, path-step, read, reduce-step, slot-of, stopped, term-step}
+use Rattle.terms.specs.Terms.{advanced, apply-step, index-step, kept-path, leaf-step, leaf-tag, literal-step, literal-tag, path-step, read, reduce-step}
+use Rattle.terms.specs.Terms.{slot-of, refused-step, term-step}
 use Rattle.progress.specs.Progress.{blank, ended, started}
 use Rattle.term_text.proofs.Paths.{code-range}
-use Rattle.query.specs.Query.{query-code, query-scan}
+use Rattle.query.specs.Query.{query-code, query-scan, term-kind}
 use Rattle.wire.specs.Header.{header-code, then}
 
 -- two texts that begin alike and are longer
@@ -93,7 +96,7 @@ module _ (s t : List ℕ) (a : Alike s t) where
       made : List ℕ → Step
       made u = record { progress = kept-path (advanced w (i + 3 + getD u i 256)) (path-word u i); follow = 0 }
 
-      go : (b : Bool) → eqb (path-code s i) 0 ≡ b → cond b (made t) (stopped (path-code s i)) ≡ cond b (made s) (stopped (path-code s i))
+      go : (b : Bool) → eqb (path-code s i) 0 ≡ b → cond b (made t) (refused-step (path-code s i)) ≡ cond b (made s) (refused-step (path-code s i))
       go true e =
           rw (a .bytes i 256 (omega arith), path-word-same i (omega arith) (path-range i (eqb-true (path-code s i) 0 e))) refl
       go false e = refl
@@ -114,27 +117,31 @@ module _ (s t : List ℕ) (a : Alike s t) where
   unfolding apply-step
   apply-same w h = rw (a .bytes (w .at + 1) 256 (omega arith)) refl
 
-  leaf-same : (mode : ℕ) (w : Progress) → w .at ≤ 447 → leaf-step mode t w ≡ leaf-step mode s w
+  leaf-same : (kind : TermKind) (w : Progress) → w .at ≤ 447 → leaf-step kind t w ≡ leaf-step kind s w
   unfolding leaf-step
-  leaf-same mode w h = rw (path-same w h, reduce-same w h, index-same w (w .paths) h, index-same w (w .reductions) h) refl
+  leaf-same OfVertex w h = path-same w h
+  leaf-same OfResult w h = reduce-same w h
+  leaf-same OfEntry w h = index-same w (w .paths) h
+  leaf-same OfFinal w h = index-same w (w .reductions) h
 
-  term-same : (mode left : ℕ) (w : Progress) → Near w → term-step mode left t w ≡ term-step mode left s w
+  term-same : (kind : TermKind) (left : ℕ) (w : Progress) → Near w → term-step kind left t w ≡ term-step kind left s w
   unfolding term-step
-  term-same mode left w g =
-      rw (lt-leb (length t) (w .at) (omega (arith, a .longer, g .few, g .near)), lt-leb (length s) (w .at) (omega (arith, a .long, g .few, g .near))) (go (leb 64 (w .terms)) refl)
+  term-same kind left w g =
+      rw (lt-leb (length t) (w .at) (omega (arith, a .longer, g .few, g .near)), lt-leb (length s) (w .at) (omega (arith, a .long, g .few, g .near)))
+      (go (leb 64 (w .terms)) refl)
     where
       further : List ℕ → Step
       further u =
-          cond (eqb left 0) (stopped 11)
-          (cond (eqb (getD u (w .at) 0) (leaf-tag mode)) (leaf-step mode u w)
-          (cond (eqb (getD u (w .at) 0) (literal-tag mode)) (literal-step u w)
-          (cond (eqb (getD u (w .at) 0) (literal-tag mode + 1)) (apply-step u w) (stopped 9))))
+          cond (eqb left 0) (refused-step 11)
+          (cond (eqb (getD u (w .at) 0) (leaf-tag kind)) (leaf-step kind u w)
+          (cond (eqb (getD u (w .at) 0) (literal-tag kind)) (literal-step u w)
+          (cond (eqb (getD u (w .at) 0) (literal-tag kind + 1)) (apply-step u w) (refused-step 9))))
 
-      go : (b : Bool) → leb 64 (w .terms) ≡ b → cond b (stopped 12) (further t) ≡ cond b (stopped 12) (further s)
+      go : (b : Bool) → leb 64 (w .terms) ≡ b → cond b (refused-step 12) (further t) ≡ cond b (refused-step 12) (further s)
       go true e = refl
       go false e =
           let h : w .at ≤ 447 = omega (arith, leb-false 64 (w .terms) e, g .near) in
-          rw (a .bytes (w .at) 0 (omega arith), leaf-same mode w h, literal-same w h, apply-same w h) refl
+          rw (a .bytes (w .at) 0 (omega arith), leaf-same kind w h, literal-same w h, apply-same w h) refl
 
   -- a refusal is at 0; one term more, of at most 7 bytes, where there were under 64
   near-blank : (c : ℕ) → Near (blank c)
@@ -159,8 +166,8 @@ module _ (s t : List ℕ) (a : Alike s t) where
       go true = near-blank 14
       go false = record { few = g .few; near = g .near }
 
-  near-stopped : (c : ℕ) → NearStep (stopped c)
-  near-stopped c = record { progress = near-blank c }
+  near-refused : (c : ℕ) → NearStep (refused-step c)
+  near-refused c = record { progress = near-blank c }
 
   -- a step by either side of its test
   near-cond : (b : Bool) {x y : Step} → (b ≡ true → NearStep x) → NearStep y → NearStep (cond b x y)
@@ -173,100 +180,106 @@ module _ (s t : List ℕ) (a : Alike s t) where
       near-cond (eqb (path-code s (w .at + 1)) 0)
       (λ e.
       let n = path-range (w .at + 1) (eqb-true (path-code s (w .at + 1)) 0 e) in
-      record { progress = near-kept (advanced w (w .at + 1 + 3 + getD s (w .at + 1) 256)) (path-word s (w .at + 1)) (near-next w (w .at + 1 + 3 + getD s (w .at + 1) 256) l g (omega (arith, n))) })
-      (near-stopped (path-code s (w .at + 1)))
+      record {
+        progress = near-kept (advanced w (w .at + 1 + 3 + getD s (w .at + 1) 256)) (path-word s (w .at + 1))
+            (near-next w (w .at + 1 + 3 + getD s (w .at + 1) 256) l g (omega (arith, n)));
+      })
+      (near-refused (path-code s (w .at + 1)))
 
   near-reduce : (w : Progress) → w .terms < 64 → w .at ≤ 6 + 7 * w .terms → NearStep (reduce-step s w)
   unfolding reduce-step
   near-reduce w l g =
       let n = near-next w (w .at + 1 + 1) l g (omega arith) in
       near-cond (eqb (code-of (getD s (w .at + 1) 256) 5) 0)
-      (λ e. near-cond (leb 8 (w .reductions)) (λ f. near-stopped 14) (record { progress = record { few = n .few; near = n .near } }))
-      (near-stopped (code-of (getD s (w .at + 1) 256) 5))
+      (λ e. near-cond (leb 8 (w .reductions)) (λ f. near-refused 14) (record { progress = record { few = n .few; near = n .near } }))
+      (near-refused (code-of (getD s (w .at + 1) 256) 5))
 
   near-index : (w : Progress) (n : ℕ) → w .terms < 64 → w .at ≤ 6 + 7 * w .terms → NearStep (index-step s w n)
   unfolding index-step
   near-index w n l g =
-      near-cond (ltb 255 (getD s (w .at + 1) 256)) (λ e. near-stopped 1)
-      (near-cond (leb n (getD s (w .at + 1) 256)) (λ e. near-stopped 16) (record { progress = near-next w (w .at + 1 + 1) l g (omega arith) }))
+      near-cond (ltb 255 (getD s (w .at + 1) 256)) (λ e. near-refused 1)
+      (near-cond (leb n (getD s (w .at + 1) 256)) (λ e. near-refused 16) (record { progress = near-next w (w .at + 1 + 1) l g (omega arith) }))
 
   near-literal : (w : Progress) → w .terms < 64 → w .at ≤ 6 + 7 * w .terms → NearStep (literal-step s w)
   unfolding literal-step
-  near-literal w l g = near-cond (ltb 255 (getD s (w .at + 4) 256)) (λ e. near-stopped 1) (record { progress = near-next w (w .at + 4 + 1) l g (omega arith) })
+  near-literal w l g = near-cond (ltb 255 (getD s (w .at + 4) 256)) (λ e. near-refused 1) (record { progress = near-next w (w .at + 4 + 1) l g (omega arith) })
 
   near-apply : (w : Progress) → w .terms < 64 → w .at ≤ 6 + 7 * w .terms → NearStep (apply-step s w)
   unfolding apply-step
   near-apply w l g =
       near-cond (eqb (code-of (getD s (w .at + 1) 256) 11) 0)
       (λ e. record { progress = near-next w (w .at + 1 + 1) l g (omega arith) })
-      (near-stopped (code-of (getD s (w .at + 1) 256) 11))
+      (near-refused (code-of (getD s (w .at + 1) 256) 11))
 
-  near-leaf : (mode : ℕ) (w : Progress) → w .terms < 64 → w .at ≤ 6 + 7 * w .terms → NearStep (leaf-step mode s w)
+  near-leaf : (kind : TermKind) (w : Progress) → w .terms < 64 → w .at ≤ 6 + 7 * w .terms → NearStep (leaf-step kind s w)
   unfolding leaf-step
-  near-leaf mode w l g =
-      near-cond (eqb mode 0) (λ e. near-path w l g)
-      (near-cond (eqb mode 1) (λ e. near-reduce w l g)
-      (near-cond (eqb mode 2) (λ e. near-index w (w .paths) l g) (near-index w (w .reductions) l g)))
+  near-leaf OfVertex w l g = near-path w l g
+  near-leaf OfResult w l g = near-reduce w l g
+  near-leaf OfEntry w l g = near-index w (w .paths) l g
+  near-leaf OfFinal w l g = near-index w (w .reductions) l g
 
-  near-term : (mode left : ℕ) (w : Progress) → Near w → NearStep (term-step mode left s w)
+  near-term : (kind : TermKind) (left : ℕ) (w : Progress) → Near w → NearStep (term-step kind left s w)
   unfolding term-step
-  near-term mode left w g = near-cond (leb (length s) (w .at)) (λ e. near-stopped 1) (go (leb 64 (w .terms)) refl)
+  near-term kind left w g = near-cond (leb (length s) (w .at)) (λ e. near-refused 1) (go (leb 64 (w .terms)) refl)
     where
       tag : ℕ
       tag = getD s (w .at) 0
 
       further : Step
       further =
-          cond (eqb left 0) (stopped 11)
-          (cond (eqb tag (leaf-tag mode)) (leaf-step mode s w)
-          (cond (eqb tag (literal-tag mode)) (literal-step s w)
-          (cond (eqb tag (literal-tag mode + 1)) (apply-step s w) (stopped 9))))
+          cond (eqb left 0) (refused-step 11)
+          (cond (eqb tag (leaf-tag kind)) (leaf-step kind s w)
+          (cond (eqb tag (literal-tag kind)) (literal-step s w)
+          (cond (eqb tag (literal-tag kind + 1)) (apply-step s w) (refused-step 9))))
 
-      go : (b : Bool) → leb 64 (w .terms) ≡ b → NearStep (cond b (stopped 12) further)
-      go true e = near-stopped 12
+      go : (b : Bool) → leb 64 (w .terms) ≡ b → NearStep (cond b (refused-step 12) further)
+      go true e = near-refused 12
       go false e =
           let l = leb-false 64 (w .terms) e in
-          near-cond (eqb left 0) (λ f. near-stopped 11)
-          (near-cond (eqb tag (leaf-tag mode)) (λ f. near-leaf mode w l (g .near))
-          (near-cond (eqb tag (literal-tag mode)) (λ f. near-literal w l (g .near))
-          (near-cond (eqb tag (literal-tag mode + 1)) (λ f. near-apply w l (g .near)) (near-stopped 9))))
+          near-cond (eqb left 0) (λ f. near-refused 11)
+          (near-cond (eqb tag (leaf-tag kind)) (λ f. near-leaf kind w l (g .near))
+          (near-cond (eqb tag (literal-tag kind)) (λ f. near-literal w l (g .near))
+          (near-cond (eqb tag (literal-tag kind + 1)) (λ f. near-apply w l (g .near)) (near-refused 9))))
 
   -- a term and all that it contains
-  read-same : (mode left : ℕ) (w : Progress) → Near w → (read mode left t w ≡ read mode left s w) × Near (read mode left s w)
+  read-same : (kind : TermKind) (left : ℕ) (w : Progress) → Near w → (read kind left t w ≡ read kind left s w) × Near (read kind left s w)
   unfolding read
-  read-same mode zero w g = rw (term-same mode zero w g) (go (eqb (w .code) 0))
+  read-same kind zero w g = rw (term-same kind zero w g) (go (eqb (w .code) 0))
     where
       h : Step
-      h = term-step mode zero s w
+      h = term-step kind zero s w
 
       go : (b : Bool) → (_≡_ {A = Progress} (cond b (h .progress) w) (cond b (h .progress) w)) × Near (cond b (h .progress) w)
-      go true = (refl, near-term mode zero w g .progress)
+      go true = (refl, near-term kind zero w g .progress)
       go false = (refl, g)
-  read-same mode (suc left) w g =
+  read-same kind (suc left) w g =
       let p = go (λ m v. read-same m left v) (eqb (w .code) 0) (eqb (here .follow) 0) (eqb (here .follow) 1) in
-      (ap (λ (h : Step). after t h (eqb (w .code) 0) (eqb (h .follow) 0) (eqb (h .follow) 1)) (term-same mode (suc left) w g) ∙ p .0, p .1)
+      (ap (λ (h : Step). after t h (eqb (w .code) 0) (eqb (h .follow) 0) (eqb (h .follow) 1)) (term-same kind (suc left) w g) ∙ p .0, p .1)
     where
       here : Step
-      here = term-step mode (suc left) s w
+      here = term-step kind (suc left) s w
 
       n : Near (here .progress)
-      n = near-term mode (suc left) w g .progress
+      n = near-term kind (suc left) w g .progress
 
       after : List ℕ → Step → Bool → Bool → Bool → Progress
       after u h x y z =
           elim x [
-            | true ↦ elim y [ true ↦ h .progress | false ↦ elim z [ true ↦ read 0 left u (h .progress) | false ↦ read mode left u (read mode left u (h .progress)) ] ]
+            | true ↦ elim y [
+              | true ↦ h .progress
+              | false ↦ elim z [ true ↦ read OfVertex left u (h .progress) | false ↦ read kind left u (read kind left u (h .progress)) ]
+            ]
             | false ↦ w
           ]
 
-      go : ((m : ℕ) (v : Progress) → Near v → (read m left t v ≡ read m left s v) × Near (read m left s v)) → (x y z : Bool)
+      go : ((m : TermKind) (v : Progress) → Near v → (read m left t v ≡ read m left s v) × Near (read m left s v)) → (x y z : Bool)
           → (after t here x y z ≡ after s here x y z) × Near (after s here x y z)
       go deeper true true z = (refl, n)
-      go deeper true false true = deeper 0 (here .progress) n
+      go deeper true false true = deeper OfVertex (here .progress) n
       go deeper true false false =
-          let p = deeper mode (here .progress) n in
-          let q = deeper mode (read mode left s (here .progress)) (p .1) in
-          (ap (read mode left t) (p .0) ∙ q .0, q .1)
+          let p = deeper kind (here .progress) n in
+          let q = deeper kind (read kind left s (here .progress)) (p .1) in
+          (ap (read kind left t) (p .0) ∙ q .0, q .1)
       go deeper false y z = (refl, g)
 
   -- header and kind
@@ -289,7 +302,8 @@ module _ (s t : List ℕ) (a : Alike s t) where
   ended-same : (w : Progress) → Near w → (ended t w ≡ ended s w) × (ended s w .code ≡ 0 → ⊥)
   unfolding ended blank
   ended-same w g =
-      rw (lt-ltb (w .at) (length t) (omega (arith, a .longer, g .few, g .near)), lt-ltb (w .at) (length s) (omega (arith, a .long, g .few, g .near))) (go (eqb (w .code) 0) refl)
+      rw (lt-ltb (w .at) (length t) (omega (arith, a .longer, g .few, g .near)), lt-ltb (w .at) (length s) (omega (arith, a .long, g .few, g .near)))
+      (go (eqb (w .code) 0) refl)
     where
       go : (b : Bool) → eqb (w .code) 0 ≡ b → (_≡_ {A = Progress} (cond b (blank 6) w) (cond b (blank 6) w)) × (cond b (blank 6) w .code ≡ 0 → ⊥)
       go true e = (refl, λ z. omega arith)
@@ -304,8 +318,8 @@ module _ (s t : List ℕ) (a : Alike s t) where
   unfolding query-scan blank
   scan-same = rw (opening-same, a .bytes 5 256 (omega arith), r .0, e .0) (go (eqb (opening-code 0x51 s) 0) refl)
     where
-      kind : ℕ
-      kind = getD s 5 256
+      kind : TermKind
+      kind = term-kind (getD s 5 256)
 
       r : (read kind 16 t (started 6) ≡ read kind 16 s (started 6)) × Near (read kind 16 s (started 6))
       r = read-same kind 16 (started 6) near-started
@@ -317,6 +331,7 @@ module _ (s t : List ℕ) (a : Alike s t) where
       whole = ended s (read kind 16 s (started 6))
 
       go : (b : Bool) → eqb (opening-code 0x51 s) 0 ≡ b
-          → (_≡_ {A = Progress} (cond b whole (blank (opening-code 0x51 s))) (cond b whole (blank (opening-code 0x51 s)))) × (cond b whole (blank (opening-code 0x51 s)) .code ≡ 0 → ⊥)
+          → (_≡_ {A = Progress} (cond b whole (blank (opening-code 0x51 s))) (cond b whole (blank (opening-code 0x51 s))))
+          × (cond b whole (blank (opening-code 0x51 s)) .code ≡ 0 → ⊥)
       go true p = (refl, e .1)
       go false p = (refl, λ z. eqb-false (opening-code 0x51 s) 0 p z)

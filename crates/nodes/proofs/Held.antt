@@ -7,7 +7,8 @@ use lib.ListN.{length, set, take, replicate, length-append}
 use lib.Seq.{set-at, take-at, append-snoc}
 use Rattle.nodes.specs.declared.Node.{Node}
 use Rattle.nodes.specs.declared.Term.the-variants.{Empty}
-use Rattle.nodes.specs.Nodes.{collected, next-at, node, nodes-read, padded, term-at}
+use Rattle.nodes.specs.Nodes.{node, padded}
+use Rattle.nodes.specs.Steps.{collected, next-at, nodes-read, term-at}
 
 module _ (s : List ℕ) (from n : ℕ) where
   -- i of the n terms stand in front, and the bytes of the others start at `at`
@@ -20,7 +21,8 @@ module _ (s : List ℕ) (from n : ℕ) where
 
   -- at first none is
   pub held-none : Held (replicate 72 (node Empty)) from 0
-  held-none = record { front = []; size = refl; below = omega arith; holds = refl; rest = ap (λ (k : ℕ). collected k s from) (let e : n - 0 ≡ n = omega arith in e) }
+  held-none =
+      record { front = []; size = refl; below = omega arith; holds = refl; rest = ap (λ (k : ℕ). collected k s from) (let e : n - 0 ≡ n = omega arith in e) }
 
   -- one more
   pub held-more : n ≤ 72 → (nodes : List Node) (at i : ℕ) → i < n → Held nodes at i → Held (set nodes i (node (term-at s at))) (next-at s at) (i + 1)

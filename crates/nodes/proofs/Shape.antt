@@ -7,6 +7,7 @@ use native.Mathlib.Omega.{arith}
 use lib.ListN.{length, drop, length-append}
 use Rattle.meaning.specs.Limits.{Every, terms}
 use Rattle.meaning.specs.Query.{Term, apply, leaf, literal}
+use Rattle.terms.specs.declared.TermKind.{TermKind}
 use Rattle.terms.specs.Terms.{literal-tag}
 use Rattle.term_text.specs.Text.{term-bytes}
 use Rattle.term_text.proofs.Shape.{Leaves}
@@ -14,12 +15,12 @@ use Rattle.term_text.proofs.Steps.{drop-on}
 use Rattle.nodes.specs.declared.Node.{Node}
 use Rattle.draft.specs.Texts.{texts}
 use Rattle.nodes.specs.Text.{node-text, nodes-text, term-text}
-use Rattle.nodes.specs.Nodes.{collected}
+use Rattle.nodes.specs.Steps.{collected}
 use Rattle.nodes.specs.Tree.{apply-node, literal-node, term-nodes}
 use Rattle.draft.proofs.Texts.{text-append}
 use Rattle.nodes.proofs.Fields.{apply-read, apply-text, literal-read, literal-tags, literal-text}
 
-module _ {A : Type 0} (K : Leaves A) (N : A → List Node) (m : ℕ) where
+module _ {A : Type 0} (K : Leaves A) (N : A → List Node) (m : TermKind) where
   abbrev bytes : Term A → List ℕ
   bytes = term-bytes m (K .bytes)
 
@@ -49,15 +50,18 @@ module _ {A : Type 0} (K : Leaves A) (N : A → List Node) (m : ℕ) where
       ap (λ (j : ℕ). collected j s i) (let z : suc (a + b) + n ≡ suc (a + (b + n)) = omega arith in z)
       ∙ apply-read s i (literal-tag m) o ((bytes t ++ bytes u) ++ rest) (literal-tags m) d (a + (b + n))
       ∙ ap (λ (l : List Node). apply-node (literal-tag m) o ∷ l)
-      (p ∙ ap (λ (l : List Node). nodes t ++ l) (q ∙ ap (λ (j : ℕ). nodes u ++ collected n s j) end) ∙ sym (append-assoc (nodes t) (nodes u) (collected n s (i + suc (suc (length (bytes t ++ bytes u)))))))
+      (p ∙ ap (λ (l : List Node). nodes t ++ l) (q ∙ ap (λ (j : ℕ). nodes u ++ collected n s j) end)
+      ∙ sym (append-assoc (nodes t) (nodes u) (collected n s (i + suc (suc (length (bytes t ++ bytes u)))))))
 
   -- THE TEXT OF ITS TERMS IS ITS BYTES
-  pub text-term : ((a : A) → K .fine a → nodes-text (N a) ≡ K .bytes a) → (t : Term A) → Every (K .fine) t → nodes-text (term-nodes m N t) ≡ term-bytes m (K .bytes) t
+  pub text-term : ((a : A) → K .fine a → nodes-text (N a) ≡ K .bytes a) → (t : Term A) → Every (K .fine) t
+      → nodes-text (term-nodes m N t) ≡ term-bytes m (K .bytes) t
   unfolding texts
   text-term f (leaf a) e = f a e
   text-term f (literal k) e = append-nil (term-text (literal-node (literal-tag m) k .term)) ∙ literal-text (literal-tag m) k (literal-tags m)
   text-term f (apply o t u) e =
-      ap₂ _++_ (apply-text (literal-tag m) o (literal-tags m)) (text-append node-text (nodes t) (nodes u) ∙ ap₂ _++_ (text-term f t (e .2)) (text-term f u (e .3)))
+      ap₂ _++_ (apply-text (literal-tag m) o (literal-tags m))
+      (text-append node-text (nodes t) (nodes u) ∙ ap₂ _++_ (text-term f t (e .2)) (text-term f u (e .3)))
 
   -- there are as many as the tree has terms
   pub count-term : ((a : A) → length (N a) ≡ K .size a) → (t : Term A) → length (term-nodes m N t) ≡ terms (K .size) t

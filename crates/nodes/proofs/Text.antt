@@ -28,7 +28,15 @@ path-short w =
     let b = key-text n 1 (w / 65536 % 256) in
     let c = key-text n 2 (w / 16777216 % 256) in
     let e = w / 4294967296 % 256 ∷ w / 4294967296 / 256 % 256 ∷ [] in
-    omega (arith, key-short n 0 (w / 256 % 256), key-short n 1 (w / 65536 % 256), key-short n 2 (w / 16777216 % 256), length-append a (b ++ (c ++ e)), length-append b (c ++ e), length-append c e)
+    omega (
+      arith,
+      key-short n 0 (w / 256 % 256),
+      key-short n 1 (w / 65536 % 256),
+      key-short n 2 (w / 16777216 % 256),
+      length-append a (b ++ (c ++ e)),
+      length-append b (c ++ e),
+      length-append c e,
+    )
 
 term-short : (t : Term) → length (term-text t) ≤ 7
 unfolding term-text

@@ -1,3 +1,4 @@
 pub mod Nodes
+pub mod Steps
 pub mod Text
 pub mod Tree

@@ -5,7 +5,7 @@ ghost use Prim.Native.Nat.{_+_, _≤_, _<_};
 ghost use lib.ListN.{length, take};
 ghost use mathlib.Core.List.{_∷_};
 ghost use Rattle.wire.specs.Wire.{le32};
-ghost use Rattle.nodes.specs.Nodes.{term-at, next-at, nodes-read};
+ghost use Rattle.nodes.specs.Steps.{term-at, next-at, nodes-read};
 ghost use Rattle.nodes.specs.Text.{key-text, path-text, term-text, nodes-text};
 ghost use Rattle.draft.specs.Steps.{put-list};
 

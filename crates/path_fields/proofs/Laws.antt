@@ -15,4 +15,5 @@ use Rattle.path_fields.specs.Paths.{keys-code}
 pub keys-next : (n : ℕ) (s : List ℕ) (i : ℕ) → 0 < n → keys-code n s i ≡ then (key-code (getD s i 256) (eqb n 1)) (keys-code (n - 1) s (i + 1))
 unfolding keys-code
 keys-next zero s i h = absurd (not-suc-le-zero h)
-keys-next (suc n) s i h = ap₂ (λ (b : Bool) (m : ℕ). then (key-code (getD s i 256) b) (keys-code m s (i + 1))) (sym (eqb·suc-suc n 0)) (let e : n ≡ suc n - 1 = omega arith in e)
+keys-next (suc n) s i h =
+    ap₂ (λ (b : Bool) (m : ℕ). then (key-code (getD s i 256) b) (keys-code m s (i + 1))) (sym (eqb·suc-suc n 0)) (let e : n ≡ suc n - 1 = omega arith in e)

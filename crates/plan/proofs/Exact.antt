@@ -13,6 +13,7 @@ use Rattle.meaning.specs.Query.{PathReduction}
 use Rattle.fields.specs.Fields.{opening-code}
 use Rattle.fields.proofs.Opening.{opening-found}
 use Rattle.progress.specs.declared.Progress.{Progress}
+use Rattle.terms.specs.declared.TermKind.the-variants.{OfEntry, OfFinal}
 use Rattle.terms.specs.Terms.{leaf-step, leaf-tag, literal-tag, read}
 use Rattle.progress.specs.Progress.{blank, ended, started}
 use Rattle.term_text.specs.Text.{expression-bytes}
@@ -24,10 +25,10 @@ use Rattle.term_text.proofs.Table.{Further, Table}
 use Rattle.wire.specs.Header.{header-bytes, header-code}
 use Rattle.wire.specs.Wire.{Bytes}
 use Rattle.wire.proofs.Header.{header-accepted, header-found}
-use Rattle.plan.specs.Plan.{body-scan, count-code, entries-scan, entry-scan, final-scan, moved, plan-code, plan-scan, rows-scan}
-use Rattle.plan.specs.Text.{body-bytes, encode, entries-bytes, entry-count, kind-of, rows-bytes}
+use Rattle.plan.specs.Plan.{body-scan, count-code, entries-scan, entry-scan, final-scan, moved, plan-code, plan-scan, listed-scan}
+use Rattle.plan.specs.Text.{body-bytes, encode, entries-bytes, entry-count, kind-of, all-listed-bytes}
 use Rattle.plan.proofs.Expressions.{Passed, entries-complete, entries-sound, entry-complete, entry-sound, expr-complete, expr-sound, moved-table}
-use Rattle.plan.proofs.PathRows.{RowsHeld, filler-zero, rows-complete, rows-sound}
+use Rattle.plan.proofs.ListedPaths.{ListedHeld, filler-zero, listed-complete, listed-sound}
 
 -- what the reader knows of an accepted plan: its path reductions in the table, its terms and its entries
 pub record Scanned (w : Progress) (p : Plan) : Type 0 where
@@ -42,7 +43,7 @@ reductions-of w = w .reductions
 module _ (s : List ℕ) where
   -- a body whose entry count is right: its entries, and the final expression
   body-scanned : (kind e : ℕ) (w : Progress) → w .code ≡ 0 → w .at < length s → getD s (w .at) 256 ≡ e → count-code kind e ≡ 0
-      → body-scan kind s w ≡ final-scan kind s (entries-scan e kind s (moved w (w .at + 1) e))
+      → body-scan kind s w ≡ final-scan kind s (entries-scan e kind s (moved w (w .at + 1) (w .reductions)))
   unfolding body-scan
   body-scanned kind e w z h b c = rw (eq-eqb (w .code) 0 z, b, c, lt-leb (length s) (w .at) h) refl
 
@@ -50,45 +51,49 @@ module _ (s : List ℕ) where
   count-one e h = rw (le-ltb 255 e (omega arith), le-ltb 8 e h) refl
 
   -- from the entry count on
-  body-complete : (b : Body) (w : Progress) (cs : List PathReduction) (rest : List ℕ) → w .code ≡ 0 → Table w cs → w .terms ≡ 0 → drop (w .at) s ≡ body-bytes b ++ rest
+  body-complete : (b : Body) (w : Progress) (cs : List PathReduction) (rest : List ℕ) → w .code ≡ 0 → Table w cs → w .terms ≡ 0 → w .reductions ≡ 0
+      → drop (w .at) s ≡ body-bytes b ++ rest
       → BodyLegal (length cs) b → plan-terms b ≤ 64 → Further w (body-scan (kind-of b) s w) cs (length (body-bytes b)) (plan-terms b) (entry-count b)
   unfolding moved final-scan entries-scan leaf-step literal-tag leaf-tag
-  body-complete (each-vertex t) w cs rest z tb n e l k =
-      let h = there s (w .at) 1 (0 ∷ (expression-bytes 2 t ++ rest)) e in
+  body-complete (each-vertex t) w cs rest z tb n none e l k =
+      let h = there s (w .at) 1 (0 ∷ (expression-bytes OfEntry t ++ rest)) e in
       let b : getD s (w .at) 256 ≡ 1 = rw (nth s (w .at) 0 (w .at) 256 (omega arith), e) refl in
-      let w1 : Progress = moved w (w .at + 1) 1 in
-      let next = drop-on s (w .at) 1 (1 ∷ []) (0 ∷ (expression-bytes 2 t ++ rest)) e refl in
-      let a = entry-complete s 0 0 t w1 cs rest z (moved-table w cs (w .at + 1) 1 tb (omega arith)) refl next l (omega arith) in
+      let w1 : Progress = moved w (w .at + 1) (w .reductions) in
+      let next = drop-on s (w .at) 1 (1 ∷ []) (0 ∷ (expression-bytes OfEntry t ++ rest)) e refl in
+      let a =
+      entry-complete s 0 0 t w1 cs rest z (moved-table w cs (w .at + 1) (w .reductions) tb (tb .few-reductions)) refl next l (omega arith) (omega arith) in
       let reads : body-scan 0 s w ≡ entry-scan 0 s w1 = body-scanned 0 1 w z h b refl ∙ rw (eq-eqb (w .code) 0 z) refl in
       subst (λ (v : Progress). Further w v cs (length (body-bytes (each-vertex t))) (terms unit t) 1) (sym reads)
-      (record { code = a .code; at = omega (arith, a .at); terms = omega (arith, a .terms); reductions = a .reductions; table = a .table })
-  body-complete (one-result es t) w cs rest z tb n e l k =
+      (record { code = a .code; at = omega (arith, a .at); terms = omega (arith, a .terms); reductions = omega (arith, a .reductions); table = a .table })
+  body-complete (one-result es t) w cs rest z tb n none e l k =
       let c = length es in
-      let e0 : drop (w .at) s ≡ length es ∷ (entries-bytes es ++ (expression-bytes 3 t ++ rest)) =
-      e ∙ ap (λ (x : List ℕ). length es ∷ x) (append-assoc (entries-bytes es) (expression-bytes 3 t) rest) in
-      let h = there s (w .at) c (entries-bytes es ++ (expression-bytes 3 t ++ rest)) e0 in
+      let e0 : drop (w .at) s ≡ length es ∷ (entries-bytes es ++ (expression-bytes OfFinal t ++ rest)) =
+      e ∙ ap (λ (x : List ℕ). length es ∷ x) (append-assoc (entries-bytes es) (expression-bytes OfFinal t) rest) in
+      let h = there s (w .at) c (entries-bytes es ++ (expression-bytes OfFinal t ++ rest)) e0 in
       let b : getD s (w .at) 256 ≡ c = rw (nth s (w .at) 0 (w .at) 256 (omega arith), e0) refl in
-      let w1 : Progress = moved w (w .at + 1) c in
-      let next = drop-on s (w .at) 1 (c ∷ []) (entries-bytes es ++ (expression-bytes 3 t ++ rest)) e0 refl in
-      let a = entries-complete s es w1 cs (expression-bytes 3 t ++ rest) z (moved-table w cs (w .at + 1) c tb (l .0)) (l .1) next (omega arith) in
+      let w1 : Progress = moved w (w .at + 1) (w .reductions) in
+      let next = drop-on s (w .at) 1 (c ∷ []) (entries-bytes es ++ (expression-bytes OfFinal t ++ rest)) e0 refl in
+      let a = entries-complete s es w1 cs (expression-bytes OfFinal t ++ rest) z (moved-table w cs (w .at + 1) (w .reductions) tb (tb .few-reductions))
+      (l .1) next (omega arith) (omega (arith, l .0)) in
       let w2 : Progress = entries-scan c 1 s w1 in
-      let e2 : drop (w2 .at) s ≡ expression-bytes 3 t ++ rest =
-      ap (λ (i : ℕ). drop i s) (a .at) ∙ drop-on s (w .at + 1) (length (entries-bytes es)) (entries-bytes es) (expression-bytes 3 t ++ rest) next refl in
-      let d = expr-complete s 3 reductions-of (λ w w′ p q. q) (λ w. refl) refl refl t w2 cs rest (a .code) (a .table) (omega (arith, a .reductions, l .0)) e2
-      (subst (λ (m : ℕ). Expression m t) (sym (a .reductions)) (l .2)) (omega (arith, a .terms)) in
-      let reads : body-scan 1 s w ≡ read 3 16 s w2 = body-scanned 1 c w z h b (count-one c (l .0)) in
+      let met : w2 .reductions ≡ length es = omega (arith, a .reductions) in
+      let e2 : drop (w2 .at) s ≡ expression-bytes OfFinal t ++ rest =
+      ap (λ (i : ℕ). drop i s) (a .at) ∙ drop-on s (w .at + 1) (length (entries-bytes es)) (entries-bytes es) (expression-bytes OfFinal t ++ rest) next refl in
+      let d = expr-complete s OfFinal reductions-of (λ w w′ p q. q) (λ w. refl) refl refl t w2 cs rest (a .code) (a .table) (omega (arith, l .0)) e2
+      (subst (λ (m : ℕ). Expression m t) (sym met) (l .2)) (omega (arith, a .terms)) in
+      let reads : body-scan 1 s w ≡ read OfFinal 16 s w2 = body-scanned 1 c w z h b (count-one c (l .0)) in
       subst (λ (v : Progress). Further w v cs (length (body-bytes (one-result es t))) (plan-terms (one-result es t)) (length es)) (sym reads)
       (record {
         code = d .code;
-        at = omega (arith, d .at, a .at, length-append (entries-bytes es) (expression-bytes 3 t));
+        at = omega (arith, d .at, a .at, length-append (entries-bytes es) (expression-bytes OfFinal t));
         terms = omega (arith, d .terms, a .terms);
-        reductions = d .reductions ∙ a .reductions;
+        reductions = omega (arith, d .reductions);
         table = d .table;
       })
 
 -- the whole
 plan-scanned : (s : List ℕ) (kind count : ℕ) → header-code 0x57 5 s ≡ 0 → getD s 5 256 ≡ kind → kind ≤ 1 → getD s 6 256 ≡ count → count ≤ 8
-    → plan-scan s ≡ ended s (body-scan kind s (rows-scan count s (started 7)))
+    → plan-scan s ≡ ended s (body-scan kind s (listed-scan count s (started 7)))
 unfolding plan-scan
 plan-scanned s kind count h k l c m = rw (h, k, le-ltb 255 kind (omega arith), le-ltb 1 kind l, c, le-ltb 255 count (omega arith), le-ltb 8 count m) refl
 
@@ -102,26 +107,32 @@ unfolding started
 read-complete p l =
     let s : List ℕ = encode p in
     let n = length (p .paths) in
-    let a = rows-complete s (p .paths) (started 7) [] (body-bytes (p .body)) refl (started-table 7) (l .paths-legal) refl (omega (arith, l .few-paths)) in
-    let w1 : Progress = rows-scan n s (started 7) in
+    let a = listed-complete s (p .paths) (started 7) [] (body-bytes (p .body)) refl (started-table 7) (l .paths-legal) refl (omega (arith, l .few-paths)) in
+    let w1 : Progress = listed-scan n s (started 7) in
     let e1 : drop (w1 .at) s ≡ body-bytes (p .body) ++ [] =
-    ap (λ (i : ℕ). drop i s) (a .at) ∙ drop-on s 7 (length (rows-bytes (p .paths))) (rows-bytes (p .paths)) (body-bytes (p .body)) refl refl ∙ sym (append-nil (body-bytes (p .body))) in
-    let b = body-complete s (p .body) w1 (p .paths) [] (a .code) (a .table) (a .terms) e1 (l .body-legal) (l .few-terms) in
-    let len = length-append (rows-bytes (p .paths)) (body-bytes (p .body)) in
+    ap (λ (i : ℕ). drop i s) (a .at) ∙ drop-on s 7 (length (all-listed-bytes (p .paths))) (all-listed-bytes (p .paths)) (body-bytes (p .body)) refl refl
+    ∙ sym (append-nil (body-bytes (p .body))) in
+    let b = body-complete s (p .body) w1 (p .paths) [] (a .code) (a .table) (a .terms) (a .reductions) e1 (l .body-legal) (l .few-terms) in
+    let len = length-append (all-listed-bytes (p .paths)) (body-bytes (p .body)) in
     let whole =
-    plan-scanned s (kind-of (p .body)) n (header-accepted 0x57 5 (kind-of (p .body) ∷ n ∷ (rows-bytes (p .paths) ++ body-bytes (p .body))) (omega arith)) refl (kind-small (p .body)) refl (l .few-paths)
+    plan-scanned s (kind-of (p .body)) n
+    (header-accepted 0x57 5 (kind-of (p .body) ∷ n ∷ (all-listed-bytes (p .paths) ++ body-bytes (p .body))) (omega arith)) refl (kind-small (p .body)) refl
+    (l .few-paths)
     ∙ ended-whole s (body-scan (kind-of (p .body)) s w1) (omega (arith, b .at, a .at)) in
     subst (λ (w : Progress). Scanned w p) (sym whole) (record { accepted = b .code; terms = b .terms; reductions = b .reductions; table = b .table })
 
 -- what an accepted text is: header, kind, count, and the rest read to its end
 accepted-parts : (s : List ℕ) → plan-code s ≡ 0
-    → (header-code 0x57 5 s ≡ 0) × (getD s 5 256 ≤ 1) × (getD s 6 256 ≤ 8) × (ended s (body-scan (getD s 5 256) s (rows-scan (getD s 6 256) s (started 7))) .code ≡ 0)
+    → (header-code 0x57 5 s ≡ 0) × (getD s 5 256 ≤ 1) × (getD s 6 256 ≤ 8)
+    × (ended s (body-scan (getD s 5 256) s (listed-scan (getD s 6 256) s (started 7))) .code ≡ 0)
 unfolding plan-scan blank
 accepted-parts s e = go (eqb (opening-code 0x57 s) 0) (ltb 255 (getD s 6 256)) (ltb 8 (getD s 6 256)) refl refl refl e
   where
     go : (a b c : Bool) → eqb (opening-code 0x57 s) 0 ≡ a → ltb 255 (getD s 6 256) ≡ b → ltb 8 (getD s 6 256) ≡ c
-        → cond a (cond b (blank 1) (cond c (blank 14) (ended s (body-scan (getD s 5 256) s (rows-scan (getD s 6 256) s (started 7)))))) (blank (opening-code 0x57 s)) .code ≡ 0
-        → (header-code 0x57 5 s ≡ 0) × (getD s 5 256 ≤ 1) × (getD s 6 256 ≤ 8) × (ended s (body-scan (getD s 5 256) s (rows-scan (getD s 6 256) s (started 7))) .code ≡ 0)
+        → cond a (cond b (blank 1) (cond c (blank 14) (ended s (body-scan (getD s 5 256) s (listed-scan (getD s 6 256) s (started 7))))))
+        (blank (opening-code 0x57 s)) .code ≡ 0
+        → (header-code 0x57 5 s ≡ 0) × (getD s 5 256 ≤ 1) × (getD s 6 256 ≤ 8)
+        × (ended s (body-scan (getD s 5 256) s (listed-scan (getD s 6 256) s (started 7))) .code ≡ 0)
     go false b c p q r z = absurd (eqb-false (opening-code 0x57 s) 0 p z)
     go true true c p q r z = absurd (omega arith)
     go true false true p q r z = absurd (omega arith)
@@ -132,8 +143,8 @@ body-handed : (kind : ℕ) (s : List ℕ) (w : Progress) → (w .code ≡ 0 → 
 unfolding body-scan
 body-handed kind s w n = rw (ne-eqb (w .code) 0 n) refl
 
-rows-accepted : (kind : ℕ) (s : List ℕ) (w : Progress) → body-scan kind s w .code ≡ 0 → w .code ≡ 0
-rows-accepted kind s w e = go (eqb (w .code) 0) refl
+body-accepted : (kind : ℕ) (s : List ℕ) (w : Progress) → body-scan kind s w .code ≡ 0 → w .code ≡ 0
+body-accepted kind s w e = go (eqb (w .code) 0) refl
   where
     go : (b : Bool) → eqb (w .code) 0 ≡ b → w .code ≡ 0
     go true p = eqb-true (w .code) 0 p
@@ -143,16 +154,20 @@ rows-accepted kind s w e = go (eqb (w .code) 0) refl
 module _ (s : List ℕ) (bytes : Bytes s) where
   -- a legal body whose bytes stand next
   abbrev BodyFound : ℕ → Progress → List PathReduction → Type 0
-  BodyFound kind w cs = (b : Body) × (rest : List ℕ) × (kind-of b ≡ kind) × (drop (w .at) s ≡ body-bytes b ++ rest) × BodyLegal (length cs) b × (plan-terms b ≤ 64)
+  BodyFound kind w cs =
+      (b : Body) × (rest : List ℕ) × (kind-of b ≡ kind) × (drop (w .at) s ≡ body-bytes b ++ rest) × BodyLegal (length cs) b × (plan-terms b ≤ 64)
 
   body-starts : (kind : ℕ) (w : Progress) → w .code ≡ 0 → body-scan kind s w .code ≡ 0
-      → (w .at < length s) × (count-code kind (getD s (w .at) 256) ≡ 0) × (final-scan kind s (entries-scan (getD s (w .at) 256) kind s (moved w (w .at + 1) (getD s (w .at) 256))) .code ≡ 0)
+      → (w .at < length s) × (count-code kind (getD s (w .at) 256) ≡ 0)
+      × (final-scan kind s (entries-scan (getD s (w .at) 256) kind s (moved w (w .at + 1) (w .reductions))) .code ≡ 0)
   unfolding body-scan blank
   body-starts kind w z e = go (eqb (count-code kind (getD s (w .at) 256)) 0) (leb (length s) (w .at)) refl refl (rw (eq-eqb (w .code) 0 z) at e)
     where
       go : (a b : Bool) → eqb (count-code kind (getD s (w .at) 256)) 0 ≡ a → leb (length s) (w .at) ≡ b
-          → cond a (cond b (blank 1) (final-scan kind s (entries-scan (getD s (w .at) 256) kind s (moved w (w .at + 1) (getD s (w .at) 256))))) (blank (count-code kind (getD s (w .at) 256))) .code ≡ 0
-          → (w .at < length s) × (count-code kind (getD s (w .at) 256) ≡ 0) × (final-scan kind s (entries-scan (getD s (w .at) 256) kind s (moved w (w .at + 1) (getD s (w .at) 256))) .code ≡ 0)
+          → cond a (cond b (blank 1) (final-scan kind s (entries-scan (getD s (w .at) 256) kind s (moved w (w .at + 1) (w .reductions)))))
+          (blank (count-code kind (getD s (w .at) 256))) .code ≡ 0
+          → (w .at < length s) × (count-code kind (getD s (w .at) 256) ≡ 0)
+          × (final-scan kind s (entries-scan (getD s (w .at) 256) kind s (moved w (w .at + 1) (w .reductions))) .code ≡ 0)
       go false b p q x = absurd (eqb-false (count-code kind (getD s (w .at) 256)) 0 p x)
       go true true p q x = absurd (omega arith)
       go true false p q x = (leb-false (length s) (w .at) q, eqb-true (count-code kind (getD s (w .at) 256)) 0 p, x)
@@ -174,44 +189,50 @@ module _ (s : List ℕ) (bytes : Bytes s) where
       go false true p z = absurd (omega arith)
       go false false p z = ltb-false 8 b p
 
-  body-sound : (kind : ℕ) (w : Progress) (cs : List PathReduction) → kind ≤ 1 → w .code ≡ 0 → Table w cs → w .terms ≡ 0 → body-scan kind s w .code ≡ 0 → BodyFound kind w cs
+  body-sound : (kind : ℕ) (w : Progress) (cs : List PathReduction) → kind ≤ 1 → w .code ≡ 0 → Table w cs → w .terms ≡ 0 → w .reductions ≡ 0
+      → body-scan kind s w .code ≡ 0 → BodyFound kind w cs
   unfolding moved final-scan entries-scan leaf-step literal-tag leaf-tag
-  body-sound zero w cs k z tb n e =
+  body-sound zero w cs k z tb n none e =
       let p = body-starts 0 w z e in
       let one = count-zero (getD s (w .at) 256) (p .1) in
-      let w1 : Progress = moved w (w .at + 1) 1 in
+      let w1 : Progress = moved w (w .at + 1) (w .reductions) in
       let r : entry-scan 0 s w1 .code ≡ 0 = rw (eq-eqb (w .code) 0 z) at (rw one at (p .2)) in
-      let f = entry-sound s bytes 0 w1 cs z (moved-table w cs (w .at + 1) 1 tb (omega arith)) r in (
+      let f = entry-sound s bytes 0 w1 cs z (moved-table w cs (w .at + 1) (w .reductions) tb (tb .few-reductions)) r in (
         each-vertex (f .1),
         f .2,
         refl,
-        drop-at s (w .at) (p .0) ∙ ap₂ (λ (x : ℕ) (l : List ℕ). x ∷ l) one (f .4 ∙ ap (λ (x : ℕ). x ∷ (expression-bytes 2 (f .1) ++ f .2)) (filler-zero (f .0) (f .3))),
+        drop-at s (w .at) (p .0) ∙ ap₂ (λ (x : ℕ) (l : List ℕ). x ∷ l) one
+            (f .4 ∙ ap (λ (x : ℕ). x ∷ (expression-bytes OfEntry (f .1) ++ f .2)) (filler-zero (f .0) (f .3))),
         f .5,
         omega (arith, f .6),
       )
-  body-sound (suc zero) w cs k z tb n e =
+  body-sound (suc zero) w cs k z tb n none e =
       let p = body-starts 1 w z e in
       let c = getD s (w .at) 256 in
       let few = count-few c (p .1) in
-      let w1 : Progress = moved w (w .at + 1) c in
+      let w1 : Progress = moved w (w .at + 1) (w .reductions) in
       let w2 : Progress = entries-scan c 1 s w1 in
-      let two = read-accepted 3 16 s w2 (p .2) in
-      let t1 = moved-table w cs (w .at + 1) c tb few in
+      let two = read-accepted OfFinal 16 s w2 (p .2) in
+      let t1 = moved-table w cs (w .at + 1) (w .reductions) tb (tb .few-reductions) in
       let f = entries-sound s bytes c w1 cs z t1 (omega arith) two in
       let reads : entries-scan (length (f .0)) 1 s w1 ≡ w2 = ap (λ (m : ℕ). entries-scan m 1 s w1) (f .2) in
-      let a = subst (λ (v : Progress). Passed w1 v cs (length (entries-bytes (f .0))) (entry-terms (f .0))) reads (entries-complete s (f .0) w1 cs (f .1) z t1 (f .3) (f .4) (f .5)) in
-      let g = expr-sound s 3 reductions-of (λ w w′ p q. q) (λ w. refl) refl refl bytes w2 cs two (a .table) (omega (arith, a .reductions)) (p .2) in
-      let rest : f .1 ≡ expression-bytes 3 (g .0) ++ g .1 =
+      let a = subst (λ (v : Progress). Passed w1 v cs (length (entries-bytes (f .0))) (entry-terms (f .0)) (length (f .0))) reads
+      (entries-complete s (f .0) w1 cs (f .1) z t1 (f .3) (f .4) (f .5) (f .6)) in
+      let met : w2 .reductions ≡ length (f .0) = omega (arith, a .reductions) in
+      let g = expr-sound s OfFinal reductions-of (λ w w′ p q. q) (λ w. refl) refl refl bytes w2 cs two (a .table) (omega (arith, f .6)) (p .2) in
+      let rest : f .1 ≡ expression-bytes OfFinal (g .0) ++ g .1 =
       sym (ap (λ (i : ℕ). drop i s) (a .at) ∙ drop-on s (w .at + 1) (length (entries-bytes (f .0))) (entries-bytes (f .0)) (f .1) (f .4) refl) ∙ g .2 in (
         one-result (f .0) (g .0),
         g .1,
         refl,
         drop-at s (w .at) (p .0)
-            ∙ ap₂ (λ (x : ℕ) (l : List ℕ). x ∷ l) (sym (f .2)) (f .4 ∙ ap (λ (l : List ℕ). entries-bytes (f .0) ++ l) rest ∙ sym (append-assoc (entries-bytes (f .0)) (expression-bytes 3 (g .0)) (g .1))),
-        (omega (arith, f .2), f .3, subst (λ (m : ℕ). Expression m (g .0)) (a .reductions ∙ sym (f .2)) (g .3)),
+            ∙ ap₂ (λ (x : ℕ) (l : List ℕ). x ∷ l) (sym (f .2))
+            (f .4 ∙ ap (λ (l : List ℕ). entries-bytes (f .0) ++ l) rest
+            ∙ sym (append-assoc (entries-bytes (f .0)) (expression-bytes OfFinal (g .0)) (g .1))),
+        (omega (arith, f .2), f .3, subst (λ (m : ℕ). Expression m (g .0)) met (g .3)),
         omega (arith, g .4, a .terms),
       )
-  body-sound (suc (suc kind)) w cs k z tb n e = absurd (omega arith)
+  body-sound (suc (suc kind)) w cs k z tb n none e = absurd (omega arith)
 
 -- ACCEPTED BYTES ARE THE ENCODING OF A LEGAL PLAN
 pub read-sound : (s : List ℕ) → Bytes s → plan-code s ≡ 0 → (p : Plan) × PlanLegal 256 p × (encode p ≡ s)
@@ -220,19 +241,19 @@ read-sound s bytes e =
     let p = accepted-parts s e in
     let kind = getD s 5 256 in
     let count = getD s 6 256 in
-    let w1 : Progress = rows-scan (getD s 6 256) s (started 7) in
+    let w1 : Progress = listed-scan (getD s 6 256) s (started 7) in
     let z = ended-code s (body-scan kind s w1) (p .3) in
-    let ok = rows-accepted kind s w1 (z .0) in
-    let f = rows-sound s bytes count (started 7) [] refl (started-table 7) (omega (arith, p .2)) ok in
-    let reads : rows-scan (length (f .0)) s (started 7) ≡ w1 = ap (λ (m : ℕ). rows-scan m s (started 7)) (f .2) in
-    let a = subst (λ (v : Progress). RowsHeld (started 7) v (f .0) (length (rows-bytes (f .0)))) reads
-    (rows-complete s (f .0) (started 7) [] (f .1) refl (started-table 7) (f .3) (f .4) (omega (arith, p .2, f .2))) in
-    let b = body-sound s bytes kind w1 (f .0) (p .1) ok (a .table) (a .terms) (z .0) in
+    let ok = body-accepted kind s w1 (z .0) in
+    let f = listed-sound s bytes count (started 7) [] refl (started-table 7) (omega (arith, p .2)) ok in
+    let reads : listed-scan (length (f .0)) s (started 7) ≡ w1 = ap (λ (m : ℕ). listed-scan m s (started 7)) (f .2) in
+    let a = subst (λ (v : Progress). ListedHeld (started 7) v (f .0) (length (all-listed-bytes (f .0)))) reads
+    (listed-complete s (f .0) (started 7) [] (f .1) refl (started-table 7) (f .3) (f .4) (omega (arith, p .2, f .2))) in
+    let b = body-sound s bytes kind w1 (f .0) (p .1) ok (a .table) (a .terms) (a .reductions) (z .0) in
     let c = subst (λ (k : ℕ). Further w1 (body-scan k s w1) (f .0) (length (body-bytes (b .0))) (plan-terms (b .0)) (entry-count (b .0))) (b .2)
-    (body-complete s (b .0) w1 (f .0) (b .1) ok (a .table) (a .terms) (b .3) (b .4) (b .5)) in
+    (body-complete s (b .0) w1 (f .0) (b .1) ok (a .table) (a .terms) (a .reductions) (b .3) (b .4) (b .5)) in
     let rest : f .1 ≡ body-bytes (b .0) ++ b .1 =
-    sym (ap (λ (i : ℕ). drop i s) (a .at) ∙ drop-on s 7 (length (rows-bytes (f .0))) (rows-bytes (f .0)) (f .1) (f .4) refl) ∙ b .3 in
-    let len = length-append (rows-bytes (f .0)) (f .1) in
+    sym (ap (λ (i : ℕ). drop i s) (a .at) ∙ drop-on s 7 (length (all-listed-bytes (f .0))) (all-listed-bytes (f .0)) (f .1) (f .4) refl) ∙ b .3 in
+    let len = length-append (all-listed-bytes (f .0)) (f .1) in
     let len2 = length-append (body-bytes (b .0)) (b .1) in
     let none : b .1 ≡ [] = no-rest (b .1) (omega (arith, length-drop 7 s, ap length (f .4), ap length rest, z .1, c .at, a .at)) in (
       record { paths = f .0; body = b .0 },
@@ -241,5 +262,5 @@ read-sound s bytes e =
           ∙ ap (λ (t : List ℕ). header-bytes 0x57 ++ t) (drop-at s 5 (present s 5 (omega (arith, p .1)))
           ∙ ap₂ (λ (x : ℕ) (t : List ℕ). x ∷ t) (sym (b .2)) (drop-at s 6 (present s 6 (omega (arith, p .2)))
           ∙ ap₂ (λ (x : ℕ) (t : List ℕ). x ∷ t) (sym (f .2)) (f .4
-          ∙ ap (λ (t : List ℕ). rows-bytes (f .0) ++ t) (rest ∙ ap (λ (t : List ℕ). body-bytes (b .0) ++ t) none ∙ append-nil (body-bytes (b .0))))))),
+          ∙ ap (λ (t : List ℕ). all-listed-bytes (f .0) ++ t) (rest ∙ ap (λ (t : List ℕ). body-bytes (b .0) ++ t) none ∙ append-nil (body-bytes (b .0))))))),
     )

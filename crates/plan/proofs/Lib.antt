@@ -1,5 +1,5 @@
 pub mod Laws
-pub mod PathRows
+pub mod ListedPaths
 pub mod Expressions
 pub mod Exact
 pub mod Unique

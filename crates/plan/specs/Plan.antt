@@ -7,6 +7,7 @@ use lib.ListN.{length, getD, set}
 use Rattle.progress.specs.declared.Progress.{Progress}
 use Rattle.fields.specs.Fields.{code-of, key-code, opening-code, source-code}
 use Rattle.path_fields.specs.Paths.{packed}
+use Rattle.terms.specs.declared.TermKind.the-variants.{OfEntry, OfFinal}
 use Rattle.terms.specs.Terms.{read}
 use Rattle.progress.specs.Progress.{blank, ended, started}
 use Rattle.wire.specs.Header.{then}
@@ -20,8 +21,8 @@ abbrev pub slot-code : ℕ → ℕ → ℕ → ℕ
 slot-code n j b = cond (ltb j n) (key-code b (eqb (j + 1) n)) (filler-code b)
 
 -- "c chains of 6 bytes (key count, three key bytes with unused ones 0, 16-bit start)": the chain at byte i
-unfoldable pub row-code : List ℕ → ℕ → ℕ
-row-code s i =
+unfoldable pub listed-code : List ℕ → ℕ → ℕ
+listed-code s i =
     let n = getD s i 256 in
     then (code-of n 3)
     (then (slot-code n 0 (getD s (i + 1) 256))
@@ -29,15 +30,15 @@ row-code s i =
     (then (slot-code n 2 (getD s (i + 3) 256)) (source-code (getD s (i + 4) 256) (getD s (i + 5) 256)))))
 
 -- its six bytes as one number
-unfoldable pub row-word : List ℕ → ℕ → ℕ
-row-word s i =
+unfoldable pub listed-word : List ℕ → ℕ → ℕ
+listed-word s i =
     packed (getD s i 256) (getD s (i + 1) 256) (getD s (i + 2) 256) (getD s (i + 3) 256) (getD s (i + 4) 256) (getD s (i + 5) 256)
 
--- one chain more (equal chains stay apart: they are legal here)
-unfoldable pub row-step : List ℕ → Progress → Progress
-row-step s w =
+-- one chain more (equal chains stay apart: they are legal here); this 14 is never given, as c was judged
+unfoldable pub listed-step : List ℕ → Progress → Progress
+listed-step s w =
     cond (leb (length s) (w .at)) (blank 1)
-    (cond (eqb (row-code s (w .at)) 0)
+    (cond (eqb (listed-code s (w .at)) 0)
     (cond (leb 8 (w .paths)) (blank 14)
     (record {
       code = w .code;
@@ -45,28 +46,31 @@ row-step s w =
       terms = w .terms;
       paths = w .paths + 1;
       reductions = w .reductions;
-      table = set (w .table) (w .paths) (row-word s (w .at));
+      table = set (w .table) (w .paths) (listed-word s (w .at));
     }))
-    (blank (row-code s (w .at))))
+    (blank (listed-code s (w .at))))
 
 -- k of them; a refusal is handed on
-unfoldable pub rows-scan : ℕ → List ℕ → Progress → Progress
-rows-scan zero s w = w
-rows-scan (suc k) s w = cond (eqb (w .code) 0) (rows-scan k s (row-step s w)) w
+unfoldable pub listed-scan : ℕ → List ℕ → Progress → Progress
+listed-scan zero s w = w
+listed-scan (suc k) s w = cond (eqb (w .code) 0) (listed-scan k s (listed-step s w)) w
 
 -- "Kind 0 has .. reduction byte 0; kind 1 has .. reduction bytes 1 to 5"
 abbrev pub reduction-code : ℕ → ℕ → ℕ
 reduction-code kind b = cond (eqb kind 0) (filler-code b) (code-of b 5)
 
--- the same state further on
+-- the same state further on, with so many entries met
 unfoldable pub moved : Progress → ℕ → ℕ → Progress
 moved w at reductions = record { code = w .code; at = at; terms = w .terms; paths = w .paths; reductions = reductions; table = w .table }
 
--- "e entries, each a reduction byte and an expression"
+-- "e entries, each a reduction byte and an expression": one more is met; this 14 is never given, as e was judged
 unfoldable pub entry-scan : ℕ → List ℕ → Progress → Progress
 entry-scan kind s w =
     let c = reduction-code kind (getD s (w .at) 256) in
-    cond (leb (length s) (w .at)) (blank 1) (cond (eqb c 0) (read 2 16 s (moved w (w .at + 1) (w .reductions))) (blank c))
+    cond (leb (length s) (w .at)) (blank 1)
+    (cond (eqb c 0)
+    (cond (leb 8 (w .reductions)) (blank 14) (read OfEntry 16 s (moved w (w .at + 1) (w .reductions + 1))))
+    (blank c))
 
 -- k of them; a refusal is handed on
 unfoldable pub entries-scan : ℕ → ℕ → List ℕ → Progress → Progress
@@ -79,7 +83,7 @@ count-code kind b = cond (ltb 255 b) 1 (cond (eqb kind 0) (cond (eqb b 1) 0 9) (
 
 -- "for kind 1 a final expression"
 unfoldable pub final-scan : ℕ → List ℕ → Progress → Progress
-final-scan kind s w = cond (eqb kind 0) w (read 3 16 s w)
+final-scan kind s w = cond (eqb kind 0) w (read OfFinal 16 s w)
 
 -- from the entry count on
 unfoldable pub body-scan : ℕ → List ℕ → Progress → Progress
@@ -87,7 +91,7 @@ body-scan kind s w =
     let e = getD s (w .at) 256 in
     cond (eqb (w .code) 0)
     (cond (eqb (count-code kind e) 0)
-    (cond (leb (length s) (w .at)) (blank 1) (final-scan kind s (entries-scan e kind s (moved w (w .at + 1) e))))
+    (cond (leb (length s) (w .at)) (blank 1) (final-scan kind s (entries-scan e kind s (moved w (w .at + 1) (w .reductions)))))
     (blank (count-code kind e)))
     w
 
@@ -97,7 +101,7 @@ plan-scan s =
     let kind = getD s 5 256 in
     let count = getD s 6 256 in
     cond (eqb (opening-code 0x57 s) 0)
-    (cond (ltb 255 count) (blank 1) (cond (ltb 8 count) (blank 14) (ended s (body-scan kind s (rows-scan count s (started 7))))))
+    (cond (ltb 255 count) (blank 1) (cond (ltb 8 count) (blank 14) (ended s (body-scan kind s (listed-scan count s (started 7))))))
     (blank (opening-code 0x57 s))
 
 -- the number of the first refusal, 0 where the bytes are accepted

@@ -4,28 +4,29 @@ use mathlib.Core.List.{List, [], _∷_, _++_}
 use lib.ListN.{length, getD}
 use Rattle.meaning.specs.Plan.{Body, Plan, each-vertex, one-result}
 use Rattle.meaning.specs.Query.{PathReduction, VertexReduction}
+use Rattle.terms.specs.declared.TermKind.the-variants.{OfEntry, OfFinal}
 use Rattle.term_text.specs.Text.{expression-bytes}
 use Rattle.wire.specs.Header.{header-bytes}
 use Rattle.wire.specs.Wire.{le16}
 
 -- "key count, three key bytes with unused ones 0, 16-bit start"
-abbrev pub row-bytes : PathReduction → List ℕ
-row-bytes c = length (c .keys) ∷ getD (c .keys) 0 0 ∷ getD (c .keys) 1 0 ∷ getD (c .keys) 2 0 ∷ le16 (c .source)
+abbrev pub listed-bytes : PathReduction → List ℕ
+listed-bytes c = length (c .keys) ∷ getD (c .keys) 0 0 ∷ getD (c .keys) 1 0 ∷ getD (c .keys) 2 0 ∷ le16 (c .source)
 
 -- "c chains"
-abbrev pub rows-bytes : List PathReduction → List ℕ
-rows-bytes [] = []
-rows-bytes (c ∷ cs) = row-bytes c ++ rows-bytes cs
+abbrev pub all-listed-bytes : List PathReduction → List ℕ
+all-listed-bytes [] = []
+all-listed-bytes (c ∷ cs) = listed-bytes c ++ all-listed-bytes cs
 
 -- "e entries, each a reduction byte and an expression"
 abbrev pub entries-bytes : List (VertexReduction ℕ) → List ℕ
 entries-bytes [] = []
-entries-bytes (e ∷ es) = e .reduction ∷ (expression-bytes 2 (e .body) ++ entries-bytes es)
+entries-bytes (e ∷ es) = e .reduction ∷ (expression-bytes OfEntry (e .body) ++ entries-bytes es)
 
 -- "Kind 0 has e = 1 and reduction byte 0"; "for kind 1 a final expression"
 abbrev pub body-bytes : Body → List ℕ
-body-bytes (each-vertex t) = 1 ∷ 0 ∷ expression-bytes 2 t
-body-bytes (one-result es t) = length es ∷ (entries-bytes es ++ expression-bytes 3 t)
+body-bytes (each-vertex t) = 1 ∷ 0 ∷ expression-bytes OfEntry t
+body-bytes (one-result es t) = length es ∷ (entries-bytes es ++ expression-bytes OfFinal t)
 
 -- "kind" and "e" of a worksheet's bytes
 abbrev pub kind-of : Body → ℕ
@@ -38,4 +39,4 @@ entry-count (one-result es t) = length es
 
 -- "kind byte; chain count c (0 to 8) and c chains ..; entry count e; e entries ..; for kind 1 a final expression"
 abbrev pub encode : Plan → List ℕ
-encode p = header-bytes 0x57 ++ (kind-of (p .body) ∷ length (p .paths) ∷ (rows-bytes (p .paths) ++ body-bytes (p .body)))
+encode p = header-bytes 0x57 ++ (kind-of (p .body) ∷ length (p .paths) ∷ (all-listed-bytes (p .paths) ++ body-bytes (p .body)))

@@ -1,9 +1,11 @@
 // Plans (document 01, worksheet `LPW`): judged and read.
 use progress::Progress;
+use terms::TermKind;
 ghost use mathlib.Core.Path.{_≡_};
 ghost use Prim.Native.Nat.{_+_, _≤_, _<_};
 ghost use lib.ListN.{length};
-ghost use Rattle.plan.specs.Plan.{filler-code, slot-code, row-code, row-word, row-step, rows-scan, reduction-code, entry-scan, entries-scan, count-code, final-scan, body-scan, plan-scan, plan-code};
+ghost use Rattle.plan.specs.Plan.{filler-code, slot-code, listed-code, listed-word, listed-step, listed-scan};
+ghost use Rattle.plan.specs.Plan.{reduction-code, entry-scan, entries-scan, count-code, final-scan, body-scan, plan-scan, plan-code};
 
 // An unused key byte: 1 missing, 9 other than 0.
 fn filler_code_of(b: u16) -> u8
@@ -30,9 +32,9 @@ fn slot_code_of(n: u16, j: u16, b: u16) -> u8
 }
 
 // The first refusal of the six bytes of a path reduction at `at`, or 0.
-fn row_code_of(s: &[u8], at: usize) -> u8
+fn listed_code_of(s: &[u8], at: usize) -> u8
     requires { ⌜ at ≤ length (now s) ⌝ }
-    ensures { λ r. ⌜ r ≡ row-code (now (s .entry)) at ⌝ }
+    ensures { λ r. ⌜ r ≡ listed-code (now (s .entry)) at ⌝ }
 {
     let n = fields::byte(s, at);
     let c = fields::code_of(n, 3);
@@ -55,9 +57,9 @@ fn row_code_of(s: &[u8], at: usize) -> u8
 }
 
 // The six bytes as one number.
-fn row_word_of(s: &[u8], at: usize) -> u64
+fn listed_word_of(s: &[u8], at: usize) -> u64
     requires { ⌜ at ≤ length (now s) ⌝ }
-    ensures { λ r. ⌜ r ≡ row-word (now (s .entry)) at ⌝ }
+    ensures { λ r. ⌜ r ≡ listed-word (now (s .entry)) at ⌝ }
 {
     let first = fields::byte(s, at + 1);
     let second = fields::byte(s, at + 2);
@@ -73,15 +75,15 @@ fn row_word_of(s: &[u8], at: usize) -> u64
 }
 
 // One path reduction more.
-fn row_step_of(s: &[u8], w: Progress) -> Progress
-    ensures { λ r. ⌜ r ≡ row-step (now (s .entry)) w ⌝ }
+fn listed_step_of(s: &[u8], w: Progress) -> Progress
+    ensures { λ r. ⌜ r ≡ listed-step (now (s .entry)) w ⌝ }
 {
     let at = w.at;
     let i = w.paths;
     if s.len() <= at {
         return progress::blank_of(1);
     }
-    let c = row_code_of(s, at);
+    let c = listed_code_of(s, at);
     if c != 0 {
         return progress::blank_of(c);
     }
@@ -91,13 +93,13 @@ fn row_step_of(s: &[u8], w: Progress) -> Progress
     let mut r = w;
     r.at = at + 6;
     r.paths = i + 1;
-    r.table[i] = row_word_of(s, at);
+    r.table[i] = listed_word_of(s, at);
     r
 }
 
 // The path reductions, k of them. A refusal is handed on.
-fn rows(s: &[u8], w: Progress, k: usize) -> Progress
-    ensures { λ r. ⌜ r ≡ rows-scan k (now (s .entry)) w ⌝ }
+fn listed(s: &[u8], w: Progress, k: usize) -> Progress
+    ensures { λ r. ⌜ r ≡ listed-scan k (now (s .entry)) w ⌝ }
 {
     let mut state = w;
     let mut left = k;
@@ -105,7 +107,7 @@ fn rows(s: &[u8], w: Progress, k: usize) -> Progress
         if state.code != 0 {
             return state;
         }
-        state = row_step_of(s, state);
+        state = listed_step_of(s, state);
         left -= 1;
     }
     state
@@ -121,7 +123,7 @@ fn reduction_code_of(kind: u16, b: u16) -> u8
     fields::code_of(b, 5)
 }
 
-// An entry: its reduction byte and its expression.
+// An entry: its reduction byte and its expression. One more is met.
 fn entry(s: &[u8], w: Progress, kind: u16) -> Progress
     ensures { λ r. ⌜ r ≡ entry-scan kind (now (s .entry)) w ⌝ }
 {
@@ -133,9 +135,14 @@ fn entry(s: &[u8], w: Progress, kind: u16) -> Progress
     if c != 0 {
         return progress::blank_of(c);
     }
+    let met = w.reductions;
+    if 8 <= met {
+        return progress::blank_of(14);
+    }
     let mut next = w;
     next.at = at + 1;
-    terms::read_term(s, next, terms::ENTRY, 16)
+    next.reductions = met + 1;
+    terms::read_term(s, next, TermKind::OfEntry, 16)
 }
 
 // The entries, k of them. A refusal is handed on.
@@ -180,7 +187,7 @@ fn final_of(s: &[u8], w: Progress, kind: u16) -> Progress
     if kind == 0 {
         return w;
     }
-    terms::read_term(s, w, terms::FINAL, 16)
+    terms::read_term(s, w, TermKind::OfFinal, 16)
 }
 
 // The entries and the final expression, from the entry count on.
@@ -201,7 +208,6 @@ fn body(s: &[u8], w: Progress, kind: u16) -> Progress
     }
     let mut next = w;
     next.at = at + 1;
-    next.reductions = e as usize;
     final_of(s, entries(s, next, kind, e as usize), kind)
 }
 
@@ -221,7 +227,7 @@ pub fn scan(s: &[u8]) -> Progress
     if 8 < count {
         return progress::blank_of(14);
     }
-    let paths = rows(s, progress::start(7), count as usize);
+    let paths = listed(s, progress::start(7), count as usize);
     progress::finish(s, body(s, paths, kind))
 }
 

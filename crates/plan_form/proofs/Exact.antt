@@ -15,19 +15,21 @@ use Rattle.nodes.specs.declared.Node.{Node}
 use Rattle.nodes.specs.declared.Term.the-variants.{Entry}
 use Rattle.draft.specs.Texts.{texts}
 use Rattle.nodes.specs.Text.{node-text, nodes-text, term-text}
-use Rattle.nodes.specs.Nodes.{collected, node, nodes-read, padded}
+use Rattle.nodes.specs.Nodes.{node, padded}
+use Rattle.nodes.specs.Steps.{collected, nodes-read}
 use Rattle.nodes.specs.Tree.{entry-nodes, final-nodes}
 use Rattle.draft.proofs.Texts.{text-append}
 use Rattle.nodes.proofs.Exact.{entry-collected, entry-size, entry-text, final-collected, final-size, final-text}
 use Rattle.nodes.proofs.Fields.{entry-read, path-digits}
 use Rattle.nodes.proofs.Held.{first-nodes, read-whole}
 use Rattle.plan.specs.Plan.{plan-code, plan-scan}
-use Rattle.plan.specs.Text.{body-bytes, encode, entries-bytes, entry-count, kind-of, row-bytes, rows-bytes}
+use Rattle.plan.specs.Text.{body-bytes, encode, entries-bytes, entry-count, kind-of, listed-bytes, all-listed-bytes}
 use Rattle.plan.specs.Tree.{plan-of}
 use Rattle.plan.proofs.Exact.{read-complete}
-use Rattle.plan.proofs.PathRows.{rows-size}
+use Rattle.plan.proofs.ListedPaths.{listed-size}
 use Rattle.plan.proofs.Tree.{plan-back, plan-read}
 use Rattle.progress.specs.declared.Progress.{Progress}
+use Rattle.terms.specs.declared.TermKind.the-variants.{OfEntry, OfFinal}
 use Rattle.term_text.specs.Text.{expression-bytes, path-number}
 use Rattle.term_text.proofs.Steps.{drop-on}
 use Rattle.term_text.proofs.Table.{Table}
@@ -38,8 +40,8 @@ use Rattle.plan_form.specs.Steps.{form-after, read-after}
 
 -- the bytes behind the entry count
 abbrev inner : Body → List ℕ
-inner (each-vertex t) = 0 ∷ expression-bytes 2 t
-inner (one-result es t) = entries-bytes es ++ expression-bytes 3 t
+inner (each-vertex t) = 0 ∷ expression-bytes OfEntry t
+inner (one-result es t) = entries-bytes es ++ expression-bytes OfFinal t
 
 -- those of a plan's body are its entry count and these
 body-is : (b : Body) → body-bytes b ≡ entry-count b ∷ inner b
@@ -53,7 +55,7 @@ module _ (s : List ℕ) (count : ℕ) where
       → collected (entry-terms es + length es + k) s i ≡ entries-nodes es ++ collected k s (i + length (entries-bytes es))
   entries-collected [] f i k rest d = ap₂ (λ (n j : ℕ). collected n s j) (let e : 0 + k ≡ k = omega arith in e) (let e : i ≡ i + 0 = omega arith in e)
   entries-collected (e ∷ es) f i k rest d =
-      let b = expression-bytes 2 (e .body) in
+      let b = expression-bytes OfEntry (e .body) in
       let n = terms unit (e .body) in
       let m = entry-terms es + length es + k in
       let g = f .0 in
@@ -74,14 +76,14 @@ module _ (s : List ℕ) (count : ℕ) where
 body-collected : (s : List ℕ) (count : ℕ) (b : Body) → BodyLegal count b → (i : ℕ) → drop i s ≡ inner b
     → (j : ℕ) × (collected (plan-terms b + entry-count b + 0) s i ≡ body-nodes b ++ collected 0 s j)
 body-collected s count (each-vertex t) l i d =
-    let d1 = drop-on s i 1 (0 ∷ []) (expression-bytes 2 t) d refl ∙ sym (append-nil (expression-bytes 2 t)) in (
-      i + 1 + length (expression-bytes 2 t),
+    let d1 = drop-on s i 1 (0 ∷ []) (expression-bytes OfEntry t) d refl ∙ sym (append-nil (expression-bytes OfEntry t)) in (
+      i + 1 + length (expression-bytes OfEntry t),
       ap (λ (j : ℕ). collected j s i) (let z : terms unit t + 1 + 0 ≡ suc (terms unit t + 0) = omega arith in z)
-          ∙ entry-read s i 0 (expression-bytes 2 t) (omega arith) d (terms unit t + 0)
+          ∙ entry-read s i 0 (expression-bytes OfEntry t) (omega arith) d (terms unit t + 0)
           ∙ ap (λ (l : List Node). node (Entry 0) ∷ l) (entry-collected count s t (l .0) (i + 1) 0 [] d1),
     )
 body-collected s count (one-result es t) l i d =
-    let e = expression-bytes 3 t in
+    let e = expression-bytes OfFinal t in
     let m = i + length (entries-bytes es) in
     let d2 = drop-on s i (length (entries-bytes es)) (entries-bytes es) e d refl ∙ sym (append-nil e) in (
       m + length e,
@@ -96,9 +98,9 @@ body-collected s count (one-result es t) l i d =
 inner-there : (p : Plan) → drop (8 + 6 * length (p .paths)) (encode p) ≡ inner (p .body)
 inner-there p =
     let s = encode p in
-    let n = length (rows-bytes (p .paths)) in
-    let d = drop-on s 7 n (rows-bytes (p .paths)) (body-bytes (p .body)) refl refl ∙ body-is (p .body) in
-    ap (λ (i : ℕ). drop i s) (let z : 8 + 6 * length (p .paths) ≡ 7 + n + 1 = omega (arith, rows-size (p .paths)) in z)
+    let n = length (all-listed-bytes (p .paths)) in
+    let d = drop-on s 7 n (all-listed-bytes (p .paths)) (body-bytes (p .body)) refl refl ∙ body-is (p .body) in
+    ap (λ (i : ℕ). drop i s) (let z : 8 + 6 * length (p .paths) ≡ 7 + n + 1 = omega (arith, listed-size (p .paths)) in z)
     ∙ drop-on s (7 + n) 1 (entry-count (p .body) ∷ []) (inner (p .body)) d refl
 
 -- a legal plan has at most eight entries
@@ -193,7 +195,7 @@ body-size (each-vertex t) = omega (arith, entry-size t)
 body-size (one-result es t) = omega (arith, length-append (entries-nodes es) (final-nodes t), entries-size es, final-size t)
 
 -- the text of the numbers of path reductions
-row-written : (c : PathReduction) → PathFits 256 c → row-text (path-number c) ≡ row-bytes c
+row-written : (c : PathReduction) → PathFits 256 c → row-text (path-number c) ≡ listed-bytes c
 unfolding row-text
 row-written c f =
     let w = path-number c in
@@ -201,7 +203,7 @@ row-written c f =
     let e : w / 65536 / 256 % 256 ≡ w / 16777216 % 256 = omega arith in
     rw (e, d .0, d .1, d .2, d .3, d .4) refl
 
-rows-written : (cs : List PathReduction) → All (PathFits 256) cs → rows-text (map path-number cs) ≡ rows-bytes cs
+rows-written : (cs : List PathReduction) → All (PathFits 256) cs → rows-text (map path-number cs) ≡ all-listed-bytes cs
 unfolding texts
 rows-written [] f = refl
 rows-written (c ∷ cs) f = ap₂ _++_ (row-written c (f .0)) (rows-written cs (f .1))
@@ -211,7 +213,7 @@ pub write-form : (p : Plan) → PlanLegal 256 p → (rest : List ℕ) → form-b
 unfolding form-bytes form-of
 write-form p l rest =
     let n = length (p .paths) in
-    let rows : rows-text (take n (map path-number (p .paths) ++ rest)) ≡ rows-bytes (p .paths) =
+    let rows : rows-text (take n (map path-number (p .paths) ++ rest)) ≡ all-listed-bytes (p .paths) =
     ap rows-text (take-at (map path-number (p .paths)) rest n (length-map (p .paths) path-number)) ∙ rows-written (p .paths) (l .paths-legal) in
     let count = plan-terms (p .body) + entry-count (p .body) in
     let list : nodes-text (take count (padded (body-nodes (p .body)))) ≡ inner (p .body) =

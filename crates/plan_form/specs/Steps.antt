@@ -4,7 +4,7 @@ use mathlib.Core.Bool.{cond}
 use mathlib.Core.List.{List}
 use lib.Dec.{eqb}
 use lib.ListN.{getD}
-use Rattle.nodes.specs.Nodes.{nodes-read}
+use Rattle.nodes.specs.Steps.{nodes-read}
 use Rattle.progress.specs.declared.Progress.{Progress}
 use Rattle.plan_form.specs.declared.Form.{Form}
 use Rattle.plan_form.specs.declared.Reading.{Reading}

@@ -3,8 +3,9 @@
 ghost use mathlib.Core.Path.{_≡_};
 ghost use Rattle.progress.specs.Progress.{blank, started, ended};
 
-// How far a reading has come. `code` is 0, or the number of the refusal; `paths` and `reductions` count what has been met, or, in a
-// worksheet, what there is; `table` holds the different path reductions, each as its six worksheet bytes in one number.
+// How far a reading has come: `code` is 0, or the number of the refusal; `at` is the next byte, `terms` how many terms have been read so far;
+// `paths` is how many path reductions `table` holds so far, each as its six worksheet bytes in one number; `reductions` is how many vertex
+// reductions (in a worksheet: entries) have been met so far.
 pub struct Progress {
     pub code: u8,
     pub at: usize,

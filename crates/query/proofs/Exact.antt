@@ -16,7 +16,8 @@ use Rattle.progress.specs.declared.Progress.{Progress}
 use Rattle.terms.specs.Terms.{read}
 use Rattle.progress.specs.Progress.{blank, ended, started}
 use Rattle.term_text.specs.Text.{term-bytes}
-use Rattle.term_text.proofs.Exact.{result-complete, result-count, result-leaves, result-paths, result-sound, vertex-complete, vertex-count, vertex-leaves, vertex-paths, vertex-sound}
+use Rattle.term_text.proofs.Exact.{result-complete, result-count, result-leaves, result-paths, result-sound, vertex-complete, vertex-count, vertex-leaves}
+use Rattle.term_text.proofs.Exact.{vertex-paths, vertex-sound}
 use Rattle.term_text.proofs.Ends.{ended-code, ended-whole, no-rest, started-table}
 use Rattle.term_text.proofs.Paths.{drop-at, present}
 use Rattle.term_text.proofs.Shape.{Complete, Leaves, Sound, term-count, term-paths}
@@ -24,7 +25,7 @@ use Rattle.term_text.proofs.Table.{Table}
 use Rattle.wire.specs.Header.{header-bytes, header-code}
 use Rattle.wire.specs.Wire.{Bytes}
 use Rattle.wire.proofs.Header.{header-accepted, header-found}
-use Rattle.query.specs.Query.{encode, query-code, query-scan}
+use Rattle.query.specs.Query.{encode, query-code, query-scan, term-kind}
 
 -- what the reader knows of an accepted query: its table of different path reductions in order of first writing, its terms and its reductions
 pub record Scanned (w : Progress) (q : Query) : Type 0 where
@@ -34,7 +35,7 @@ pub record Scanned (w : Progress) (q : Query) : Type 0 where
   pub table : Table w (put-all [] (written-paths q))
 
 -- a whole text: header, kind, body
-scan-is : (s : List ℕ) (kind : ℕ) → header-code 0x51 5 s ≡ 0 → getD s 5 256 ≡ kind → kind ≤ 1 → query-scan s ≡ ended s (read kind 16 s (started 6))
+scan-is : (s : List ℕ) (kind : ℕ) → header-code 0x51 5 s ≡ 0 → getD s 5 256 ≡ kind → kind ≤ 1 → query-scan s ≡ ended s (read (term-kind kind) 16 s (started 6))
 unfolding query-scan
 scan-is s kind h k l = rw (h, k, le-ltb 255 kind (omega arith), le-ltb 1 kind l) refl
 
@@ -44,20 +45,21 @@ joined : (s : List ℕ) (kind : ℕ) (l rest : List ℕ) → getD s 5 256 ≡ ki
 joined s kind l rest k h c d n =
     let p = present s 5 (omega arith) in
     let none : rest ≡ [] = no-rest rest (omega (arith, length-drop 6 s, ap length d, length-append l rest)) in
-    sym (header-found 0x51 5 s c ∙ ap (λ (t : List ℕ). header-bytes 0x51 ++ t) (drop-at s 5 p ∙ ap₂ (λ (x : ℕ) (t : List ℕ). x ∷ t) k (d ∙ ap (λ (t : List ℕ). l ++ t) none ∙ append-nil l)))
+    sym (header-found 0x51 5 s c ∙ ap (λ (t : List ℕ). header-bytes 0x51 ++ t)
+    (drop-at s 5 p ∙ ap₂ (λ (x : ℕ) (t : List ℕ). x ∷ t) k (d ∙ ap (λ (t : List ℕ). l ++ t) none ∙ append-nil l)))
 
--- BOTH KINDS ALIKE: kind m, its leaves, and the query that a term of it is
+-- BOTH KINDS ALIKE: kind byte m, its leaves, and the query that a term of it is
 module _ {A : Type 0} (K : Leaves A) (m : ℕ) (low : m ≤ 1) (Ready : Progress → Type 0) (ready : Ready (started 6)) (of : Term A → Query)
-    (text : (t : Term A) → encode (of t) ≡ header-bytes 0x51 ++ (m ∷ term-bytes m (K .bytes) t))
+    (text : (t : Term A) → encode (of t) ≡ header-bytes 0x51 ++ (m ∷ term-bytes (term-kind m) (K .bytes) t))
     (size : (t : Term A) → query-terms (of t) ≡ terms (K .size) t) (deep : (t : Term A) → query-depth (of t) ≡ depth (K .deep) t)
     (paths : (t : Term A) → term-paths K t ≡ written-paths (of t)) (count : (t : Term A) → term-count K t ≡ query-reductions (of t))
-    (complete : (s : List ℕ) (t : Term A) → Complete K s m Ready t) where
+    (complete : (s : List ℕ) (t : Term A) → Complete K s (term-kind m) Ready t) where
   term-read : (t : Term A) → Every (K .fine) t → QueryLegal 256 (of t) → Scanned (query-scan (encode (of t))) (of t)
   unfolding started
   term-read t fine l =
-      let s : List ℕ = header-bytes 0x51 ++ (m ∷ term-bytes m (K .bytes) t) in
+      let s : List ℕ = header-bytes 0x51 ++ (m ∷ term-bytes (term-kind m) (K .bytes) t) in
       let same = ap (put-all []) (paths t) in
-      let a = complete s t 16 (started 6) [] [] refl (started-table 6) ready (sym (append-nil (term-bytes m (K .bytes) t)))
+      let a = complete s t 16 (started 6) [] [] refl (started-table 6) ready (sym (append-nil (term-bytes (term-kind m) (K .bytes) t)))
       (record {
         fine = fine;
         shallow = omega (arith, l .shallow, deep t);
@@ -65,20 +67,22 @@ module _ {A : Type 0} (K : Leaves A) (m : ℕ) (low : m ≤ 1) (Ready : Progress
         paths = omega (arith, l .few-paths, ap length same);
         reductions = omega (arith, l .few-reductions, count t);
       }) in
-      let whole = scan-is s m (header-accepted 0x51 5 (m ∷ term-bytes m (K .bytes) t) (omega arith)) refl low ∙ ended-whole s (read m 16 s (started 6)) (omega (arith, a .at)) in
+      let whole = scan-is s m (header-accepted 0x51 5 (m ∷ term-bytes (term-kind m) (K .bytes) t) (omega arith)) refl low
+      ∙ ended-whole s (read (term-kind m) 16 s (started 6)) (omega (arith, a .at)) in
       subst (λ (w : Progress). Scanned w (of t)) (sym (ap query-scan (text t) ∙ whole))
       (record {
         accepted = a .code;
         terms = omega (arith, a .terms, size t);
         reductions = omega (arith, a .reductions, count t);
-        table = subst (Table (read m 16 s (started 6))) same (a .table);
+        table = subst (Table (read (term-kind m) 16 s (started 6))) same (a .table);
       })
 
-  term-found : (s : List ℕ) → Sound K s m Ready 16 → ((t : Term A) → Every (K .fine) t → EveryPath (PathFits 256) (of t)) → header-code 0x51 5 s ≡ 0 → getD s 5 256 ≡ m
-      → ended s (read m 16 s (started 6)) .code ≡ 0 → (q : Query) × QueryLegal 256 q × (encode q ≡ s)
+  term-found : (s : List ℕ) → Sound K s (term-kind m) Ready 16 → ((t : Term A) → Every (K .fine) t → EveryPath (PathFits 256) (of t)) → header-code 0x51 5 s ≡ 0
+      → getD s 5 256 ≡ m
+      → ended s (read (term-kind m) 16 s (started 6)) .code ≡ 0 → (q : Query) × QueryLegal 256 q × (encode q ≡ s)
   unfolding started
   term-found s sound legal h k e =
-      let z = ended-code s (read m 16 s (started 6)) e in
+      let z = ended-code s (read (term-kind m) 16 s (started 6)) e in
       let f = sound (started 6) [] refl (started-table 6) ready (z .0) in
       let t = f .0 in
       let room = f .3 in
@@ -92,22 +96,25 @@ module _ {A : Type 0} (K : Leaves A) (m : ℕ) (low : m ≤ 1) (Ready : Progress
           few-paths = omega (arith, room .paths, same);
           few-reductions = omega (arith, room .reductions, count t);
         },
-        text t ∙ joined s m (term-bytes m (K .bytes) t) (f .1) k low h (f .2) (omega (arith, z .1, a .at)),
+        text t ∙ joined s m (term-bytes (term-kind m) (K .bytes) t) (f .1) k low h (f .2) (omega (arith, z .1, a .at)),
       )
 
 -- THE ENCODING OF EVERY LEGAL QUERY IS ACCEPTED AND READ AS IT
 pub read-complete : (q : Query) → QueryLegal 256 q → Scanned (query-scan (encode q)) q
-read-complete (each t) l = term-read vertex-leaves 0 (omega arith) _ tt each (λ t. refl) (λ t. refl) (λ t. refl) vertex-paths vertex-count vertex-complete t (l .legal) l
-read-complete (single t) l = term-read result-leaves 1 (omega arith) _ tt single (λ t. refl) (λ t. refl) (λ t. refl) result-paths result-count result-complete t (l .legal) l
+read-complete (each t) l =
+    term-read vertex-leaves 0 (omega arith) _ tt each (λ t. refl) (λ t. refl) (λ t. refl) vertex-paths vertex-count vertex-complete t (l .legal) l
+read-complete (single t) l =
+    term-read result-leaves 1 (omega arith) _ tt single (λ t. refl) (λ t. refl) (λ t. refl) result-paths result-count result-complete t (l .legal) l
 
 -- what an accepted text is: its header, a kind, a term and nothing after it
-accepted-parts : (s : List ℕ) → query-code s ≡ 0 → (header-code 0x51 5 s ≡ 0) × (getD s 5 256 ≤ 1) × (ended s (read (getD s 5 256) 16 s (started 6)) .code ≡ 0)
+accepted-parts : (s : List ℕ) → query-code s ≡ 0
+    → (header-code 0x51 5 s ≡ 0) × (getD s 5 256 ≤ 1) × (ended s (read (term-kind (getD s 5 256)) 16 s (started 6)) .code ≡ 0)
 unfolding query-scan blank
 accepted-parts s e = go (eqb (opening-code 0x51 s) 0) refl e
   where
     go : (a : Bool) → eqb (opening-code 0x51 s) 0 ≡ a
-        → cond a (ended s (read (getD s 5 256) 16 s (started 6))) (blank (opening-code 0x51 s)) .code ≡ 0
-        → (header-code 0x51 5 s ≡ 0) × (getD s 5 256 ≤ 1) × (ended s (read (getD s 5 256) 16 s (started 6)) .code ≡ 0)
+        → cond a (ended s (read (term-kind (getD s 5 256)) 16 s (started 6))) (blank (opening-code 0x51 s)) .code ≡ 0
+        → (header-code 0x51 5 s ≡ 0) × (getD s 5 256 ≤ 1) × (ended s (read (term-kind (getD s 5 256)) 16 s (started 6)) .code ≡ 0)
     go false p z = absurd (eqb-false (opening-code 0x51 s) 0 p z)
     go true p z = let f = opening-found 0x51 s (eqb-true (opening-code 0x51 s) 0 p) in (f .0, f .1, z)
 
@@ -115,7 +122,8 @@ accepted-parts s e = go (eqb (opening-code 0x51 s) 0) refl e
 pub read-sound : (s : List ℕ) → Bytes s → query-code s ≡ 0 → (q : Query) × QueryLegal 256 q × (encode q ≡ s)
 read-sound s bytes e = by-kind (getD s 5 256) refl (accepted-parts s e)
   where
-    by-kind : (kind : ℕ) → getD s 5 256 ≡ kind → (header-code 0x51 5 s ≡ 0) × (getD s 5 256 ≤ 1) × (ended s (read (getD s 5 256) 16 s (started 6)) .code ≡ 0)
+    by-kind : (kind : ℕ) → getD s 5 256 ≡ kind
+        → (header-code 0x51 5 s ≡ 0) × (getD s 5 256 ≤ 1) × (ended s (read (term-kind (getD s 5 256)) 16 s (started 6)) .code ≡ 0)
         → (q : Query) × QueryLegal 256 q × (encode q ≡ s)
     by-kind zero k p =
         term-found vertex-leaves 0 (omega arith) _ tt each (λ t. refl) (λ t. refl) (λ t. refl) vertex-paths vertex-count vertex-complete

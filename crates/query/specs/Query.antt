@@ -7,6 +7,8 @@ use lib.ListN.{getD}
 use Rattle.meaning.specs.Query.{Query, each, single}
 use Rattle.fields.specs.Fields.{opening-code}
 use Rattle.progress.specs.declared.Progress.{Progress}
+use Rattle.terms.specs.declared.TermKind.{TermKind}
+use Rattle.terms.specs.declared.TermKind.the-variants.{OfVertex, OfResult}
 use Rattle.terms.specs.Terms.{read}
 use Rattle.progress.specs.Progress.{blank, ended, started}
 use Rattle.term_text.specs.Text.{result-bytes, vertex-bytes}
@@ -21,10 +23,14 @@ body-bytes (single t) = 1 ∷ result-bytes t
 abbrev pub encode : Query → List ℕ
 encode q = header-bytes 0x51 ++ body-bytes q
 
+-- "A question of kind 0 is a place term, of kind 1 a result term.": the kind of its term, by its kind byte
+abbrev pub term-kind : ℕ → TermKind
+term-kind b = cond (eqb b 0) OfVertex OfResult
+
 -- the reading: header, kind, the term to a depth of 16, left-over bytes
 unfoldable pub query-scan : List ℕ → Progress
 query-scan s =
-    cond (eqb (opening-code 0x51 s) 0) (ended s (read (getD s 5 256) 16 s (started 6))) (blank (opening-code 0x51 s))
+    cond (eqb (opening-code 0x51 s) 0) (ended s (read (term-kind (getD s 5 256)) 16 s (started 6))) (blank (opening-code 0x51 s))
 
 -- the number of the first refusal, 0 where the bytes are accepted
 abbrev pub query-code : List ℕ → ℕ

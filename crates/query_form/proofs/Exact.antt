@@ -12,7 +12,7 @@ use Rattle.meaning.specs.Plan.{put-all}
 use Rattle.meaning.specs.Query.{Query, each, single, written-paths}
 use Rattle.nodes.specs.declared.Node.{Node}
 use Rattle.nodes.specs.Text.{nodes-text}
-use Rattle.nodes.specs.Nodes.{nodes-read}
+use Rattle.nodes.specs.Steps.{nodes-read}
 use Rattle.nodes.specs.Tree.{result-nodes, vertex-nodes}
 use Rattle.nodes.proofs.Exact.{result-collected, result-size, result-text, vertex-collected, vertex-size, vertex-text}
 use Rattle.nodes.proofs.Held.{first-nodes, read-whole}

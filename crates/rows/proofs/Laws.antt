@@ -10,11 +10,10 @@ use Rattle.value.specs.declared.Row.{Row}
 use Rattle.value.specs.declared.Value.{Value}
 use Rattle.value.specs.declared.Value.the-variants.{Absent}
 use Rattle.value.specs.Value.{reduce, values}
-use Rattle.eval.specs.Eval.{evaluated}
-use Rattle.eval.specs.Body.{count-at, eight, entries-end, entry-rows, expression-end, results, row}
+use Rattle.eval.specs.Steps.{body-found, count-at, eight, entries-end, entry-rows, evaluated, expression-end, final-found, results, row}
 use Rattle.eval.proofs.Fill.{filled, fill-front}
 use Rattle.rounds.specs.Run.{value-in}
-use Rattle.rows.specs.Rows.{body-read, final-found, many, rows-at}
+use Rattle.rows.specs.Steps.{many, rows-at}
 
 rows-of : (g : ℕ → Value) (k i : ℕ) → map row (tabulate k i g) ≡ tabulate k i (λ j. row (g j))
 rows-of g zero i = refl
@@ -82,11 +81,11 @@ module _ (s : List ℕ) (F : ℕ → List Row) (n : ℕ) where
       ∙ eight-filled (λ j. result-at (entries-end j s at)) k
 
   -- the body of kind 0
-  pub body-each : getD s 5 0 ≡ 0 → body-read s F n ≡ entry-rows s (count-at s + 2) F n
-  unfolding body-read
+  pub body-each : getD s 5 0 ≡ 0 → body-found s F n ≡ entry-rows s (count-at s + 2) F n
+  unfolding body-found
   body-each e = rw (eq-eqb (getD s 5 0) 0 e) refl
 
   -- the body of kind 1
-  pub body-one : (getD s 5 0 ≡ 0 → ⊥) → body-read s F n ≡ row (final-found (min (getD s (count-at s) 0) 8) s (count-at s + 1) F n) ∷ []
-  unfolding body-read
+  pub body-one : (getD s 5 0 ≡ 0 → ⊥) → body-found s F n ≡ row (final-found (min (getD s (count-at s) 0) 8) s (count-at s + 1) F n) ∷ []
+  unfolding body-found
   body-one h = rw (ne-eqb (getD s 5 0) 0 h) refl

@@ -7,9 +7,9 @@ ghost use mathlib.Core.List.{_∷_, []};
 ghost use Prim.Native.Nat.{_+_, _≤_, min};
 ghost use lib.ListN.{length, getD};
 ghost use Rattle.value.specs.Value.{reduce, values};
-ghost use Rattle.eval.specs.Body.{count-at, eight, entries-end, entry-rows, results, row};
+ghost use Rattle.eval.specs.Steps.{body-found, count-at, eight, entries-end, entry-rows, final-found, results, row};
 ghost use Rattle.rounds.specs.Run.{value-in};
-ghost use Rattle.rows.specs.Rows.{body-read, final-found, many, rows-at};
+ghost use Rattle.rows.specs.Steps.{many, rows-at};
 
 // The results of the entries, and where the entries end.
 struct Results {
@@ -109,7 +109,8 @@ fn result_of(plan: &[u8], at: usize, figures: &[u32], paths: usize, n: usize) ->
 // The results of the e entries from `at` on.
 fn results_of(plan: &[u8], at: usize, figures: &[u32], paths: usize, n: usize, e: usize) -> Results
     requires { ⌜ (n ≤ 256) × (at ≤ 2048) × (e ≤ 8) ⌝ }
-    ensures { λ r. ⌜ (r .rows ≡ eight (results e (now (plan .entry)) at (rows-at (now (figures .entry)) paths) n)) × (r .end ≡ entries-end e (now (plan .entry)) at) ⌝ }
+    ensures { λ r. ⌜ (r .rows ≡ eight (results e (now (plan .entry)) at (rows-at (now (figures .entry)) paths) n))
+        × (r .end ≡ entries-end e (now (plan .entry)) at) ⌝ }
 {
     let absent = Row {
         value: Value::Absent,
@@ -153,7 +154,7 @@ fn single(value: Value) -> [Row; 256]
 
 // The rows of the plan's body, of the figures at n vertices (256 where n is above), absent ones behind them: by its kind those of the one entry, or one.
 pub fn body_rows(plan: &[u8], figures: &[u32], paths: usize, n: usize) -> [Row; 256]
-    ensures { λ r. ⌜ r ≡ many (body-read (now (plan .entry)) (rows-at (now (figures .entry)) paths) (min n 256)) ⌝ }
+    ensures { λ r. ⌜ r ≡ many (body-found (now (plan .entry)) (rows-at (now (figures .entry)) paths) (min n 256)) ⌝ }
 {
     let count = wire::lesser(n, 256);
     let at = count_at(plan);

@@ -16,6 +16,8 @@ use Rattle.wire.specs.Wire.{Bytes, le16}
 use Rattle.progress.specs.declared.Progress.{Progress}
 use Rattle.fields.specs.Fields.{code-of}
 use Rattle.path_fields.specs.Paths.{path-code}
+use Rattle.terms.specs.declared.TermKind.{TermKind}
+use Rattle.terms.specs.declared.TermKind.the-variants.{OfVertex, OfResult}
 use Rattle.terms.specs.Terms.{advanced, index-step, kept-path, leaf-step, leaf-tag, literal-tag, path-step, read, reduce-step, term-step}
 use Rattle.progress.specs.Progress.{blank}
 use Rattle.terms.proofs.Laws.{accepted-as}
@@ -48,17 +50,18 @@ Always w = Unit {0}
 module _ (s : List ℕ) where
   -- a leaf is read by its step
   path-read : (d : ℕ) (w : Progress) → w .code ≡ 0 → w .at < length s → w .terms < 64 → getD s (w .at) 0 ≡ 0x10
-      → read 0 (suc d) s w ≡ path-step s w .progress
+      → read OfVertex (suc d) s w ≡ path-step s w .progress
   unfolding leaf-tag leaf-step path-step
   path-read d w z h k tag =
-      let step : term-step 0 (suc d) s w ≡ path-step s w = step-is s 0 d w h k ∙ rw tag refl in
+      let step : term-step OfVertex (suc d) s w ≡ path-step s w = step-is s OfVertex d w h k ∙ rw tag refl in
       go (eqb (path-code s (w .at + 1)) 0) refl step
     where
-      go : (b : Bool) → eqb (path-code s (w .at + 1)) 0 ≡ b → term-step 0 (suc d) s w ≡ path-step s w → read 0 (suc d) s w ≡ path-step s w .progress
-      go true p e = read-by s 0 d w z (path-step s w) e ∙ rw p refl
-      go false p e = read-by s 0 d w z (path-step s w) e ∙ rw p refl
+      go : (b : Bool) → eqb (path-code s (w .at + 1)) 0 ≡ b → term-step OfVertex (suc d) s w ≡ path-step s w
+          → read OfVertex (suc d) s w ≡ path-step s w .progress
+      go true p e = read-by s OfVertex d w z (path-step s w) e ∙ rw p refl
+      go false p e = read-by s OfVertex d w z (path-step s w) e ∙ rw p refl
 
-  path-complete : (c : PathReduction) → Complete vertex-leaves s 0 Always (leaf c)
+  path-complete : (c : PathReduction) → Complete vertex-leaves s OfVertex Always (leaf c)
   unfolding path-step advanced leaf-tag literal-tag
   path-complete c zero w cs rest z t r e room = absurd (omega (arith, room .shallow))
   path-complete c (suc d) w cs rest z t r e room =
@@ -69,10 +72,10 @@ module _ (s : List ℕ) where
       let n = path-count s c (room .fine) (w .at + 1) rest next in
       let number = path-numbered s c (room .fine) (w .at + 1) rest next in
       let w1 : Progress = advanced w (w .at + 1 + 3 + length (c .keys)) in
-      let reads : read 0 (suc d) s w ≡ kept-path w1 (path-number c) = path-read d w z i (omega (arith, room .terms)) tag ∙ rw (ok, n, number) refl in
+      let reads : read OfVertex (suc d) s w ≡ kept-path w1 (path-number c) = path-read d w z i (omega (arith, room .terms)) tag ∙ rw (ok, n, number) refl in
       let p = kept-room w1 cs (table-advanced w cs (w .at + 1 + 3 + length (c .keys)) t) c (room .fine) (room .paths) in
       let len = length-append (c .keys) (le16 (c .source)) in
-      subst (λ (v : Progress). After vertex-leaves 0 w v cs (leaf c)) (sym reads)
+      subst (λ (v : Progress). After vertex-leaves OfVertex w v cs (leaf c)) (sym reads)
       (record {
         code = p .code ∙ z;
         at = omega (arith, p .at, len);
@@ -81,14 +84,14 @@ module _ (s : List ℕ) where
         table = p .table;
       })
 
-  path-sound : Bytes s → LeafSound vertex-leaves s 0 Always
+  path-sound : Bytes s → LeafSound vertex-leaves s OfVertex Always
   unfolding path-step advanced leaf-tag blank
   path-sound bytes d w cs z t r h k tag e = go (eqb (path-code s (w .at + 1)) 0) refl (path-read d w z h k tag)
     where
-      go : (b : Bool) → eqb (path-code s (w .at + 1)) 0 ≡ b → read 0 (suc d) s w ≡ path-step s w .progress
+      go : (b : Bool) → eqb (path-code s (w .at + 1)) 0 ≡ b → read OfVertex (suc d) s w ≡ path-step s w .progress
           → (c : PathReduction) × (rest : List ℕ) × (drop (w .at) s ≡ (0x10 ∷ path-bytes c) ++ rest) × Room vertex-leaves (suc d) w cs (leaf c)
       go false p q =
-          let reads : read 0 (suc d) s w ≡ blank (path-code s (w .at + 1)) = q ∙ rw p refl in
+          let reads : read OfVertex (suc d) s w ≡ blank (path-code s (w .at + 1)) = q ∙ rw p refl in
           absurd (eqb-false (path-code s (w .at + 1)) 0 p (accepted-as reads e))
       go true p q =
           let ok = eqb-true (path-code s (w .at + 1)) 0 p in
@@ -97,7 +100,7 @@ module _ (s : List ℕ) where
           let n = path-count s c (f .1) (w .at + 1) _ (f .3) in
           let number = path-numbered s c (f .1) (w .at + 1) _ (f .3) in
           let w1 : Progress = advanced w (w .at + 1 + 3 + length (f .0 .keys)) in
-          let reads : read 0 (suc d) s w ≡ kept-path w1 (path-number (f .0)) = q ∙ rw (p, n, number) refl in
+          let reads : read OfVertex (suc d) s w ≡ kept-path w1 (path-number (f .0)) = q ∙ rw (p, n, number) refl in
           let few = kept-few w1 cs (table-advanced w cs (w .at + 1 + 3 + length (f .0 .keys)) t) c (f .1) (accepted-as reads e) in (
             c,
             drop (w .at + 1 + 3 + getD s (w .at + 1) 256) s,
@@ -106,13 +109,13 @@ module _ (s : List ℕ) where
           )
 
   -- VERTEX TERMS ARE READ EXACTLY
-  pub vertex-complete : (t : VertexTerm) → Complete vertex-leaves s 0 Always t
+  pub vertex-complete : (t : VertexTerm) → Complete vertex-leaves s OfVertex Always t
   unfolding literal-tag leaf-tag
-  vertex-complete = term-complete vertex-leaves s 0 Always (λ w n r. tt) (λ w w′ cs t r b a. tt) refl refl path-complete
+  vertex-complete = term-complete vertex-leaves s OfVertex Always (λ w n r. tt) (λ w w′ cs t r b a. tt) refl refl path-complete
 
-  pub vertex-sound : Bytes s → (d : ℕ) → Sound vertex-leaves s 0 Always d
+  pub vertex-sound : Bytes s → (d : ℕ) → Sound vertex-leaves s OfVertex Always d
   unfolding literal-tag leaf-tag
-  vertex-sound bytes = term-sound vertex-leaves s 0 Always (λ w n r. tt) (λ w w′ cs t r b a. tt) refl refl bytes path-complete (path-sound bytes)
+  vertex-sound bytes = term-sound vertex-leaves s OfVertex Always (λ w n r. tt) (λ w w′ cs t r b a. tt) refl refl bytes path-complete (path-sound bytes)
 
 -- result terms: the leaves are reductions of vertex terms
 abbrev pub result-leaves : Leaves (VertexReduction PathReduction)
@@ -143,21 +146,22 @@ module _ (s : List ℕ) where
 
   table-under : (w : Progress) (cs : List PathReduction) → Table w cs → w .reductions < 8 → Table (under w) cs
   unfolding under
-  table-under w cs t h = record { legal = t .legal; count = t .count; few = t .few; rest = t .rest; holds = t .holds; size = t .size; few-reductions = omega arith }
+  table-under w cs t h =
+      record { legal = t .legal; count = t .count; few = t .few; rest = t .rest; holds = t .holds; size = t .size; few-reductions = omega arith }
 
   -- a reduction is read by its step, and its body after it
-  reduce-is : (d : ℕ) (w : Progress) → w .at < length s → w .terms < 64 → getD s (w .at) 0 ≡ 0x20 → term-step 1 (suc d) s w ≡ reduce-step s w
+  reduce-is : (d : ℕ) (w : Progress) → w .at < length s → w .terms < 64 → getD s (w .at) 0 ≡ 0x20 → term-step OfResult (suc d) s w ≡ reduce-step s w
   unfolding leaf-tag leaf-step
-  reduce-is d w h k tag = step-is s 1 d w h k ∙ rw tag refl
+  reduce-is d w h k tag = step-is s OfResult d w h k ∙ rw tag refl
 
   reduce-read : (d : ℕ) (w : Progress) → w .code ≡ 0 → w .at < length s → w .terms < 64 → getD s (w .at) 0 ≡ 0x20 → code-of (getD s (w .at + 1) 256) 5 ≡ 0
-      → w .reductions < 8 → read 1 (suc d) s w ≡ read 0 d s (under w)
+      → w .reductions < 8 → read OfResult (suc d) s w ≡ read OfVertex d s (under w)
   unfolding reduce-step advanced under
   reduce-read d w z h k tag c r =
       let made : reduce-step s w ≡ record { progress = under w; follow = 1 } = rw (c, lt-leb 8 (w .reductions) r) refl in
-      read-by s 1 d w z (record { progress = under w; follow = 1 }) (reduce-is d w h k tag ∙ made)
+      read-by s OfResult d w z (record { progress = under w; follow = 1 }) (reduce-is d w h k tag ∙ made)
 
-  reduce-complete : (e : VertexReduction PathReduction) → Complete result-leaves s 1 Always (leaf e)
+  reduce-complete : (e : VertexReduction PathReduction) → Complete result-leaves s OfResult Always (leaf e)
   unfolding under
   reduce-complete e zero w cs rest z t r p room = absurd (omega (arith, room .shallow))
   reduce-complete e (suc d) w cs rest z t r p room =
@@ -169,7 +173,8 @@ module _ (s : List ℕ) where
       let fewer : w .reductions < 8 = omega (arith, room .reductions) in
       let reads = reduce-read d w z i (omega (arith, room .terms)) tag (rw b (code-zero (e .reduction) 5 (f .0) (f .1) (omega arith))) fewer in
       let next : drop (w .at + 1 + 1) s ≡ vertex-bytes (e .body) ++ rest =
-      ap (λ (i : ℕ). drop i s) (let q : w .at + 1 + 1 ≡ w .at + 2 = omega arith in q) ∙ drop-on s (w .at) 2 (0x20 ∷ e .reduction ∷ []) (vertex-bytes (e .body) ++ rest) p refl in
+      ap (λ (i : ℕ). drop i s) (let q : w .at + 1 + 1 ≡ w .at + 2 = omega arith in q)
+      ∙ drop-on s (w .at) 2 (0x20 ∷ e .reduction ∷ []) (vertex-bytes (e .body) ++ rest) p refl in
       let paths = ap (put-all cs) (vertex-paths (e .body)) in
       let count = vertex-count (e .body) in
       let a = vertex-complete s (e .body) d (under w) cs rest z (table-under w cs t fewer) tt next
@@ -180,24 +185,26 @@ module _ (s : List ℕ) where
         paths = omega (arith, room .paths, ap length paths);
         reductions = omega (arith, count);
       }) in
-      subst (λ (v : Progress). After result-leaves 1 w v cs (leaf e)) (sym reads)
+      subst (λ (v : Progress). After result-leaves OfResult w v cs (leaf e)) (sym reads)
       (record {
         code = a .code;
         at = omega (arith, a .at);
         terms = omega (arith, a .terms);
         reductions = omega (arith, a .reductions, count);
-        table = subst (Table (read 0 d s (under w))) paths (a .table);
+        table = subst (Table (read OfVertex d s (under w))) paths (a .table);
       })
 
-  reduce-sound : Bytes s → LeafSound result-leaves s 1 Always
+  reduce-sound : Bytes s → LeafSound result-leaves s OfResult Always
   unfolding leaf-tag reduce-step under
   reduce-sound bytes d w cs z t r h k tag e = go (eqb (code-of (getD s (w .at + 1) 256) 5) 0) (leb 8 (w .reductions)) refl refl
     where
       go : (x y : Bool) → eqb (code-of (getD s (w .at + 1) 256) 5) 0 ≡ x → leb 8 (w .reductions) ≡ y
-          → (a : VertexReduction PathReduction) × (rest : List ℕ) × (drop (w .at) s ≡ (0x20 ∷ a .reduction ∷ vertex-bytes (a .body)) ++ rest) × Room result-leaves (suc d) w cs (leaf a)
+          → (a : VertexReduction PathReduction) × (rest : List ℕ) × (drop (w .at) s ≡ (0x20 ∷ a .reduction ∷ vertex-bytes (a .body)) ++ rest)
+          × Room result-leaves (suc d) w cs (leaf a)
       go false y p q =
-          absurd (stops s 1 d w z (code-of (getD s (w .at + 1) 256) 5) (eqb-false (code-of (getD s (w .at + 1) 256) 5) 0 p) (reduce-is d w h k tag ∙ rw p refl) e)
-      go true true p q = absurd (stops s 1 d w z 14 (λ n. omega arith) (reduce-is d w h k tag ∙ rw (p, q) refl) e)
+          absurd (stops s OfResult d w z (code-of (getD s (w .at + 1) 256) 5) (eqb-false (code-of (getD s (w .at + 1) 256) 5) 0 p)
+          (reduce-is d w h k tag ∙ rw p refl) e)
+      go true true p q = absurd (stops s OfResult d w z 14 (λ n. omega arith) (reduce-is d w h k tag ∙ rw (p, q) refl) e)
       go true false p q =
           let c = eqb-true (code-of (getD s (w .at + 1) 256) 5) 0 p in
           let range = code-range (getD s (w .at + 1) 256) 5 c in
@@ -222,19 +229,19 @@ module _ (s : List ℕ) where
           )
 
   -- RESULT TERMS ARE READ EXACTLY
-  pub result-complete : (t : ResultTerm) → Complete result-leaves s 1 Always t
+  pub result-complete : (t : ResultTerm) → Complete result-leaves s OfResult Always t
   unfolding literal-tag leaf-tag
-  result-complete = term-complete result-leaves s 1 Always (λ w n r. tt) (λ w w′ cs t r b a. tt) refl refl reduce-complete
+  result-complete = term-complete result-leaves s OfResult Always (λ w n r. tt) (λ w w′ cs t r b a. tt) refl refl reduce-complete
 
-  pub result-sound : Bytes s → (d : ℕ) → Sound result-leaves s 1 Always d
+  pub result-sound : Bytes s → (d : ℕ) → Sound result-leaves s OfResult Always d
   unfolding literal-tag leaf-tag
-  result-sound bytes = term-sound result-leaves s 1 Always (λ w n r. tt) (λ w w′ cs t r b a. tt) refl refl bytes reduce-complete (reduce-sound bytes)
+  result-sound bytes = term-sound result-leaves s OfResult Always (λ w n r. tt) (λ w w′ cs t r b a. tt) refl refl bytes reduce-complete (reduce-sound bytes)
 
 -- expressions of a plan: the leaves are indices below a count that the state holds
-abbrev pub index-leaves : ℕ → ℕ → Leaves ℕ
+abbrev pub index-leaves : TermKind → ℕ → Leaves ℕ
 index-leaves m count = record { bytes = λ i. leaf-tag m ∷ i ∷ []; size = unit; deep = unit; paths = λ i. []; count = λ i. 0; fine = λ i. i < count }
 
-module _ (m count : ℕ) where
+module _ (m : TermKind) (count : ℕ) where
   -- neither path reductions nor reductions are in it
   pub index-paths : (t : Term ℕ) → term-paths (index-leaves m count) t ≡ []
   index-paths (leaf c) = refl
@@ -246,7 +253,7 @@ module _ (m count : ℕ) where
   index-count (literal k) = refl
   index-count (apply o t u) = omega (arith, index-count t, index-count u)
 
-module _ (s : List ℕ) (m count : ℕ) (few : count ≤ 256) (held : Progress → ℕ)
+module _ (s : List ℕ) (m : TermKind) (count : ℕ) (few : count ≤ 256) (held : Progress → ℕ)
     (kept : (w w′ : Progress) → w′ .paths ≡ w .paths → w′ .reductions ≡ w .reductions → held w′ ≡ held w)
     (is-index : (w : Progress) → leaf-step m s w ≡ index-step s w (held w))
     (literal-not-leaf : eqb (literal-tag m) (leaf-tag m) ≡ false) (apply-not-leaf : eqb (literal-tag m + 1) (leaf-tag m) ≡ false) where
@@ -275,7 +282,8 @@ module _ (s : List ℕ) (m count : ℕ) (few : count ≤ 256) (held : Progress �
       let tag = tag-there s (w .at) (leaf-tag m) (i ∷ rest) p in
       let b : getD s (w .at + 1) 256 ≡ i = rw (nth s (w .at) 1 (w .at + 1) 256 refl, p) refl in
       let below : i < count = room .fine in
-      let made : index-step s w (held w) ≡ record { progress = advanced w (w .at + 1 + 1); follow = 0 } = rw (b, le-ltb 255 i (omega arith), r, lt-leb count i below) refl in
+      let made : index-step s w (held w) ≡ record { progress = advanced w (w .at + 1 + 1); follow = 0 } =
+      rw (b, le-ltb 255 i (omega arith), r, lt-leb count i below) refl in
       let reads = read-by s m d w z (record { progress = advanced w (w .at + 1 + 1); follow = 0 }) (index-is d w h (omega (arith, room .terms)) tag ∙ made) in
       subst (λ (v : Progress). After (index-leaves m count) m w v cs (leaf i)) (sym reads)
       (record { code = z; at = omega arith; terms = refl; reductions = omega arith; table = table-advanced w cs (w .at + 1 + 1) t })

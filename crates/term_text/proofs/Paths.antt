@@ -91,7 +91,8 @@ source-zero v (inr e) = rw e refl
 pub source-range : (low high : ℕ) → source-code low high ≡ 0 → (high ≤ 255) × ((low + 256 * high < 256) ⊎ (low + 256 * high ≡ 65535))
 source-range low high e = go (ltb 255 high) (ltb (low + 256 * high) 256) (eqb (low + 256 * high) 65535) refl refl refl e
   where
-    go : (x y z : Bool) → ltb 255 high ≡ x → ltb (low + 256 * high) 256 ≡ y → eqb (low + 256 * high) 65535 ≡ z → _≡_ {A = ℕ} (cond x 1 (cond y 0 (cond z 0 13))) 0
+    go : (x y z : Bool) → ltb 255 high ≡ x → ltb (low + 256 * high) 256 ≡ y → eqb (low + 256 * high) 65535 ≡ z
+        → _≡_ {A = ℕ} (cond x 1 (cond y 0 (cond z 0 13))) 0
         → (high ≤ 255) × ((low + 256 * high < 256) ⊎ (low + 256 * high ≡ 65535))
     go true y z p q r c = not-zero 0 1 refl c
     go false true z p q r c = (ltb-false 255 high p, inl (ltb-true (low + 256 * high) 256 q))
@@ -200,13 +201,15 @@ module _ (s : List ℕ) where
         (keys-legal (b .0) (omega (arith, b .1)) (omega (arith, b .1)) (b .3) (b .4), v .1),
         b .1,
         drop-at i (present i (r .0))
-            ∙ ap₂ (λ (a : ℕ) (t : List ℕ). a ∷ t) (sym (b .1)) (b .2 ∙ ap (λ (t : List ℕ). b .0 ++ t) tail ∙ sym (append-assoc (b .0) (le16 (low + 256 * high)) (drop (i + 3 + n) s))),
+            ∙ ap₂ (λ (a : ℕ) (t : List ℕ). a ∷ t) (sym (b .1))
+            (b .2 ∙ ap (λ (t : List ℕ). b .0 ++ t) tail ∙ sym (append-assoc (b .0) (le16 (low + 256 * high)) (drop (i + 3 + n) s))),
       )
     where
       keys-legal : (ks : List ℕ) → 1 ≤ length ks → length ks ≤ 3 → T (all-known ks) → T (in-order ks) → T (legal-keys ks)
       keys-legal ks a b k o =
           and-both (leb 1 (length ks) && leb (length ks) 3 && all-known ks) (in-order ks)
-          (and-both (leb 1 (length ks) && leb (length ks) 3) (all-known ks) (and-both (leb 1 (length ks)) (leb (length ks) 3) (le→leb 1 (length ks) a) (le→leb (length ks) 3 b)) k) o
+          (and-both (leb 1 (length ks) && leb (length ks) 3) (all-known ks)
+          (and-both (leb 1 (length ks)) (leb (length ks) 3) (le→leb 1 (length ks) a) (le→leb (length ks) 3 b)) k) o
 
   -- THOSE OF A LEGAL ONE ARE ACCEPTED, and give its number
   module _ (c : PathReduction) (fits : PathFits 256 c) (i : ℕ) (rest : List ℕ) (e : drop i s ≡ path-bytes c ++ rest) where
@@ -218,7 +221,8 @@ module _ (s : List ℕ) where
     keys-there = sym (drop-drop 1 i s) ∙ ap (drop 1) e ∙ append-assoc (c .keys) (le16 (c .source)) rest
 
     source-there : drop (i + 1 + length (c .keys)) s ≡ le16 (c .source) ++ rest
-    source-there = sym (drop-drop (length (c .keys)) (i + 1) s) ∙ ap (drop (length (c .keys))) keys-there ∙ drop-append-seam (c .keys) (le16 (c .source) ++ rest)
+    source-there =
+        sym (drop-drop (length (c .keys)) (i + 1) s) ∙ ap (drop (length (c .keys))) keys-there ∙ drop-append-seam (c .keys) (le16 (c .source) ++ rest)
 
     pub path-accepted : path-code s i ≡ 0
     unfolding path-code
@@ -230,7 +234,8 @@ module _ (s : List ℕ) where
         (code-zero n 3 (leb→le 1 n (p .0)) (leb→le n 3 (p .1)) (omega arith))
         (then-zero (keys-code n s (i + 1)) (source-code (getD s (i + 1 + n) 256) (getD s (i + 1 + n + 1) 256))
         (keys-zero (c .keys) (i + 1) (le16 (c .source) ++ rest) keys-there (p .2) (p .3))
-        (rw (nth s (i + 1 + n) 0 (i + 1 + n) 256 (omega arith), nth s (i + 1 + n) 1 (i + 1 + n + 1) 256 (omega arith), source-there) (source-zero (c .source) (fits .1)))))
+        (rw (nth s (i + 1 + n) 0 (i + 1 + n) 256 (omega arith), nth s (i + 1 + n) 1 (i + 1 + n + 1) 256 (omega arith), source-there)
+        (source-zero (c .source) (fits .1)))))
 
     pub path-numbered : path-word s i ≡ path-number c
     unfolding path-word
@@ -246,17 +251,20 @@ module _ (s : List ℕ) where
         key j k x p l q r = rw (nth s (i + 1) j k 256 p, q) r
 
         go : (ks : List ℕ) → drop (i + 1) s ≡ ks ++ (le16 (c .source) ++ rest) → T (leb 1 (length ks)) → T (leb (length ks) 3)
-            → packed (length ks) (getD s (i + 1) 256) (used (length ks) 1 (getD s (i + 2) 256)) (used (length ks) 2 (getD s (i + 3) 256)) (c .source % 256) (c .source / 256 % 256)
+            → packed (length ks) (getD s (i + 1) 256) (used (length ks) 1 (getD s (i + 2) 256)) (used (length ks) 2 (getD s (i + 3) 256)) (c .source % 256)
+            (c .source / 256 % 256)
             ≡ as-word (length ks) (getD ks 0 0) (getD ks 1 0) (getD ks 2 0) (c .source)
         go [] e a b = absurd a
         go (x ∷ []) e a b = rw (key 0 (i + 1) x (omega arith) _ e refl) (omega (arith, source-small c fits))
         go (x ∷ (y ∷ [])) e a b = rw (key 0 (i + 1) x (omega arith) _ e refl, key 1 (i + 2) y (omega arith) _ e refl) (omega (arith, source-small c fits))
         go (x ∷ (y ∷ (z ∷ []))) e a b =
-            rw (key 0 (i + 1) x (omega arith) _ e refl, key 1 (i + 2) y (omega arith) _ e refl, key 2 (i + 3) z (omega arith) _ e refl) (omega (arith, source-small c fits))
+            rw (key 0 (i + 1) x (omega arith) _ e refl, key 1 (i + 2) y (omega arith) _ e refl, key 2 (i + 3) z (omega arith) _ e refl)
+            (omega (arith, source-small c fits))
         go (x ∷ (y ∷ (z ∷ (t ∷ ks)))) e a b = absurd (omega (arith, leb→le (suc (suc (suc (suc (length ks))))) 3 b))
 
 -- the five parts of a number are seen from it
-module _ (n a b c s n′ a′ b′ c′ s′ : ℕ) (h : n < 256) (h′ : n′ < 256) (ha : a < 256) (ha′ : a′ < 256) (hb : b < 256) (hb′ : b′ < 256) (hc : c < 256) (hc′ : c′ < 256) where
+module _ (n a b c s n′ a′ b′ c′ s′ : ℕ) (h : n < 256) (h′ : n′ < 256) (ha : a < 256) (ha′ : a′ < 256) (hb : b < 256) (hb′ : b′ < 256) (hc : c < 256)
+    (hc′ : c′ < 256) where
   pub five-digits : as-word n a b c s ≡ as-word n′ a′ b′ c′ s′ → (n ≡ n′) × (a ≡ a′) × (b ≡ b′) × (c ≡ c′) × (s ≡ s′)
   five-digits e =
       let p = digits n n′ (a + 256 * b + 65536 * c + 16777216 * s) (a′ + 256 * b′ + 65536 * c′ + 16777216 * s′) h h′ (omega arith) in
@@ -272,7 +280,8 @@ key-byte (k ∷ ks) t zero = omega (arith, known-range k (and-left (known k) (al
 key-byte (k ∷ ks) t (suc i) = key-byte ks (and-right (known k) (all-known ks) t) i
 
 -- lists of at most three equal keys are equal
-same-keys : (ks js : List ℕ) → length ks ≡ length js → length ks ≤ 3 → getD ks 0 0 ≡ getD js 0 0 → getD ks 1 0 ≡ getD js 1 0 → getD ks 2 0 ≡ getD js 2 0 → ks ≡ js
+same-keys : (ks js : List ℕ) → length ks ≡ length js → length ks ≤ 3 → getD ks 0 0 ≡ getD js 0 0 → getD ks 1 0 ≡ getD js 1 0 → getD ks 2 0 ≡ getD js 2 0
+    → ks ≡ js
 same-keys ks js e l p q r = ext-getD 0 ks js e at
   where
     at : (i : ℕ) → i < length ks → getD ks i 0 ≡ getD js i 0
@@ -294,10 +303,13 @@ number-same c d f g e = λ i. record { keys = ks i; source = x .4 i }
     short : (l : ℕ) → T (leb l 3) → l < 256
     short l t = omega (arith, leb→le l 3 t)
 
-    x : (length (c .keys) ≡ length (d .keys)) × (getD (c .keys) 0 0 ≡ getD (d .keys) 0 0) × (getD (c .keys) 1 0 ≡ getD (d .keys) 1 0) × (getD (c .keys) 2 0 ≡ getD (d .keys) 2 0) × (c .source ≡ d .source)
+    x : (length (c .keys) ≡ length (d .keys)) × (getD (c .keys) 0 0 ≡ getD (d .keys) 0 0) × (getD (c .keys) 1 0 ≡ getD (d .keys) 1 0)
+        × (getD (c .keys) 2 0 ≡ getD (d .keys) 2 0) × (c .source ≡ d .source)
     x =
-        five-digits (length (c .keys)) (getD (c .keys) 0 0) (getD (c .keys) 1 0) (getD (c .keys) 2 0) (c .source) (length (d .keys)) (getD (d .keys) 0 0) (getD (d .keys) 1 0) (getD (d .keys) 2 0) (d .source)
-        (short _ (p .1)) (short _ (q .1)) (key-byte (c .keys) (p .2) 0) (key-byte (d .keys) (q .2) 0) (key-byte (c .keys) (p .2) 1) (key-byte (d .keys) (q .2) 1) (key-byte (c .keys) (p .2) 2) (key-byte (d .keys) (q .2) 2) e
+        five-digits (length (c .keys)) (getD (c .keys) 0 0) (getD (c .keys) 1 0) (getD (c .keys) 2 0) (c .source) (length (d .keys)) (getD (d .keys) 0 0)
+        (getD (d .keys) 1 0) (getD (d .keys) 2 0) (d .source)
+        (short _ (p .1)) (short _ (q .1)) (key-byte (c .keys) (p .2) 0) (key-byte (d .keys) (q .2) 0) (key-byte (c .keys) (p .2) 1)
+        (key-byte (d .keys) (q .2) 1) (key-byte (c .keys) (p .2) 2) (key-byte (d .keys) (q .2) 2) e
 
     ks : c .keys ≡ d .keys
     ks = same-keys (c .keys) (d .keys) (x .0) (leb→le (length (c .keys)) 3 (p .1)) (x .1) (x .2) (x .3)

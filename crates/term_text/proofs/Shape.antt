@@ -15,6 +15,7 @@ use Rattle.meaning.proofs.Paths.{put-all-append}
 use Rattle.wire.specs.Wire.{Bytes, le32}
 use Rattle.progress.specs.declared.Progress.{Progress}
 use Rattle.fields.specs.Fields.{code-of}
+use Rattle.terms.specs.declared.TermKind.{TermKind}
 use Rattle.terms.specs.Terms.{advanced, apply-step, leaf-tag, literal-step, literal-tag, read, term-step}
 use Rattle.term_text.specs.Text.{term-bytes}
 use Rattle.wire.proofs.Past.{getD-any}
@@ -53,8 +54,9 @@ module _ {A : Type 0} (K : Leaves A) where
     pub reductions : w .reductions + term-count t ≤ 8
 
   -- w′ has read the term after w
-  abbrev pub After : ℕ → Progress → Progress → List PathReduction → Term A → Type 0
-  After m w w′ cs t = Further w w′ (put-all cs (term-paths t)) (length (term-bytes m (K .bytes) t)) (w .terms + terms (K .size) t) (w .reductions + term-count t)
+  abbrev pub After : TermKind → Progress → Progress → List PathReduction → Term A → Type 0
+  After m w w′ cs t =
+      Further w w′ (put-all cs (term-paths t)) (length (term-bytes m (K .bytes) t)) (w .terms + terms (K .size) t) (w .reductions + term-count t)
 
 -- with more path reductions put after it a list is no shorter
 put-all-grows : (cs ds : List PathReduction) → length cs ≤ length (put-all cs ds)
@@ -65,7 +67,7 @@ put-all-grows cs (d ∷ ds) = omega (arith, grows (among d cs), put-all-grows (p
     grows true = omega arith
     grows false = omega (arith, length-append cs (d ∷ []))
 
-module _ {A : Type 0} (K : Leaves A) (s : List ℕ) (m : ℕ) (Ready : Progress → Type 0) where
+module _ {A : Type 0} (K : Leaves A) (s : List ℕ) (m : TermKind) (Ready : Progress → Type 0) where
   -- the bytes of the term are read as it
   abbrev pub Complete : Term A → Type 0
   Complete t =
@@ -86,7 +88,7 @@ module _ {A : Type 0} (K : Leaves A) (s : List ℕ) (m : ℕ) (Ready : Progress 
       (d : ℕ) (w : Progress) (cs : List PathReduction) → w .code ≡ 0 → Table w cs → Ready w → w .at < length s → w .terms < 64 → getD s (w .at) 0 ≡ leaf-tag m
       → read m (suc d) s w .code ≡ 0 → (a : A) × (rest : List ℕ) × (drop (w .at) s ≡ K .bytes a ++ rest) × Room K (suc d) w cs (leaf a)
 
-module _ {A : Type 0} (K : Leaves A) (s : List ℕ) (m : ℕ) (Ready : Progress → Type 0)
+module _ {A : Type 0} (K : Leaves A) (s : List ℕ) (m : TermKind) (Ready : Progress → Type 0)
     (on : (w : Progress) (n : ℕ) → Ready w → Ready (advanced w n))
     (past : (w w′ : Progress) (cs : List PathReduction) (t : Term A) → Ready w → Table w cs → After K m w w′ cs t → Ready w′)
     (literal-not-leaf : eqb (literal-tag m) (leaf-tag m) ≡ false) (apply-not-leaf : eqb (literal-tag m + 1) (leaf-tag m) ≡ false) where
@@ -103,7 +105,8 @@ module _ {A : Type 0} (K : Leaves A) (s : List ℕ) (m : ℕ) (Ready : Progress 
       let last : getD s (w .at + 4) 256 ≡ k / 65536 / 256 % 256 = rw (nth s (w .at) 4 (w .at + 4) 256 refl, e) refl in
       let step : term-step m (suc d) s w ≡ literal-step s w =
       step-is s m d w i h ∙ rw (tag, literal-not-leaf, eq-eqb (literal-tag m) (literal-tag m) refl) refl in
-      let made : literal-step s w ≡ record { progress = advanced w (w .at + 4 + 1); follow = 0 } = rw (last, le-ltb 255 (k / 65536 / 256 % 256) (omega arith)) refl in
+      let made : literal-step s w ≡ record { progress = advanced w (w .at + 4 + 1); follow = 0 } =
+      rw (last, le-ltb 255 (k / 65536 / 256 % 256) (omega arith)) refl in
       read-by s m d w z (record { progress = advanced w (w .at + 4 + 1); follow = 0 }) (step ∙ made)
 
   literal-complete : (k : ℕ) → Complete K s m Ready (literal k)
@@ -142,11 +145,18 @@ module _ {A : Type 0} (K : Leaves A) (s : List ℕ) (m : ℕ) (Ready : Progress 
         let few : length (put-all cs (term-paths K t)) ≤ 8 =
         omega (arith, room .paths, ap length grow, put-all-grows (put-all cs (term-paths K t)) (term-paths K u)) in
         let a = ct d w1 cs (text u ++ rest) z (table-advanced w cs (w .at + 1 + 1) tb) (on w (w .at + 1 + 1) r) e1
-        (record { fine = f .2; shallow = omega (arith, room .shallow); terms = omega (arith, room .terms); paths = few; reductions = omega (arith, room .reductions) }) in
+        (record {
+          fine = f .2;
+          shallow = omega (arith, room .shallow);
+          terms = omega (arith, room .terms);
+          paths = few;
+          reductions = omega (arith, room .reductions);
+        }) in
         let w2 : Progress = read m d s w1 in
         let e2 : drop (w2 .at) s ≡ text u ++ rest =
         ap (λ (i : ℕ). drop i s) (a .at) ∙ drop-on s (w .at + 1 + 1) (length (text t)) (text t) (text u ++ rest) e1 refl in
-        let b = cu d w2 (put-all cs (term-paths K t)) rest (a .code) (a .table) (past w1 w2 cs t (on w (w .at + 1 + 1) r) (table-advanced w cs (w .at + 1 + 1) tb) a) e2
+        let b = cu d w2 (put-all cs (term-paths K t)) rest (a .code) (a .table)
+        (past w1 w2 cs t (on w (w .at + 1 + 1) r) (table-advanced w cs (w .at + 1 + 1) tb) a) e2
         (record {
           fine = f .3;
           shallow = omega (arith, room .shallow);
@@ -154,7 +164,8 @@ module _ {A : Type 0} (K : Leaves A) (s : List ℕ) (m : ℕ) (Ready : Progress 
           paths = omega (arith, room .paths, ap length grow);
           reductions = omega (arith, room .reductions, a .reductions);
         }) in
-        subst (λ (v : Progress). After K m w v cs (apply o t u)) (sym (apply-read d w ((text t ++ text u) ++ rest) z (omega (arith, room .terms)) (f .0) (f .1) e))
+        subst (λ (v : Progress). After K m w v cs (apply o t u))
+        (sym (apply-read d w ((text t ++ text u) ++ rest) z (omega (arith, room .terms)) (f .0) (f .1) e))
         (record {
           code = b .code;
           at = omega (arith, b .at, a .at, length-append (text t) (text u));
@@ -211,19 +222,27 @@ module _ {A : Type 0} (K : Leaves A) (s : List ℕ) (m : ℕ) (Ready : Progress 
                   )
 
       -- an operator: the first term is found, and the second after it
-      apply-found : ((t : Term A) → Complete K s m Ready t) → Sound K s m Ready d → Ready w → getD s (w .at) 0 ≡ literal-tag m + 1 → Found K s m Ready (suc d) w cs
+      apply-found : ((t : Term A) → Complete K s m Ready t) → Sound K s m Ready d → Ready w → getD s (w .at) 0 ≡ literal-tag m + 1
+          → Found K s m Ready (suc d) w cs
       unfolding apply-step advanced
       apply-found complete ih ready tag = go (eqb (code-of (getD s (w .at + 1) 256) 11) 0) refl
         where
           step : term-step m (suc d) s w ≡ apply-step s w
           step =
               step-is s m d w h k
-              ∙ rw (tag, apply-not-leaf, ne-eqb (literal-tag m + 1) (literal-tag m) (λ p. omega arith), eq-eqb (literal-tag m + 1) (literal-tag m + 1) refl) refl
+              ∙ rw (
+                tag,
+                apply-not-leaf,
+                ne-eqb (literal-tag m + 1) (literal-tag m) (λ p. omega arith),
+                eq-eqb (literal-tag m + 1) (literal-tag m + 1) refl,
+              ) refl
 
-          both : (lo : 1 ≤ getD s (w .at + 1) 256) (hi : getD s (w .at + 1) 256 ≤ 11) (l : w .at + 1 < length s) (r : read m (suc d) s w ≡ read m d s (read m d s (advanced w (w .at + 1 + 1))))
+          both : (lo : 1 ≤ getD s (w .at + 1) 256) (hi : getD s (w .at + 1) 256 ≤ 11) (l : w .at + 1 < length s)
+              (r : read m (suc d) s w ≡ read m d s (read m d s (advanced w (w .at + 1 + 1))))
               (f : Found K s m Ready d (advanced w (w .at + 1 + 1)) cs) → Found K s m Ready (suc d) w cs
           both lo hi l r f =
-              let a = complete (f .0) d (advanced w (w .at + 1 + 1)) cs (f .1) z (table-advanced w cs (w .at + 1 + 1) t) (on w (w .at + 1 + 1) ready) (f .2) (f .3) in
+              let a = complete (f .0) d (advanced w (w .at + 1 + 1)) cs (f .1) z (table-advanced w cs (w .at + 1 + 1) t) (on w (w .at + 1 + 1) ready) (f .2)
+              (f .3) in
               let w2 = read m d s (advanced w (w .at + 1 + 1)) in
               let g = ih w2 (put-all cs (term-paths K (f .0))) (a .code) (a .table)
               (past (advanced w (w .at + 1 + 1)) w2 cs (f .0) (on w (w .at + 1 + 1) ready) (table-advanced w cs (w .at + 1 + 1) t) a) (accepted-as r e) in
@@ -237,7 +256,8 @@ module _ {A : Type 0} (K : Leaves A) (s : List ℕ) (m : ℕ) (Ready : Progress 
                 drop-at s (w .at) h
                     ∙ ap₂ (λ (x : ℕ) (l : List ℕ). x ∷ l) (getD-any s (w .at) 256 0 h ∙ tag)
                     (drop-at s (w .at + 1) l
-                    ∙ ap (λ (l : List ℕ). getD s (w .at + 1) 256 ∷ l) (f .2 ∙ ap (λ (l : List ℕ). text (f .0) ++ l) rest ∙ sym (append-assoc (text (f .0)) (text (g .0)) (g .1)))),
+                    ∙ ap (λ (l : List ℕ). getD s (w .at + 1) 256 ∷ l)
+                    (f .2 ∙ ap (λ (l : List ℕ). text (f .0) ++ l) rest ∙ sym (append-assoc (text (f .0)) (text (g .0)) (g .1)))),
                 record {
                   fine = (lo, hi, x .fine, y .fine);
                   shallow = omega (arith, x .shallow, y .shallow);
@@ -253,16 +273,19 @@ module _ {A : Type 0} (K : Leaves A) (s : List ℕ) (m : ℕ) (Ready : Progress 
               let c = code-range (getD s (w .at + 1) 256) 11 (eqb-true (code-of (getD s (w .at + 1) 256) 11) 0 p) in
               let r = read-by s m d w z (record { progress = advanced w (w .at + 1 + 1); follow = 2 }) (step ∙ rw p refl) in
               both (c .1) (c .2) (present s (w .at + 1) (c .0)) r
-              (ih (advanced w (w .at + 1 + 1)) cs z (table-advanced w cs (w .at + 1 + 1) t) (on w (w .at + 1 + 1) ready) (read-accepted m d s (read m d s (advanced w (w .at + 1 + 1))) (accepted-as r e)))
+              (ih (advanced w (w .at + 1 + 1)) cs z (table-advanced w cs (w .at + 1 + 1) t) (on w (w .at + 1 + 1) ready)
+              (read-accepted m d s (read m d s (advanced w (w .at + 1 + 1))) (accepted-as r e)))
 
     -- WHAT IS READ IS A LEGAL TERM
     pub term-sound : ((a : A) → Complete K s m Ready (leaf a)) → LeafSound K s m Ready → (d : ℕ) → Sound K s m Ready d
     term-sound f g zero w cs z t r e = absurd (read-flat s m w z e)
     term-sound f g (suc d) w cs z t r e =
         let b = read-starts s m d w z e in
-        go (term-sound f g d) (b .0) (b .1) (eqb (getD s (w .at) 0) (leaf-tag m)) (eqb (getD s (w .at) 0) (literal-tag m)) (eqb (getD s (w .at) 0) (literal-tag m + 1)) refl refl refl
+        go (term-sound f g d) (b .0) (b .1) (eqb (getD s (w .at) 0) (leaf-tag m)) (eqb (getD s (w .at) 0) (literal-tag m))
+        (eqb (getD s (w .at) 0) (literal-tag m + 1)) refl refl refl
       where
-        go : Sound K s m Ready d → w .at < length s → w .terms < 64 → (x y v : Bool) → eqb (getD s (w .at) 0) (leaf-tag m) ≡ x → eqb (getD s (w .at) 0) (literal-tag m) ≡ y
+        go : Sound K s m Ready d → w .at < length s → w .terms < 64 → (x y v : Bool) → eqb (getD s (w .at) 0) (leaf-tag m) ≡ x
+            → eqb (getD s (w .at) 0) (literal-tag m) ≡ y
             → eqb (getD s (w .at) 0) (literal-tag m + 1) ≡ v → Found K s m Ready (suc d) w cs
         go ih h k true y v p q o = let l = g d w cs z t r h k (eqb-true (getD s (w .at) 0) (leaf-tag m) p) e in (leaf (l .0), l .1, l .2, l .3)
         go ih h k false true v p q o = literal-found d w cs z t h k e (eqb-true (getD s (w .at) 0) (literal-tag m) q)

@@ -11,8 +11,10 @@ use lib.Seq.{drop-drop, drop-append-seam}
 use Rattle.meaning.specs.Query.{PathReduction}
 use Rattle.wire.specs.Wire.{le32}
 use Rattle.terms.specs.declared.Step.{Step}
+use Rattle.terms.specs.declared.TermKind.{TermKind}
+use Rattle.terms.specs.declared.TermKind.the-variants.{OfVertex}
 use Rattle.progress.specs.declared.Progress.{Progress}
-use Rattle.terms.specs.Terms.{advanced, apply-step, leaf-step, leaf-tag, literal-step, literal-tag, read, stopped, term-step}
+use Rattle.terms.specs.Terms.{advanced, apply-step, leaf-step, leaf-tag, literal-step, literal-tag, read, refused-step, term-step}
 use Rattle.progress.specs.Progress.{blank}
 use Rattle.terms.proofs.Laws.{accepted-as, read-next}
 use Rattle.term_text.proofs.Paths.{digits, nth, two-bytes}
@@ -34,14 +36,15 @@ drop-on s i n l m e h = sym (drop-drop n i s) ∙ ap (drop n) e ∙ drop-at′
 -- the table is carried along
 pub table-advanced : (w : Progress) (cs : List PathReduction) (n : ℕ) → Table w cs → Table (advanced w n) cs
 unfolding advanced
-table-advanced w cs n t = record { legal = t .legal; count = t .count; few = t .few; rest = t .rest; holds = t .holds; size = t .size; few-reductions = t .few-reductions }
+table-advanced w cs n t =
+    record { legal = t .legal; count = t .count; few = t .few; rest = t .rest; holds = t .holds; size = t .size; few-reductions = t .few-reductions }
 
-module _ (s : List ℕ) (m : ℕ) where
+module _ (s : List ℕ) (m : TermKind) where
   -- what the tag of a term says
   abbrev tagged : ℕ → Progress → Step
   tagged tag w =
       cond (eqb tag (leaf-tag m)) (leaf-step m s w)
-      (cond (eqb tag (literal-tag m)) (literal-step s w) (cond (eqb tag (literal-tag m + 1)) (apply-step s w) (stopped 9)))
+      (cond (eqb tag (literal-tag m)) (literal-step s w) (cond (eqb tag (literal-tag m + 1)) (apply-step s w) (refused-step 9)))
 
   -- a step within the limits goes by the tag; and a term is read by its step
   pub step-is : (d : ℕ) (w : Progress) → w .at < length s → w .terms < 64 → term-step m (suc d) s w ≡ tagged (getD s (w .at) 0) w
@@ -49,22 +52,23 @@ module _ (s : List ℕ) (m : ℕ) where
   step-is d w h k = rw (lt-leb (length s) (w .at) h, lt-leb 64 (w .terms) k, ne-eqb (suc d) 0 (λ e. omega arith)) refl
 
   pub read-by : (d : ℕ) (w : Progress) → w .code ≡ 0 → (h : Step) → term-step m (suc d) s w ≡ h
-      → read m (suc d) s w ≡ cond (eqb (h .follow) 0) (h .progress) (cond (eqb (h .follow) 1) (read 0 d s (h .progress)) (read m d s (read m d s (h .progress))))
+      → read m (suc d) s w ≡ cond (eqb (h .follow) 0) (h .progress)
+      (cond (eqb (h .follow) 1) (read OfVertex d s (h .progress)) (read m d s (read m d s (h .progress))))
   read-by d w z h e =
       let p : suc d - 1 ≡ d = omega arith in
       rw (read-next m (suc d) s w (λ n. omega arith), eq-eqb (w .code) 0 z, e, p) refl
 
   -- a step that stops refuses
-  pub stops : (d : ℕ) (w : Progress) → w .code ≡ 0 → (k : ℕ) → (k ≡ 0 → ⊥) → term-step m (suc d) s w ≡ stopped k → read m (suc d) s w .code ≡ 0 → ⊥
+  pub stops : (d : ℕ) (w : Progress) → w .code ≡ 0 → (k : ℕ) → (k ≡ 0 → ⊥) → term-step m (suc d) s w ≡ refused-step k → read m (suc d) s w .code ≡ 0 → ⊥
   unfolding blank
-  stops d w z k n p e = n (accepted-as (read-by d w z (stopped k) p) e)
+  stops d w z k n p e = n (accepted-as (read-by d w z (refused-step k) p) e)
 
   -- nothing is read without depth, past the end, or beyond 64 terms
   pub read-flat : (w : Progress) → w .code ≡ 0 → read m zero s w .code ≡ 0 → ⊥
   unfolding read term-step blank
   read-flat w z e = go (leb (length s) (w .at)) (leb 64 (w .terms)) (rw (eq-eqb (w .code) 0 z) at e)
     where
-      go : (a b : Bool) → _≡_ {A = ℕ} (cond a (stopped 1) (cond b (stopped 12) (stopped 11)) .progress .code) 0 → ⊥
+      go : (a b : Bool) → _≡_ {A = ℕ} (cond a (refused-step 1) (cond b (refused-step 12) (refused-step 11)) .progress .code) 0 → ⊥
       go true b e = omega arith
       go false true e = omega arith
       go false false e = omega arith

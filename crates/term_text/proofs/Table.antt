@@ -47,7 +47,8 @@ same-number c d f g = go (same-path c d) refl
   where
     go : (b : Bool) → same-path c d ≡ b → eqb (path-number d) (path-number c) ≡ b
     go true e = eq-eqb (path-number d) (path-number c) (ap path-number (sym (path-same c d (T-of e))))
-    go false e = ne-eqb (path-number d) (path-number c) (λ p. subst T e (subst (λ (x : PathReduction). T (same-path c x)) (number-same c d f g (sym p)) (path-refl c)))
+    go false e =
+        ne-eqb (path-number d) (path-number c) (λ p. subst T e (subst (λ (x : PathReduction). T (same-path c x)) (number-same c d f g (sym p)) (path-refl c)))
 
 module _ (c : PathReduction) (f : PathFits 256 c) (table : List ℕ) where
   -- the search from slot i on ends at the position in ds
@@ -64,7 +65,8 @@ module _ (c : PathReduction) (f : PathFits 256 c) (table : List ℕ) where
   slot-position (d ∷ ds) a pre rest e l zero h = absurd (omega arith)
   slot-position (d ∷ ds) a pre rest e l (suc k) h =
       rw (lt-leb (length pre + suc (length ds)) (length pre) (omega arith), here, same-number c d f (a .0))
-      (go (same-path c d) (next (slot-position ds (a .1) (pre ++ (path-number d ∷ [])) rest (e ∙ sym (append-snoc pre (path-number d) (map path-number ds ++ rest)))
+      (go (same-path c d) (next (slot-position ds (a .1) (pre ++ (path-number d ∷ [])) rest
+      (e ∙ sym (append-snoc pre (path-number d) (map path-number ds ++ rest)))
       (omega (arith, longer)) k (omega (arith, longer)))))
     where
       longer : length (pre ++ (path-number d ∷ [])) ≡ length pre + 1
@@ -73,11 +75,13 @@ module _ (c : PathReduction) (f : PathFits 256 c) (table : List ℕ) where
       here : getD table (length pre) 0 ≡ path-number d
       here = rw e (getD-append-seam pre (path-number d) (map path-number ds ++ rest) 0)
 
-      next : At k ds (length (pre ++ (path-number d ∷ [])) + length ds) (length (pre ++ (path-number d ∷ []))) → At k ds (length pre + suc (length ds)) (length pre + 1)
+      next : At k ds (length (pre ++ (path-number d ∷ [])) + length ds) (length (pre ++ (path-number d ∷ [])))
+          → At k ds (length pre + suc (length ds)) (length pre + 1)
       next h = subst₂ (At k ds) (let q : length (pre ++ (path-number d ∷ [])) + length ds ≡ length pre + suc (length ds) = omega (arith, longer) in q) longer h
 
       go : (b : Bool) → At k ds (length pre + suc (length ds)) (length pre + 1)
-          → cond b (length pre) (slot-of k (length pre + suc (length ds)) table (path-number c) (length pre + 1)) ≡ length pre + cond b zero (suc (position c ds))
+          → cond b (length pre) (slot-of k (length pre + suc (length ds)) table (path-number c) (length pre + 1)) ≡ length pre + cond b zero
+          (suc (position c ds))
       go true n = omega arith
       go false n = omega arith
 
@@ -107,7 +111,15 @@ module _ (w : Progress) (cs : List PathReduction) (t : Table w cs) (c : PathRedu
 
   -- the state with the path reduction in slot i
   abbrev stored : ℕ → Progress
-  stored i = record { code = w .code; at = w .at; terms = w .terms; paths = max (w .paths) (i + 1); reductions = w .reductions; table = set (w .table) i (path-number c) }
+  stored i =
+      record {
+        code = w .code;
+        at = w .at;
+        terms = w .terms;
+        paths = max (w .paths) (i + 1);
+        reductions = w .reductions;
+        table = set (w .table) i (path-number c);
+      }
 
   kept-is : kept-path w (path-number c) ≡ cond (leb 8 (position c cs)) (blank 14) (stored (position c cs))
   unfolding kept-path
@@ -129,7 +141,8 @@ module _ (w : Progress) (cs : List PathReduction) (t : Table w cs) (c : PathRedu
       below = position-below c cs (T-of e)
 
       there : getD (w .table) (position c cs) 0 ≡ path-number c
-      there = rw (t .holds) (List·getD-append (map path-number cs) (t .rest) 0 (position c cs) (omega (arith, length-map cs path-number, below)) ∙ position-at path-number 0 c cs (T-of e))
+      there = rw (t .holds) (List·getD-append (map path-number cs) (t .rest) 0 (position c cs) (omega (arith, length-map cs path-number, below))
+          ∙ position-at path-number 0 c cs (T-of e))
 
   new : among c cs ≡ false → suc (length cs) ≤ 8 → Table (stored (position c cs)) (cs ++ (c ∷ []))
   new e l = go (t .rest) (t .holds)

@@ -11,6 +11,8 @@ use lib.Seq.{take-at, drop-at}
 use Rattle.meaning.specs.Limits.{Every, EveryBody, PathFits}
 use Rattle.meaning.specs.Query.{PathReduction, ResultTerm, Term, VertexReduction, VertexTerm, apply, leaf, literal}
 use Rattle.wire.specs.Wire.{le16, le32}
+use Rattle.terms.specs.declared.TermKind.{TermKind}
+use Rattle.terms.specs.declared.TermKind.the-variants.{OfVertex, OfResult}
 use Rattle.terms.specs.Terms.{leaf-tag, literal-tag}
 use Rattle.term_text.proofs.Paths.{source-small}
 use Rattle.term_text.specs.Text.{expression-bytes, path-bytes, result-bytes, term-bytes, vertex-bytes}
@@ -47,13 +49,14 @@ le16-same k j h i e =
 path-split : (c d : PathReduction) (x y : List ℕ) → PathFits 256 c → PathFits 256 d → path-bytes c ++ x ≡ path-bytes d ++ y → (c ≡ d) × (x ≡ y)
 path-split c d x y f g e =
     let n = same-head (length (c .keys)) (length (d .keys)) _ _ e in
-    let k = same-split (c .keys) (d .keys) (le16 (c .source) ++ x) (le16 (d .source) ++ y) (n .0) (sym (append-assoc (c .keys) (le16 (c .source)) x) ∙ n .1 ∙ append-assoc (d .keys) (le16 (d .source)) y) in
+    let k = same-split (c .keys) (d .keys) (le16 (c .source) ++ x) (le16 (d .source) ++ y) (n .0)
+    (sym (append-assoc (c .keys) (le16 (c .source)) x) ∙ n .1 ∙ append-assoc (d .keys) (le16 (d .source)) y) in
     let s = same-split (le16 (c .source)) (le16 (d .source)) x y refl (k .1) in
     let p = le16-same (c .source) (d .source) (source-small c f) (source-small d g) (s .0) in
     (λ i. record { keys = k .0 i; source = p i }, s .1)
 
 -- over any kind of leaf that begins with its tag and is seen to end
-module _ {A : Type 0} (m : ℕ) (L : A → List ℕ) (fine : A → Type 0) (tail : A → List ℕ) (tagged : (a : A) → L a ≡ leaf-tag m ∷ tail a)
+module _ {A : Type 0} (m : TermKind) (L : A → List ℕ) (fine : A → Type 0) (tail : A → List ℕ) (tagged : (a : A) → L a ≡ leaf-tag m ∷ tail a)
     (leaf-split : (a b : A) (x y : List ℕ) → fine a → fine b → L a ++ x ≡ L b ++ y → (a ≡ b) × (x ≡ y))
     (literal-not-leaf : eqb (literal-tag m) (leaf-tag m) ≡ false) (apply-not-leaf : eqb (literal-tag m + 1) (leaf-tag m) ≡ false) where
   abbrev text : Term A → List ℕ
@@ -89,14 +92,18 @@ module _ {A : Type 0} (m : ℕ) (L : A → List ℕ) (fine : A → Type 0) (tail
       (cc (b .0, c .0, d .0), d .1)
 
 -- vertex terms, result terms, expressions
-pub vertex-split : (t u : VertexTerm) (x y : List ℕ) → Every (PathFits 256) t → Every (PathFits 256) u → vertex-bytes t ++ x ≡ vertex-bytes u ++ y → (t ≡ u) × (x ≡ y)
+pub vertex-split : (t u : VertexTerm) (x y : List ℕ) → Every (PathFits 256) t → Every (PathFits 256) u → vertex-bytes t ++ x ≡ vertex-bytes u ++ y
+    → (t ≡ u) × (x ≡ y)
 unfolding literal-tag leaf-tag
 vertex-split =
-    term-split 0 (λ c. 0x10 ∷ path-bytes c) (PathFits 256) path-bytes (λ a. refl) (λ a b x y f g e. path-split a b x y f g (same-head 0x10 0x10 _ _ e .1)) refl refl
+    term-split OfVertex (λ c. 0x10 ∷ path-bytes c) (PathFits 256) path-bytes (λ a. refl)
+    (λ a b x y f g e. path-split a b x y f g (same-head 0x10 0x10 _ _ e .1)) refl refl
 
-pub result-split : (t u : ResultTerm) (x y : List ℕ) → Every (EveryBody (PathFits 256)) t → Every (EveryBody (PathFits 256)) u → result-bytes t ++ x ≡ result-bytes u ++ y → (t ≡ u) × (x ≡ y)
+pub result-split : (t u : ResultTerm) (x y : List ℕ) → Every (EveryBody (PathFits 256)) t → Every (EveryBody (PathFits 256)) u
+    → result-bytes t ++ x ≡ result-bytes u ++ y → (t ≡ u) × (x ≡ y)
 unfolding literal-tag leaf-tag
-result-split = term-split 1 (λ e. 0x20 ∷ e .reduction ∷ vertex-bytes (e .body)) (EveryBody (PathFits 256)) (λ e. e .reduction ∷ vertex-bytes (e .body)) (λ a. refl) reduction-split refl refl
+result-split = term-split OfResult (λ e. 0x20 ∷ e .reduction ∷ vertex-bytes (e .body)) (EveryBody (PathFits 256)) (λ e. e .reduction ∷ vertex-bytes (e .body))
+    (λ a. refl) reduction-split refl refl
   where
     reduction-split : (a b : VertexReduction PathReduction) (x y : List ℕ) → EveryBody (PathFits 256) a → EveryBody (PathFits 256) b
         → (0x20 ∷ a .reduction ∷ vertex-bytes (a .body)) ++ x ≡ (0x20 ∷ b .reduction ∷ vertex-bytes (b .body)) ++ y → (a ≡ b) × (x ≡ y)
@@ -106,7 +113,8 @@ result-split = term-split 1 (λ e. 0x20 ∷ e .reduction ∷ vertex-bytes (e .bo
         let r = vertex-split (a .body) (b .body) x y (f .2) (g .2) (q .1) in
         (λ i. record { reduction = q .0 i; body = r .0 i }, r .1)
 
-pub expression-split : (m count : ℕ) → eqb (literal-tag m) (leaf-tag m) ≡ false → eqb (literal-tag m + 1) (leaf-tag m) ≡ false → (t u : Term ℕ) (x y : List ℕ)
+pub expression-split : (m : TermKind) (count : ℕ) → eqb (literal-tag m) (leaf-tag m) ≡ false → eqb (literal-tag m + 1) (leaf-tag m) ≡ false
+    → (t u : Term ℕ) (x y : List ℕ)
     → Every (λ i. i < count) t → Every (λ i. i < count) u → expression-bytes m t ++ x ≡ expression-bytes m u ++ y → (t ≡ u) × (x ≡ y)
 expression-split m count p q =
     term-split m (λ i. leaf-tag m ∷ i ∷ []) (λ i. i < count) (λ i. i ∷ []) (λ a. refl)

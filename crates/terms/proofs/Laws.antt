@@ -9,6 +9,8 @@ use borrow.Author.Tests.{eqb-true, eqb-false, ne-eqb}
 use lib.Dec.{leb, eqb}
 use lib.ListN.{getD}
 use Rattle.terms.specs.declared.Step.{Step}
+use Rattle.terms.specs.declared.TermKind.{TermKind}
+use Rattle.terms.specs.declared.TermKind.the-variants.{OfVertex}
 use Rattle.progress.specs.declared.Progress.{Progress}
 use Rattle.terms.specs.Terms.{read, slot-of, term-step}
 
@@ -21,50 +23,55 @@ slot-next (suc k) paths table word i h =
     ap (λ (m : ℕ). cond (leb paths i) i (cond (eqb (getD table i 0) word) i (slot-of m paths table word (i + 1)))) (let e : k ≡ suc k - 1 = omega arith in e)
 
 -- no depth left: the term alone
-pub read-none : (mode left : ℕ) (s : List ℕ) (w : Progress) → left ≡ 0 → read mode left s w ≡ cond (eqb (w .code) 0) (term-step mode left s w .progress) w
+pub read-none : (kind : TermKind) (left : ℕ) (s : List ℕ) (w : Progress) → left ≡ 0
+    → read kind left s w ≡ cond (eqb (w .code) 0) (term-step kind left s w .progress) w
 unfolding read
-read-none mode zero s w e = refl
-read-none mode (suc left) s w e = absurd (omega arith)
+read-none kind zero s w e = refl
+read-none kind (suc left) s w e = absurd (omega arith)
 
 -- else the term and, with one level less, those that follow it
-pub read-next : (mode left : ℕ) (s : List ℕ) (w : Progress) → (left ≡ 0 → ⊥)
-    → read mode left s w
+pub read-next : (kind : TermKind) (left : ℕ) (s : List ℕ) (w : Progress) → (left ≡ 0 → ⊥)
+    → read kind left s w
     ≡ cond (eqb (w .code) 0)
-    (let h = term-step mode left s w in
-    cond (eqb (h .follow) 0) (h .progress) (cond (eqb (h .follow) 1) (read 0 (left - 1) s (h .progress)) (read mode (left - 1) s (read mode (left - 1) s (h .progress)))))
+    (let h = term-step kind left s w in
+    cond (eqb (h .follow) 0) (h .progress)
+    (cond (eqb (h .follow) 1) (read OfVertex (left - 1) s (h .progress)) (read kind (left - 1) s (read kind (left - 1) s (h .progress)))))
     w
 unfolding read
-read-next mode zero s w n = absurd (n refl)
-read-next mode (suc left) s w n = go (eqb (w .code) 0) (eqb (h .follow) 0) (eqb (h .follow) 1) (let e : left ≡ suc left - 1 = omega arith in e)
+read-next kind zero s w n = absurd (n refl)
+read-next kind (suc left) s w n = go (eqb (w .code) 0) (eqb (h .follow) 0) (eqb (h .follow) 1) (let e : left ≡ suc left - 1 = omega arith in e)
   where
     h : Step
-    h = term-step mode (suc left) s w
+    h = term-step kind (suc left) s w
 
     go : (a b c : Bool) {m : ℕ} → left ≡ m
         → elim a [
-          | true ↦ elim b [ true ↦ h .progress | false ↦ elim c [ true ↦ read 0 left s (h .progress) | false ↦ read mode left s (read mode left s (h .progress)) ] ]
+          | true ↦ elim b [
+            | true ↦ h .progress
+            | false ↦ elim c [ true ↦ read OfVertex left s (h .progress) | false ↦ read kind left s (read kind left s (h .progress)) ]
+          ]
           | false ↦ w
         ]
-        ≡ cond a (cond b (h .progress) (cond c (read 0 m s (h .progress)) (read mode m s (read mode m s (h .progress))))) w
+        ≡ cond a (cond b (h .progress) (cond c (read OfVertex m s (h .progress)) (read kind m s (read kind m s (h .progress))))) w
     go true true c e = refl
-    go true false true e = ap (λ (k : ℕ). read 0 k s (h .progress)) e
-    go true false false e = ap (λ (k : ℕ). read mode k s (read mode k s (h .progress))) e
+    go true false true e = ap (λ (k : ℕ). read OfVertex k s (h .progress)) e
+    go true false false e = ap (λ (k : ℕ). read kind k s (read kind k s (h .progress))) e
     go false b c e = refl
 
 -- a refusal is handed on
-pub handed-on : (mode left : ℕ) (s : List ℕ) (w : Progress) → (w .code ≡ 0 → ⊥) → read mode left s w ≡ w
+pub handed-on : (kind : TermKind) (left : ℕ) (s : List ℕ) (w : Progress) → (w .code ≡ 0 → ⊥) → read kind left s w ≡ w
 unfolding read
-handed-on mode zero s w n = rw (ne-eqb (w .code) 0 n) refl
-handed-on mode (suc left) s w n = rw (ne-eqb (w .code) 0 n, read) refl
+handed-on kind zero s w n = rw (ne-eqb (w .code) 0 n) refl
+handed-on kind (suc left) s w n = rw (ne-eqb (w .code) 0 n, read) refl
 
 -- of two equal states one is accepted where the other is
 pub accepted-as : {v w : Progress} → v ≡ w → v .code ≡ 0 → w .code ≡ 0
 accepted-as p e = sym (ap (λ (x : Progress). x .code) p) ∙ e
 
 -- so what is read to its end was not refused before
-pub read-accepted : (mode left : ℕ) (s : List ℕ) (w : Progress) → read mode left s w .code ≡ 0 → w .code ≡ 0
-read-accepted mode left s w e = go (eqb (w .code) 0) refl
+pub read-accepted : (kind : TermKind) (left : ℕ) (s : List ℕ) (w : Progress) → read kind left s w .code ≡ 0 → w .code ≡ 0
+read-accepted kind left s w e = go (eqb (w .code) 0) refl
   where
     go : (b : Bool) → eqb (w .code) 0 ≡ b → w .code ≡ 0
     go true p = eqb-true (w .code) 0 p
-    go false p = accepted-as (handed-on mode left s w (eqb-false (w .code) 0 p)) e
+    go false p = accepted-as (handed-on kind left s w (eqb-false (w .code) 0 p)) e

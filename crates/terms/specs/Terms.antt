@@ -5,25 +5,28 @@ use mathlib.Core.List.{List}
 use lib.Dec.{leb, ltb, eqb}
 use lib.ListN.{length, getD, set}
 use Rattle.terms.specs.declared.Step.{Step}
+use Rattle.terms.specs.declared.TermKind.{TermKind}
+use Rattle.terms.specs.declared.TermKind.the-variants.{OfVertex, OfResult, OfEntry, OfFinal}
 use Rattle.progress.specs.declared.Progress.{Progress}
 use Rattle.progress.specs.Progress.{blank}
 use Rattle.fields.specs.Fields.{code-of}
 use Rattle.path_fields.specs.Paths.{path-code, path-word}
 
--- the step of a refusal
-abbrev pub stopped : ℕ → Step
-stopped code = record { progress = blank code; follow = 0 }
+-- no term: the step of a refusal
+abbrev pub refused-step : ℕ → Step
+refused-step code = record { progress = blank code; follow = 0 }
 
 -- one term more, up to `next`
 unfoldable pub advanced : Progress → ℕ → Progress
 advanced w next = record { code = w .code; at = next; terms = w .terms + 1; paths = w .paths; reductions = w .reductions; table = w .table }
 
--- the first of k slots of the table, from slot i on, that is free or holds the path reduction
+-- "8 different chains": where a path reduction stands among those met, or a new one is to be put: the first of k slots of the table, from slot i on, that is
+-- free or holds it
 unfoldable pub slot-of : ℕ → ℕ → List ℕ → ℕ → ℕ → ℕ
 slot-of zero paths table word i = i
 slot-of (suc k) paths table word i = cond (leb paths i) i (cond (eqb (getD table i 0) word) i (slot-of k paths table word (i + 1)))
 
--- the path reduction put after those met, where it is not among them: "14 | full sheet | a ninth chain"
+-- the path reduction put after those met, unless it is among them: "14 | full sheet | a ninth chain"
 unfoldable pub kept-path : Progress → ℕ → Progress
 kept-path w word =
     let i = slot-of 8 (w .paths) (w .table) word 0 in
@@ -34,7 +37,8 @@ kept-path w word =
 unfoldable pub path-step : List ℕ → Progress → Step
 path-step s w =
     let at = w .at + 1 in
-    cond (eqb (path-code s at) 0) (record { progress = kept-path (advanced w (at + 3 + getD s at 256)) (path-word s at); follow = 0 }) (stopped (path-code s at))
+    cond (eqb (path-code s at) 0) (record { progress = kept-path (advanced w (at + 3 + getD s at 256)) (path-word s at); follow = 0 })
+    (refused-step (path-code s at))
 
 -- "0x20, reduction, a place term"; "A reduction's 14 follows its byte."
 unfoldable pub reduce-step : List ℕ → Progress → Step
@@ -42,65 +46,71 @@ reduce-step s w =
     let c = code-of (getD s (w .at + 1) 256) 5 in
     let a = advanced w (w .at + 1 + 1) in
     cond (eqb c 0)
-    (cond (leb 8 (w .reductions)) (stopped 14)
+    (cond (leb 8 (w .reductions)) (refused-step 14)
     (record {
       progress = record { code = a .code; at = a .at; terms = a .terms; paths = a .paths; reductions = w .reductions + 1; table = a .table };
       follow = 1;
     }))
-    (stopped c)
+    (refused-step c)
 
 -- "0x30 and a chain's index for a chain, 0x31 and an entry's index for a reduction"; "16 | no such row | an index not below its count"
 unfoldable pub index-step : List ℕ → Progress → ℕ → Step
 index-step s w count =
     let b = getD s (w .at + 1) 256 in
-    cond (ltb 255 b) (stopped 1) (cond (leb count b) (stopped 16) (record { progress = advanced w (w .at + 1 + 1); follow = 0 }))
+    cond (ltb 255 b) (refused-step 1) (cond (leb count b) (refused-step 16) (record { progress = advanced w (w .at + 1 + 1); follow = 0 }))
 
 -- "0x11 and a 32-bit literal", "0x21 and a 32-bit literal"
 unfoldable pub literal-step : List ℕ → Progress → Step
-literal-step s w = cond (ltb 255 (getD s (w .at + 4) 256)) (stopped 1) (record { progress = advanced w (w .at + 4 + 1); follow = 0 })
+literal-step s w = cond (ltb 255 (getD s (w .at + 4) 256)) (refused-step 1) (record { progress = advanced w (w .at + 4 + 1); follow = 0 })
 
 -- "0x12, operator, two place terms", "0x22, operator, two result terms"
 unfoldable pub apply-step : List ℕ → Progress → Step
 apply-step s w =
     let c = code-of (getD s (w .at + 1) 256) 11 in
-    cond (eqb c 0) (record { progress = advanced w (w .at + 1 + 1); follow = 2 }) (stopped c)
+    cond (eqb c 0) (record { progress = advanced w (w .at + 1 + 1); follow = 2 }) (refused-step c)
 
--- the four kinds of terms: 0 place terms, 1 result terms, 2 entries of a worksheet, 3 its final expression
-unfoldable pub leaf-step : ℕ → List ℕ → Progress → Step
-leaf-step mode s w =
-    cond (eqb mode 0) (path-step s w)
-    (cond (eqb mode 1) (reduce-step s w)
-    (cond (eqb mode 2) (index-step s w (w .paths))
-    (index-step s w (w .reductions))))
+-- the term that each kind has instead of a literal or an operator: in place terms a chain, in result terms a reduction, in an entry's expression a chain's
+-- index, in a final expression an entry's
+unfoldable pub leaf-step : TermKind → List ℕ → Progress → Step
+leaf-step OfVertex s w = path-step s w
+leaf-step OfResult s w = reduce-step s w
+leaf-step OfEntry s w = index-step s w (w .paths)
+leaf-step OfFinal s w = index-step s w (w .reductions)
 
--- the tag of the term that each kind of expression has instead of a literal or an operator: a chain, a reduction, a chain's index, an entry's index
-unfoldable pub leaf-tag : ℕ → ℕ
-leaf-tag mode = cond (eqb mode 0) 0x10 (cond (eqb mode 1) 0x20 (cond (eqb mode 2) 0x30 0x31))
+-- its first byte
+unfoldable pub leaf-tag : TermKind → ℕ
+leaf-tag OfVertex = 0x10
+leaf-tag OfResult = 0x20
+leaf-tag OfEntry = 0x30
+leaf-tag OfFinal = 0x31
 
--- the byte of a literal; that of an operator is one more
-unfoldable pub literal-tag : ℕ → ℕ
-literal-tag mode = cond (eqb mode 0) 0x11 (cond (eqb mode 2) 0x11 0x21)
+-- "An entry's expression has 0x11, 0x12 and 0x30 only, a final one 0x21, 0x22 and 0x31 only": the byte of a literal; that of an operator is one more
+unfoldable pub literal-tag : TermKind → ℕ
+literal-tag OfVertex = 0x11
+literal-tag OfResult = 0x21
+literal-tag OfEntry = 0x11
+literal-tag OfFinal = 0x21
 
 -- a term without those that it contains, and how many follow: none, 1 place term, or 2 terms of the same kind
-unfoldable pub term-step : ℕ → ℕ → List ℕ → Progress → Step
-term-step mode left s w =
+unfoldable pub term-step : TermKind → ℕ → List ℕ → Progress → Step
+term-step kind left s w =
     let tag = getD s (w .at) 0 in
-    cond (leb (length s) (w .at)) (stopped 1)
-    (cond (leb 64 (w .terms)) (stopped 12)
-    (cond (eqb left 0) (stopped 11)
-    (cond (eqb tag (leaf-tag mode)) (leaf-step mode s w)
-    (cond (eqb tag (literal-tag mode)) (literal-step s w)
-    (cond (eqb tag (literal-tag mode + 1)) (apply-step s w) (stopped 9))))))
+    cond (leb (length s) (w .at)) (refused-step 1)
+    (cond (leb 64 (w .terms)) (refused-step 12)
+    (cond (eqb left 0) (refused-step 11)
+    (cond (eqb tag (leaf-tag kind)) (leaf-step kind s w)
+    (cond (eqb tag (literal-tag kind)) (literal-step s w)
+    (cond (eqb tag (literal-tag kind + 1)) (apply-step s w) (refused-step 9))))))
 
 -- a term and all that it contains, with so many levels of depth left; a refusal is handed on
-unfoldable pub read : ℕ → ℕ → List ℕ → Progress → Progress
-read mode zero s w = cond (eqb (w .code) 0) (term-step mode zero s w .progress) w
-read mode (suc left) s w =
-    let h = term-step mode (suc left) s w in
+unfoldable pub read : TermKind → ℕ → List ℕ → Progress → Progress
+read kind zero s w = cond (eqb (w .code) 0) (term-step kind zero s w .progress) w
+read kind (suc left) s w =
+    let h = term-step kind (suc left) s w in
     elim (eqb (w .code) 0) [
       | true ↦ elim (eqb (h .follow) 0) [
         | true ↦ h .progress
-        | false ↦ elim (eqb (h .follow) 1) [ true ↦ read 0 left s (h .progress) | false ↦ read mode left s (read mode left s (h .progress)) ]
+        | false ↦ elim (eqb (h .follow) 1) [ true ↦ read OfVertex left s (h .progress) | false ↦ read kind left s (read kind left s (h .progress)) ]
       ]
       | false ↦ w
     ]

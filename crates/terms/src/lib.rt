@@ -4,7 +4,8 @@ use progress::Progress;
 ghost use mathlib.Core.Path.{_≡_};
 ghost use Prim.Native.Nat.{_+_, _≤_, _<_, max};
 ghost use lib.ListN.{length};
-ghost use Rattle.terms.specs.Terms.{stopped, slot-of, kept-path, advanced, path-step, reduce-step, index-step, leaf-step, literal-step, apply-step, leaf-tag, literal-tag, term-step, read};
+ghost use Rattle.terms.specs.Terms.{refused-step, slot-of, kept-path, advanced, path-step, reduce-step, index-step, leaf-step};
+ghost use Rattle.terms.specs.Terms.{literal-step, apply-step, leaf-tag, literal-tag, term-step, read};
 
 // A term read without those that it contains, and how many follow.
 pub struct Step {
@@ -12,14 +13,13 @@ pub struct Step {
     pub follow: u8,
 }
 
-// The four kinds of terms: place terms and result terms of a question, entries and final expressions of a worksheet.
-pub const VERTEX: u8 = 0;
-
-pub const RESULT: u8 = 1;
-
-pub const ENTRY: u8 = 2;
-
-pub const FINAL: u8 = 3;
+// The four kinds of terms: place terms and result terms of a question, entries' expressions and final expressions of a worksheet.
+pub enum TermKind {
+    OfVertex,
+    OfResult,
+    OfEntry,
+    OfFinal,
+}
 
 // The first of the eight slots of the table that is free or holds the path reduction; 8 where there is none.
 fn slot(table: [u64; 8], paths: usize, word: u64) -> usize
@@ -39,8 +39,8 @@ fn slot(table: [u64; 8], paths: usize, word: u64) -> usize
 }
 
 // No term, for the reason that the number gives.
-fn stop(code: u8) -> Step
-    ensures { λ r. ⌜ r ≡ stopped code ⌝ }
+fn refuse(code: u8) -> Step
+    ensures { λ r. ⌜ r ≡ refused-step code ⌝ }
 {
     Step {
         progress: progress::blank_of(code),
@@ -89,7 +89,7 @@ fn path_step_of(s: &[u8], w: Progress) -> Step
     let at = w.at + 1;
     let c = path_fields::path_code(s, at);
     if c != 0 {
-        return stop(c);
+        return refuse(c);
     }
     let n = fields::byte(s, at);
     let word = path_fields::path_word(s, at);
@@ -107,11 +107,11 @@ fn reduce_step_of(s: &[u8], w: Progress) -> Step
     let at = w.at + 1;
     let c = fields::code_of(fields::byte(s, at), 5);
     if c != 0 {
-        return stop(c);
+        return refuse(c);
     }
     let n = w.reductions;
     if 8 <= n {
-        return stop(14);
+        return refuse(14);
     }
     let mut next = advance(w, at + 1);
     next.reductions = n + 1;
@@ -129,10 +129,10 @@ fn index_step_of(s: &[u8], w: Progress, count: usize) -> Step
     let at = w.at + 1;
     let b = fields::byte(s, at);
     if 255 < b {
-        return stop(1);
+        return refuse(1);
     }
     if count <= (b as usize) {
-        return stop(16);
+        return refuse(16);
     }
     Step {
         progress: advance(w, at + 1),
@@ -147,7 +147,7 @@ fn literal_step_of(s: &[u8], w: Progress) -> Step
 {
     let last = w.at + 4;
     if 255 < fields::byte(s, last) {
-        return stop(1);
+        return refuse(1);
     }
     Step {
         progress: advance(w, last + 1),
@@ -163,7 +163,7 @@ fn apply_step_of(s: &[u8], w: Progress) -> Step
     let at = w.at + 1;
     let c = fields::code_of(fields::byte(s, at), 11);
     if c != 0 {
-        return stop(c);
+        return refuse(c);
     }
     Step {
         progress: advance(w, at + 1),
@@ -172,87 +172,78 @@ fn apply_step_of(s: &[u8], w: Progress) -> Step
 }
 
 // A leaf of a term of the given kind.
-fn leaf_step_of(s: &[u8], w: Progress, mode: u8) -> Step
+fn leaf_step_of(s: &[u8], w: Progress, kind: TermKind) -> Step
     requires { ⌜ (w .at < length (now s)) × (w .terms < 64) ⌝ }
-    ensures { λ r. ⌜ r ≡ leaf-step mode (now (s .entry)) w ⌝ }
+    ensures { λ r. ⌜ r ≡ leaf-step kind (now (s .entry)) w ⌝ }
 {
-    if mode == VERTEX {
-        return path_step_of(s, w);
+    match kind {
+        TermKind::OfVertex => path_step_of(s, w),
+        TermKind::OfResult => reduce_step_of(s, w),
+        TermKind::OfEntry => index_step_of(s, w, w.paths),
+        TermKind::OfFinal => index_step_of(s, w, w.reductions),
     }
-    if mode == RESULT {
-        return reduce_step_of(s, w);
-    }
-    if mode == ENTRY {
-        return index_step_of(s, w, w.paths);
-    }
-    index_step_of(s, w, w.reductions)
 }
 
 // The byte that such a leaf starts with.
-fn leaf_tag_of(mode: u8) -> u8
-    ensures { λ r. ⌜ r ≡ leaf-tag mode ⌝ }
+fn leaf_tag_of(kind: TermKind) -> u8
+    ensures { λ r. ⌜ r ≡ leaf-tag kind ⌝ }
 {
-    if mode == VERTEX {
-        return 0x10;
+    match kind {
+        TermKind::OfVertex => 0x10,
+        TermKind::OfResult => 0x20,
+        TermKind::OfEntry => 0x30,
+        TermKind::OfFinal => 0x31,
     }
-    if mode == RESULT {
-        return 0x20;
-    }
-    if mode == ENTRY {
-        return 0x30;
-    }
-    0x31
 }
 
 // Place terms and entries share the bytes of literals and operators, result terms and final expressions theirs.
-fn literal_tag_of(mode: u8) -> u8
-    ensures { λ r. ⌜ (r ≡ literal-tag mode) × (r ≤ 33) ⌝ }
+fn literal_tag_of(kind: TermKind) -> u8
+    ensures { λ r. ⌜ (r ≡ literal-tag kind) × (r ≤ 33) ⌝ }
 {
-    if mode == VERTEX {
-        return 0x11;
+    match kind {
+        TermKind::OfVertex => 0x11,
+        TermKind::OfResult => 0x21,
+        TermKind::OfEntry => 0x11,
+        TermKind::OfFinal => 0x21,
     }
-    if mode == ENTRY {
-        return 0x11;
-    }
-    0x21
 }
 
 // A term without those that it contains: "for a term 1, 12, 11, 9, then each field".
-fn term_step_of(s: &[u8], w: Progress, mode: u8, left: usize) -> Step
-    ensures { λ r. ⌜ r ≡ term-step mode left (now (s .entry)) w ⌝ }
+fn term_step_of(s: &[u8], w: Progress, kind: TermKind, left: usize) -> Step
+    ensures { λ r. ⌜ r ≡ term-step kind left (now (s .entry)) w ⌝ }
 {
     let at = w.at;
     if s.len() <= at {
-        return stop(1);
+        return refuse(1);
     }
     if 64 <= w.terms {
-        return stop(12);
+        return refuse(12);
     }
     if left == 0 {
-        return stop(11);
+        return refuse(11);
     }
     let tag = s[at];
-    if tag == leaf_tag_of(mode) {
-        return leaf_step_of(s, w, mode);
+    if tag == leaf_tag_of(kind) {
+        return leaf_step_of(s, w, kind);
     }
-    let literal = literal_tag_of(mode);
+    let literal = literal_tag_of(kind);
     if tag == literal {
         return literal_step_of(s, w);
     }
     if tag == literal + 1 {
         return apply_step_of(s, w);
     }
-    stop(9)
+    refuse(9)
 }
 
 // A term and all that it contains, from w on, with `left` levels of depth left. A refusal is handed on.
-pub fn read_term(s: &[u8], w: Progress, mode: u8, left: usize) -> Progress
-    ensures { λ r. ⌜ r ≡ read mode left (now (s .entry)) w ⌝ }
+pub fn read_term(s: &[u8], w: Progress, kind: TermKind, left: usize) -> Progress
+    ensures { λ r. ⌜ r ≡ read kind left (now (s .entry)) w ⌝ }
 {
     if w.code != 0 {
         return w;
     }
-    let step = term_step_of(s, w, mode, left);
+    let step = term_step_of(s, w, kind, left);
     let next = step.progress;
     if left == 0 {
         return next;
@@ -262,8 +253,8 @@ pub fn read_term(s: &[u8], w: Progress, mode: u8, left: usize) -> Progress
         return next;
     }
     if follow == 1 {
-        return read_term(s, next, VERTEX, left - 1);
+        return read_term(s, next, TermKind::OfVertex, left - 1);
     }
-    let first = read_term(s, next, mode, left - 1);
-    read_term(s, first, mode, left - 1)
+    let first = read_term(s, next, kind, left - 1);
+    read_term(s, first, kind, left - 1)
 }

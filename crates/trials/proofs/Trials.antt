@@ -40,5 +40,5 @@ runs-hold = (refl, refl)
 -- the numbers that readers of questions and worksheets give
 pub numbers-hold : (map (λ (r : Reading). query-code (r .bytes)) queries ≡ map (λ (r : Reading). r .number) queries)
     × (map (λ (r : Reading). plan-code (r .bytes)) plans ≡ map (λ (r : Reading). r .number) plans)
-unfolding query-scan header-code ended started blank read term-step leaf-step leaf-tag literal-tag path-step path-code keys-code kept-path slot-of advanced path-word reduce-step index-step literal-step row plan-scan rows-scan row-step row-code row-word body-scan moved entries-scan entry-scan final-scan
+unfolding query-scan header-code ended started blank read term-step leaf-step leaf-tag literal-tag path-step path-code keys-code kept-path slot-of advanced path-word reduce-step index-step literal-step row plan-scan listed-scan listed-step listed-code listed-word body-scan moved entries-scan entry-scan final-scan
 numbers-hold = (refl, refl)

@@ -2,7 +2,7 @@
 use Prim.Native.Nat.{ℕ, _<_}
 use borrow.Author.Needs.{needs}
 use mathlib.Core.Path.{sym, _∙_}
-use Rattle.eval.specs.Eval.{joined}
+use Rattle.eval.specs.Steps.{joined}
 use Rattle.eval.proofs.Laws.{evaluated-next, evaluated-none}
 use borrow.Fn.Kinds.{In}
 use borrow.Fn.PlainCycle.{Measures, is, falls, and}
@@ -64,11 +64,19 @@ evaluate-operate-on-requires t c κs = search needs
 
 evaluate-returns-2 : (t : ℕ) → evaluate-lts.Need-returns-2 (claims t) (evaluate-at t) evaluate.Post
 unfolding joined
-evaluate-returns-2 t c = rw (evaluated-next _ _ _ _ (c .before .before .before .before .if1 .left), sym (c .before .before .before .head-of .ensures) ∙ c .before .found .given .1)
+evaluate-returns-2 t c =
+    rw (evaluated-next _ _ _ _ (c .before .before .before .before .if1 .left), sym (c .before .before .before .head-of .ensures) ∙ c .before .found .given .1)
 
 evaluate-returns-3 : (t : ℕ) → evaluate-lts.Need-returns-3 (claims t) (evaluate-at t) evaluate.Post
 unfolding joined
-evaluate-returns-3 t c = rw (evaluated-next _ _ _ _ (c .before .before .before .before .before .before .before .if1 .left), sym (c .before .before .before .before .before .before .head-of .ensures) ∙ c .before .before .before .before .operator .given .1, c .operate-on .ensures, c .before .evaluate2 .ensures, c .before .before .evaluate .ensures)
+evaluate-returns-3 t c = rw (
+  evaluated-next _ _ _ _ (c .before .before .before .before .before .before .before .if1 .left),
+  sym (c .before .before .before .before .before .before .head-of .ensures)
+      ∙ c .before .before .before .before .operator .given .1,
+  c .operate-on .ensures,
+  c .before .evaluate2 .ensures,
+  c .before .before .evaluate .ensures,
+)
 
 pub +evaluate-spec : {M : Type 1} → statement M
 +evaluate-spec = close μ-evaluate λ t. evaluate-lts.spec (claims t)

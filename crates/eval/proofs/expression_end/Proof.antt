@@ -2,7 +2,7 @@
 use mathlib.Core.Path.{ap}
 use borrow.Author.Needs.{needs}
 use Rattle.eval.specs.declared.Found.{Found}
-use Rattle.eval.specs.Body.{expression-end}
+use Rattle.eval.specs.Steps.{expression-end}
 use Rattle.eval.proofs.expression_end.Statement.{statement}
 use Rattle.eval.proofs.expression_end.Tie as tie
 

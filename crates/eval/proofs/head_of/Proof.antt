@@ -1,7 +1,7 @@
 -- `eval::head_of` meets its contract. Assumes nothing.
 use borrow.Author.Needs.{needs}
 use borrow.Author.Tests.{le-leb, lt-leb}
-use Rattle.eval.specs.Eval.{head}
+use Rattle.eval.specs.Steps.{head}
 use Rattle.eval.proofs.head_of.Statement.{statement}
 use Rattle.eval.proofs.head_of.Tie as tie
 
@@ -29,7 +29,13 @@ add-t15 c = search needs
 
 returns-2 : tie.Need-returns-2
 unfolding head
-returns-2 c = rw (lt-leb _ _ (c .before .before .before .before .before .if1 .left), ← c .before .before .before .one-of .ensures, c .before .before .if2 .taken, c .value-at .ensures, c .before .byte .ensures)
+returns-2 c = rw (
+  lt-leb _ _ (c .before .before .before .before .before .if1 .left),
+  ← c .before .before .before .one-of .ensures,
+  c .before .before .if2 .taken,
+  c .value-at .ensures,
+  c .before .byte .ensures,
+)
 
 one-of-requires-2 : tie.Need-one-of-requires-2
 one-of-requires-2 c κs = search needs
@@ -48,7 +54,14 @@ add-t22 c = search needs
 
 returns-3 : tie.Need-returns-3
 unfolding head
-returns-3 c = rw (lt-leb _ _ (c .before .before .before .before .before .before .if1 .left), ← c .before .before .before .before .one-of .ensures, c .before .before .before .if2 .left, ← c .before .before .one-of2 .ensures, c .before .if3 .taken, c .word .ensures)
+returns-3 c = rw (
+  lt-leb _ _ (c .before .before .before .before .before .before .if1 .left),
+  ← c .before .before .before .before .one-of .ensures,
+  c .before .before .before .if2 .left,
+  ← c .before .before .one-of2 .ensures,
+  c .before .if3 .taken,
+  c .word .ensures,
+)
 
 one-of-requires-3 : tie.Need-one-of-requires-3
 one-of-requires-3 c κs = search needs
@@ -64,11 +77,28 @@ add-t27 c = search needs
 
 returns-4 : tie.Need-returns-4
 unfolding head
-returns-4 c = rw (lt-leb _ _ (c .before .before .before .before .before .before .before .before .if1 .left), ← c .before .before .before .before .before .before .one-of .ensures, c .before .before .before .before .before .if2 .left, ← c .before .before .before .before .one-of2 .ensures, c .before .before .before .if3 .left, ← c .before .before .one-of3 .ensures, c .before .if4 .taken, c .byte2 .ensures)
+returns-4 c = rw (
+  lt-leb _ _ (c .before .before .before .before .before .before .before .before .if1 .left),
+  ← c .before .before .before .before .before .before .one-of .ensures,
+  c .before .before .before .before .before .if2 .left,
+  ← c .before .before .before .before .one-of2 .ensures,
+  c .before .before .before .if3 .left,
+  ← c .before .before .one-of3 .ensures,
+  c .before .if4 .taken,
+  c .byte2 .ensures,
+)
 
 returns-5 : tie.Need-returns-5
 unfolding head
-returns-5 c = rw (lt-leb _ _ (c .before .before .before .before .before .before .before .if1 .left), ← c .before .before .before .before .before .one-of .ensures, c .before .before .before .before .if2 .left, ← c .before .before .before .one-of2 .ensures, c .before .before .if3 .left, ← c .before .one-of3 .ensures, c .if4 .left)
+returns-5 c = rw (
+  lt-leb _ _ (c .before .before .before .before .before .before .before .if1 .left),
+  ← c .before .before .before .before .before .one-of .ensures,
+  c .before .before .before .before .if2 .left,
+  ← c .before .before .before .one-of2 .ensures,
+  c .before .before .if3 .left,
+  ← c .before .one-of3 .ensures,
+  c .if4 .left,
+)
 
 pub head-of-spec : {M : Type 1} → statement M
 head-of-spec =

@@ -13,10 +13,22 @@ returns-2 : tie.Need-returns-2
 returns-2 c = rw (le-ltb _ _ (c .before .before .before .if1 .left), ← c .before .before .known-key .ensures, c .before .if2 .taken, c .if3 .taken)
 
 returns-3 : tie.Need-returns-3
-returns-3 c = rw (le-ltb _ _ (c .before .before .before .before .before .if1 .left), ← c .before .before .before .before .known-key .ensures, c .before .before .before .if2 .taken, c .before .before .if3 .left, sym (ap (λ (r : KeyRow). r .early) (c .before .key-row .ensures)) ∙ c .if4 .taken)
+returns-3 c = rw (
+  le-ltb _ _ (c .before .before .before .before .before .if1 .left),
+  ← c .before .before .before .before .known-key .ensures,
+  c .before .before .before .if2 .taken,
+  c .before .before .if3 .left,
+  sym (ap (λ (r : KeyRow). r .early) (c .before .key-row .ensures)) ∙ c .if4 .taken,
+)
 
 returns-4 : tie.Need-returns-4
-returns-4 c = rw (le-ltb _ _ (c .before .before .before .before .before .if1 .left), ← c .before .before .before .before .known-key .ensures, c .before .before .before .if2 .taken, c .before .before .if3 .left, sym (ap (λ (r : KeyRow). r .early) (c .before .key-row .ensures)) ∙ c .if4 .left)
+returns-4 c = rw (
+  le-ltb _ _ (c .before .before .before .before .before .if1 .left),
+  ← c .before .before .before .before .known-key .ensures,
+  c .before .before .before .if2 .taken,
+  c .before .before .if3 .left,
+  sym (ap (λ (r : KeyRow). r .early) (c .before .key-row .ensures)) ∙ c .if4 .left,
+)
 
 returns-5 : tie.Need-returns-5
 returns-5 c = rw (le-ltb _ _ (c .before .before .if1 .left), ← c .before .known-key .ensures, c .if2 .left)

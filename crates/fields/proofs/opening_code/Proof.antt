@@ -13,13 +13,26 @@ kind-is : (c : tie.After-byte) → c .byte .result ≡ getD (c .before .before .
 kind-is c = c .byte .ensures .0
 
 returns-2 : tie.Need-returns-2
-returns-2 c = rw (← c .before .before .before .judge-header .ensures, eq-eqb _ _ (c .before .before .if1 .left), ← kind-is (c .before), lt-ltb _ _ (c .if2 .taken))
+returns-2 c =
+    rw (← c .before .before .before .judge-header .ensures, eq-eqb _ _ (c .before .before .if1 .left), ← kind-is (c .before), lt-ltb _ _ (c .if2 .taken))
 
 returns-3 : tie.Need-returns-3
-returns-3 c = rw (← c .before .before .before .before .judge-header .ensures, eq-eqb _ _ (c .before .before .before .if1 .left), ← kind-is (c .before .before), le-ltb _ _ (c .before .if2 .left), lt-ltb 1 _ (c .if3 .taken))
+returns-3 c = rw (
+  ← c .before .before .before .before .judge-header .ensures,
+  eq-eqb _ _ (c .before .before .before .if1 .left),
+  ← kind-is (c .before .before),
+  le-ltb _ _ (c .before .if2 .left),
+  lt-ltb 1 _ (c .if3 .taken),
+)
 
 returns-4 : tie.Need-returns-4
-returns-4 c = rw (← c .before .before .before .before .judge-header .ensures, eq-eqb _ _ (c .before .before .before .if1 .left), ← kind-is (c .before .before), le-ltb _ _ (c .before .if2 .left), le-ltb _ _ (c .if3 .left))
+returns-4 c = rw (
+  ← c .before .before .before .before .judge-header .ensures,
+  eq-eqb _ _ (c .before .before .before .if1 .left),
+  ← kind-is (c .before .before),
+  le-ltb _ _ (c .before .if2 .left),
+  le-ltb _ _ (c .if3 .left),
+)
 
 pub opening-code-spec : {M : Type 1} → statement M
 opening-code-spec =

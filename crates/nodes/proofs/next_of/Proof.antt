@@ -2,7 +2,7 @@
 use mathlib.Core.Path.{refl}
 use borrow.Author.Needs.{needs}
 use borrow.Author.Tests.{eq-eqb, le-leb, le-ltb, lt-leb, lt-ltb, ne-eqb}
-use Rattle.nodes.specs.Nodes.{next-at}
+use Rattle.nodes.specs.Steps.{next-at}
 use Rattle.nodes.proofs.next_of.Statement.{statement}
 use Rattle.nodes.proofs.next_of.Tie as tie
 
@@ -44,21 +44,38 @@ add-result-4 c = search needs
 
 returns-4 : tie.Need-returns-4
 unfolding next-at
-returns-4 c = rw (lt-leb _ _ (c .before .before .before .before .if1 .left), ne-eqb _ _ (c .before .before .if2 .left), ne-eqb _ _ (c .before .if3 .left), eq-eqb _ _ (c .if4 .taken))
+returns-4 c = rw (
+  lt-leb _ _ (c .before .before .before .before .if1 .left),
+  ne-eqb _ _ (c .before .before .if2 .left),
+  ne-eqb _ _ (c .before .if3 .left),
+  eq-eqb _ _ (c .if4 .taken),
+)
 
 add-result-5 : tie.Need-add-result-5
 add-result-5 c = search needs
 
 returns-5 : tie.Need-returns-5
 unfolding next-at
-returns-5 c = rw (lt-leb _ _ (c .before .before .before .before .before .if1 .left), ne-eqb _ _ (c .before .before .before .if2 .left), ne-eqb _ _ (c .before .before .if3 .left), ne-eqb _ _ (c .before .if4 .left), lt-ltb _ _ (c .if5 .taken))
+returns-5 c = rw (
+  lt-leb _ _ (c .before .before .before .before .before .if1 .left),
+  ne-eqb _ _ (c .before .before .before .if2 .left),
+  ne-eqb _ _ (c .before .before .if3 .left),
+  ne-eqb _ _ (c .before .if4 .left),
+  lt-ltb _ _ (c .if5 .taken),
+)
 
 add-result-6 : tie.Need-add-result-6
 add-result-6 c = search needs
 
 returns-6 : tie.Need-returns-6
 unfolding next-at
-returns-6 c = rw (lt-leb _ _ (c .before .before .before .before .before .if1 .left), ne-eqb _ _ (c .before .before .before .if2 .left), ne-eqb _ _ (c .before .before .if3 .left), ne-eqb _ _ (c .before .if4 .left), le-ltb _ _ (c .if5 .left))
+returns-6 c = rw (
+  lt-leb _ _ (c .before .before .before .before .before .if1 .left),
+  ne-eqb _ _ (c .before .before .before .if2 .left),
+  ne-eqb _ _ (c .before .before .if3 .left),
+  ne-eqb _ _ (c .before .if4 .left),
+  le-ltb _ _ (c .if5 .left),
+)
 
 pub next-of-spec : {M : Type 1} → statement M
 next-of-spec =

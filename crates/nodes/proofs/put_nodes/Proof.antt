@@ -37,8 +37,11 @@ loop-less c = omega arith
 
 loop-again : tie.Need-loop-again Inv-loop μ-loop
 loop-again c =
-    let l = c .before .before .before .loop in
-    (omega arith, rw (c .put-term .ensures) (sym (put-more node-text (l .r) _ _ (l .k) (node Empty) (c .before .before .loop-test .taken) (omega arith)) ∙ l .inv .1))
+    let l = c .before .before .before .loop in (
+      omega arith,
+      rw (c .put-term .ensures)
+          (sym (put-more node-text (l .r) _ _ (l .k) (node Empty) (c .before .before .loop-test .taken) (omega arith)) ∙ l .inv .1),
+    )
 
 returns : tie.Need-returns Inv-loop μ-loop
 returns c =

@@ -41,8 +41,14 @@ unfolding put-list path-text
 returns c =
     let a = c .before .before .before .before .before .args in
     let w = a .w in
-    c .put16 .ensures ∙ rw (c .before .put-key3 .ensures, c .before .before .put-key2 .ensures, c .before .before .before .put-key .ensures, c .before .before .before .before .put .ensures) (sym (put-four
-    (key-text (w % 256) 0 (w / 256 % 256)) (key-text (w % 256) 1 (w / 65536 % 256)) (key-text (w % 256) 2 (w / 16777216 % 256)) (le16 (w / 4294967296)) (put-byte (a .d) (w % 256))))
+    c .put16 .ensures ∙ rw (
+      c .before .put-key3 .ensures,
+      c .before .before .put-key2 .ensures,
+      c .before .before .before .put-key .ensures,
+      c .before .before .before .before .put .ensures,
+    ) (sym (put-four
+    (key-text (w % 256) 0 (w / 256 % 256)) (key-text (w % 256) 1 (w / 65536 % 256)) (key-text (w % 256) 2 (w / 16777216 % 256)) (le16 (w / 4294967296))
+    (put-byte (a .d) (w % 256))))
 
 pub put-path-spec : {M : Type 1} → statement M
 put-path-spec =

@@ -2,7 +2,7 @@
 use Prim.Native.Nat.{_-_}
 use native.Mathlib.Omega.{arith}
 use borrow.Author.Needs.{needs}
-use Rattle.nodes.specs.Nodes.{nodes-read}
+use Rattle.nodes.specs.Steps.{nodes-read}
 use Rattle.nodes.proofs.Held.{Held, held-none, held-more, held-all}
 use Rattle.nodes.proofs.read_nodes.Statement.{statement}
 use Rattle.nodes.proofs.read_nodes.Tie as tie

@@ -16,7 +16,14 @@ unfolding path-word
 returns c =
     let s = c .before .before .before .args .s .now in
     let at = c .before .before .before .args .at in
-    rw (← getD-past s at 256 (c .before .if1 .taken), ← getD-past s (at + 1) 256 (omega arith), ← getD-past s (at + 2) 256 (omega arith), ← getD-past s (at + 3) 256 (omega arith), ← getD-past s (at + 1 + 256) 256 (omega arith), ← getD-past s (at + 1 + 256 + 1) 256 (omega arith))
+    rw (
+      ← getD-past s at 256 (c .before .if1 .taken),
+      ← getD-past s (at + 1) 256 (omega arith),
+      ← getD-past s (at + 2) 256 (omega arith),
+      ← getD-past s (at + 3) 256 (omega arith),
+      ← getD-past s (at + 1 + 256) 256 (omega arith),
+      ← getD-past s (at + 1 + 256 + 1) 256 (omega arith),
+    )
     (c .pack .ensures)
 
 byte-requires : tie.Need-byte-requires
@@ -72,7 +79,16 @@ unfolding path-word
 returns-2 c =
     let u = c .before .before .before .before in
     c .pack2 .ensures
-    ∙ rw (c .before .byte6 .ensures .0, c .before .before .byte5 .ensures .0, c .before .before .before .byte4 .ensures .0, u .used-of2 .ensures, u .before .byte3 .ensures .0, u .before .before .used-of .ensures, u .before .before .before .byte2 .ensures .0, u .before .before .before .before .byte .ensures .0) refl
+    ∙ rw (
+      c .before .byte6 .ensures .0,
+      c .before .before .byte5 .ensures .0,
+      c .before .before .before .byte4 .ensures .0,
+      u .used-of2 .ensures,
+      u .before .byte3 .ensures .0,
+      u .before .before .used-of .ensures,
+      u .before .before .before .byte2 .ensures .0,
+      u .before .before .before .before .byte .ensures .0,
+    ) refl
 
 pub path-word-spec : {M : Type 1} → statement M
 path-word-spec =

@@ -20,20 +20,28 @@ blank-of-requires c κs = search needs
 
 returns-2 : tie.Need-returns-2
 unfolding body-scan moved
-returns-2 c = rw (eq-eqb _ _ (c .before .before .before .before .if1 .left), ← c .before .before .before .byte .ensures .0, ← c .before .before .count-code-of .ensures, ne-eqb _ _ (c .before .if2 .taken)) (c .blank-of .ensures)
+returns-2 c = rw (
+  eq-eqb _ _ (c .before .before .before .before .if1 .left),
+  ← c .before .before .before .byte .ensures .0,
+  ← c .before .before .count-code-of .ensures,
+  ne-eqb _ _ (c .before .if2 .taken),
+) (c .blank-of .ensures)
 
 blank-of-requires-2 : tie.Need-blank-of-requires-2
 blank-of-requires-2 c κs = search needs
 
 returns-3 : tie.Need-returns-3
 unfolding body-scan moved
-returns-3 c = rw (eq-eqb _ _ (c .before .before .before .before .before .if1 .left), ← c .before .before .before .before .byte .ensures .0, ← c .before .before .before .count-code-of .ensures, eq-eqb _ _ (c .before .before .if2 .left), le-leb _ _ (c .before .if3 .taken)) (c .blank-of2 .ensures)
+returns-3 c = rw (
+  eq-eqb _ _ (c .before .before .before .before .before .if1 .left),
+  ← c .before .before .before .before .byte .ensures .0,
+  ← c .before .before .before .count-code-of .ensures,
+  eq-eqb _ _ (c .before .before .if2 .left),
+  le-leb _ _ (c .before .if3 .taken),
+) (c .blank-of2 .ensures)
 
 add-next : tie.Need-add-next
 add-next c = search needs
-
-cast-next : tie.Need-cast-next
-cast-next c = search needs
 
 cast-entries : tie.Need-cast-entries
 cast-entries c = search needs
@@ -46,7 +54,14 @@ final-of-requires c κs = search needs
 
 returns-4 : tie.Need-returns-4
 unfolding body-scan moved
-returns-4 c = rw (eq-eqb _ _ (c .before .before .before .before .before .before .if1 .left), ← c .before .before .before .before .before .byte .ensures .0, ← c .before .before .before .before .count-code-of .ensures, eq-eqb _ _ (c .before .before .before .if2 .left), lt-leb _ _ (c .before .before .if3 .left), ← c .before .entries .ensures) (c .final-of .ensures)
+returns-4 c = rw (
+  eq-eqb _ _ (c .before .before .before .before .before .before .if1 .left),
+  ← c .before .before .before .before .before .byte .ensures .0,
+  ← c .before .before .before .before .count-code-of .ensures,
+  eq-eqb _ _ (c .before .before .before .if2 .left),
+  lt-leb _ _ (c .before .before .if3 .left),
+  ← c .before .entries .ensures,
+) (c .final-of .ensures)
 
 pub body-spec : {M : Type 1} → statement M
 body-spec =
@@ -60,7 +75,6 @@ body-spec =
     blank-of-requires-2
     returns-3
     add-next
-    cast-next
     cast-entries
     entries-requires
     final-of-requires

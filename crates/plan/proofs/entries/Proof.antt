@@ -27,7 +27,8 @@ loop-again : tie.Need-loop-again Inv-loop μ-loop
 loop-again c =
     let a = c .before .before .before .before .before .before .args in
     let l = c .before .before .before .before .loop in
-    l .inv ∙ entries-next (l .left) (a .kind) (a .s .now) (l .state) (c .before .before .before .loop-test .taken) ∙ rw (eq-eqb _ _ (c .before .if1 .left), ← c .entry .ensures) refl
+    l .inv ∙ entries-next (l .left) (a .kind) (a .s .now) (l .state) (c .before .before .before .loop-test .taken)
+    ∙ rw (eq-eqb _ _ (c .before .if1 .left), ← c .entry .ensures) refl
 
 returns-2 : tie.Need-returns-2 Inv-loop μ-loop
 returns-2 c =

@@ -27,23 +27,36 @@ blank-of-requires-2 c κs = search needs
 
 returns-2 : tie.Need-returns-2
 unfolding plan-scan
-returns-2 c = rw (← c .before .before .before .before .before .opening-code .ensures, eq-eqb _ _ (c .before .before .before .before .if1 .left), ← c .before .before .before .byte .ensures .0, ← c .before .before .byte2 .ensures .0, lt-ltb _ _ (c .before .if2 .taken)) (c .blank-of2 .ensures)
+returns-2 c = rw (
+  ← c .before .before .before .before .before .opening-code .ensures,
+  eq-eqb _ _ (c .before .before .before .before .if1 .left),
+  ← c .before .before .before .byte .ensures .0,
+  ← c .before .before .byte2 .ensures .0,
+  lt-ltb _ _ (c .before .if2 .taken),
+) (c .blank-of2 .ensures)
 
 blank-of-requires-3 : tie.Need-blank-of-requires-3
 blank-of-requires-3 c κs = search needs
 
 returns-3 : tie.Need-returns-3
 unfolding plan-scan
-returns-3 c = rw (← c .before .before .before .before .before .before .opening-code .ensures, eq-eqb _ _ (c .before .before .before .before .before .if1 .left), ← c .before .before .before .before .byte .ensures .0, ← c .before .before .before .byte2 .ensures .0, le-ltb _ _ (c .before .before .if2 .left), lt-ltb 8 _ (c .before .if3 .taken)) (c .blank-of3 .ensures)
+returns-3 c = rw (
+  ← c .before .before .before .before .before .before .opening-code .ensures,
+  eq-eqb _ _ (c .before .before .before .before .before .if1 .left),
+  ← c .before .before .before .before .byte .ensures .0,
+  ← c .before .before .before .byte2 .ensures .0,
+  le-ltb _ _ (c .before .before .if2 .left),
+  lt-ltb 8 _ (c .before .if3 .taken),
+) (c .blank-of3 .ensures)
 
 start-requires : tie.Need-start-requires
 start-requires c κs = search needs
 
-cast-rows : tie.Need-cast-rows
-cast-rows c = search needs
+cast-listed : tie.Need-cast-listed
+cast-listed c = search needs
 
-rows-requires : tie.Need-rows-requires
-rows-requires c κs = search needs
+listed-requires : tie.Need-listed-requires
+listed-requires c κs = search needs
 
 body-requires : tie.Need-body-requires
 body-requires c κs = search needs
@@ -55,8 +68,15 @@ returns-4 : tie.Need-returns-4
 unfolding plan-scan
 returns-4 c =
     let e = c .before .before .before .before in
-    rw (← e .before .before .before .before .before .opening-code .ensures, eq-eqb _ _ (e .before .before .before .before .if1 .left), ← e .before .before .before .byte .ensures .0, ← e .before .before .byte2 .ensures .0, le-ltb _ _ (e .before .if2 .left), le-ltb _ _ (e .if3 .left))
-    (c .finish .ensures ∙ rw (c .before .body .ensures, c .before .before .rows .ensures, c .before .before .before .start .ensures) refl)
+    rw (
+      ← e .before .before .before .before .before .opening-code .ensures,
+      eq-eqb _ _ (e .before .before .before .before .if1 .left),
+      ← e .before .before .before .byte .ensures .0,
+      ← e .before .before .byte2 .ensures .0,
+      le-ltb _ _ (e .before .if2 .left),
+      le-ltb _ _ (e .if3 .left),
+    )
+    (c .finish .ensures ∙ rw (c .before .body .ensures, c .before .before .listed .ensures, c .before .before .before .start .ensures) refl)
 
 pub scan-spec : {M : Type 1} → statement M
 scan-spec =
@@ -72,8 +92,8 @@ scan-spec =
     blank-of-requires-3
     returns-3
     start-requires
-    cast-rows
-    rows-requires
+    cast-listed
+    listed-requires
     body-requires
     finish-requires
     returns-4)

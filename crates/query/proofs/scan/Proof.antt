@@ -1,10 +1,8 @@
 -- `query::scan` meets its contract. Assumes nothing.
-use mathlib.Core.Path.{_≡_, refl, sym, _∙_}
+use mathlib.Core.Path.{_≡_, refl, _∙_}
 use borrow.Author.Needs.{needs}
-use native.Mathlib.Omega.{arith}
 use borrow.Author.Tests.{eq-eqb, ne-eqb}
 use Rattle.fields.specs.Fields.{opening-code}
-use Rattle.fields.proofs.Opening.{opening-found}
 use Rattle.query.specs.Query.{query-scan}
 use Rattle.query.proofs.scan.Statement.{statement}
 use Rattle.query.proofs.scan.Tie as tie
@@ -16,14 +14,18 @@ returns : tie.Need-returns
 unfolding query-scan
 returns c = rw (← opening-is (c .before .before), ne-eqb _ _ (c .before .if1 .taken)) (c .blank-of .ensures)
 
-cast-read-term : tie.Need-cast-read-term
-cast-read-term c = omega (arith, c .before .byte .ensures .0, opening-found 0x51 _ (sym (opening-is (c .before .before .before)) ∙ c .before .before .if1 .left) .1)
-
 returns-2 : tie.Need-returns-2
 unfolding query-scan
 returns-2 c =
-    let e = c .before .before .before .before in
-    rw (← opening-is (e .before), eq-eqb _ _ (e .if1 .left)) (c .finish .ensures ∙ rw (c .before .read-term .ensures, c .before .before .start .ensures, c .before .before .before .byte .ensures .0) refl)
+    let e = c .before .before .before .before .before in
+    rw (← opening-is (e .before), eq-eqb _ _ (e .if1 .left))
+    (c .finish .ensures
+    ∙ rw (
+      c .before .read-term .ensures,
+      c .before .before .start .ensures,
+      c .before .before .before .term-kind .ensures,
+      c .before .before .before .before .byte .ensures .0,
+    ) refl)
 
 pub scan-spec : {M : Type 1} → statement M
 scan-spec =
@@ -34,7 +36,7 @@ scan-spec =
     returns
     (λ c κs. search needs)
     (λ c κs. search needs)
-    cast-read-term
+    (λ c κs. search needs)
     (λ c κs. search needs)
     (λ c κs. search needs)
     returns-2)

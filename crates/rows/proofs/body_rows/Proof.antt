@@ -6,8 +6,8 @@ use borrow.Author.Needs.{needs}
 use lib.ListN.{getD}
 use Rattle.value.specs.declared.Row.{Row}
 use Rattle.value.specs.declared.Value.{Value}
-use Rattle.eval.specs.Body.{count-at, entry-rows, row}
-use Rattle.rows.specs.Rows.{final-found, many, rows-at}
+use Rattle.eval.specs.Steps.{count-at, entry-rows, final-found, row}
+use Rattle.rows.specs.Steps.{many, rows-at}
 use Rattle.rows.proofs.Laws.{body-each, body-one}
 use Rattle.rows.proofs.body_rows.Statement.{statement}
 use Rattle.rows.proofs.body_rows.Tie as tie
@@ -69,10 +69,12 @@ returns-2 c =
     let e : ℕ = min (getD plan (count-at plan) 0) 8 in
     let final =
     c .before .final-of .ensures
-    ∙ ap (λ (k : ℕ). final-found k plan (c .before .before .before .before .before .before .before .count-at .result + 1) F (c .before .before .before .before .before .before .before .before .lesser .result)) entries
+    ∙ ap (λ (k : ℕ). final-found k plan (c .before .before .before .before .before .before .before .count-at .result + 1) F
+    (c .before .before .before .before .before .before .before .before .lesser .result)) entries
     ∙ ap₂ (λ (i k : ℕ). final-found e plan (i + 1) F k) at count in
     c .single .ensures
-    ∙ ap many (ap (λ (v : Value). row v ∷ []) final ∙ sym (body-one plan F (min (a .n) 256) (λ z. c .before .before .before .before .before .if1 .left (kind ∙ z))))
+    ∙ ap many (ap (λ (v : Value). row v ∷ []) final
+    ∙ sym (body-one plan F (min (a .n) 256) (λ z. c .before .before .before .before .before .if1 .left (kind ∙ z))))
 
 pub body-rows-spec : {M : Type 1} → statement M
 body-rows-spec =

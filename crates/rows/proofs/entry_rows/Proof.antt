@@ -9,10 +9,9 @@ use Rattle.value.specs.declared.Row.{Row}
 use Rattle.value.specs.declared.Value.{Value}
 use Rattle.value.specs.declared.Value.the-variants.{Absent}
 use Rattle.eval.specs.declared.Found.{Found}
-use Rattle.eval.specs.Body.{row}
-use Rattle.eval.specs.Eval.{evaluated}
+use Rattle.eval.specs.Steps.{evaluated, row}
 use Rattle.eval.proofs.Fill.{filled, fill-next, fill-none}
-use Rattle.rows.specs.Rows.{rows-at}
+use Rattle.rows.specs.Steps.{rows-at}
 use Rattle.rows.proofs.Laws.{entry-filled, entry-row}
 use Rattle.rows.proofs.entry_rows.Statement.{statement}
 use Rattle.rows.proofs.entry_rows.Tie as tie
@@ -42,7 +41,8 @@ loop-again c =
     let F : ℕ → List Row = rows-at (a .figures .now) (a .paths) in
     let one = c .evaluate .ensures ∙ ap (λ (rows : List Row). evaluated 16 (a .plan .now) rows (a .at)) (c .before .values-at .ensures) in (
       omega arith,
-      ap₂ (λ (rows : List Row) (value : Value). set rows (l .v) (row value)) (l .inv .1) (ap (λ (f : Found). f .value) one) ∙ fill-next 256 (entry-row (a .plan .now) F (a .at)) (row Absent) (l .v) (omega (arith, s .pre)),
+      ap₂ (λ (rows : List Row) (value : Value). set rows (l .v) (row value)) (l .inv .1) (ap (λ (f : Found). f .value) one)
+          ∙ fill-next 256 (entry-row (a .plan .now) F (a .at)) (row Absent) (l .v) (omega (arith, s .pre)),
     )
 
 returns : tie.Need-returns Inv-loop μ-loop
@@ -56,4 +56,5 @@ returns c =
 pub entry-rows-spec : {M : Type 1} → statement M
 entry-rows-spec =
     tie.close
-    (tie.spec Inv-loop μ-loop loop-holds (λ c κs. search needs) (λ c κs. search needs) mul-rows array-set-from-rows (λ c. search needs) (λ c. search needs) loop-again returns)
+    (tie.spec Inv-loop μ-loop loop-holds (λ c κs. search needs) (λ c κs. search needs) mul-rows array-set-from-rows (λ c. search needs)
+    (λ c. search needs) loop-again returns)

@@ -2,8 +2,7 @@
 use mathlib.Core.Path.{ap, ap₂, _∙_}
 use borrow.Author.Needs.{needs}
 use Rattle.eval.specs.declared.Found.{Found}
-use Rattle.eval.specs.Eval.{evaluated}
-use Rattle.rows.specs.Rows.{final-found}
+use Rattle.eval.specs.Steps.{evaluated, final-found}
 use Rattle.rows.proofs.final_of.Statement.{statement}
 use Rattle.rows.proofs.final_of.Tie as tie
 

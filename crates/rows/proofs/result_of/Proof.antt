@@ -6,7 +6,7 @@ use borrow.Author.Needs.{needs}
 use lib.ListN.{take}
 use Rattle.value.specs.declared.Row.{Row}
 use Rattle.value.specs.Value.{reduce, values}
-use Rattle.rows.specs.Rows.{rows-at}
+use Rattle.rows.specs.Steps.{rows-at}
 use Rattle.rows.proofs.Laws.{entry-taken}
 use Rattle.rows.proofs.result_of.Statement.{statement}
 use Rattle.rows.proofs.result_of.Tie as tie
@@ -14,7 +14,8 @@ use Rattle.rows.proofs.result_of.Tie as tie
 returns : tie.Need-returns
 returns c =
     let a = c .before .before .before .before .before .args in
-    let rows = ap (take (a .n)) (c .before .before .entry-rows .ensures) ∙ entry-taken (a .plan .now) (rows-at (a .figures .now) (a .paths)) (a .n) (a .at + 1) in
+    let rows =
+    ap (take (a .n)) (c .before .before .entry-rows .ensures) ∙ entry-taken (a .plan .now) (rows-at (a .figures .now) (a .paths)) (a .n) (a .at + 1) in
     c .reduce-rows .ensures ∙ ap₂ (λ (reduction : ℕ) (l : List Row). reduce reduction (values l)) (c .before .byte .ensures) rows
 
 pub result-of-spec : {M : Type 1} → statement M

@@ -8,10 +8,10 @@ use lib.ListN.{length, set}
 use Rattle.value.specs.declared.Row.{Row}
 use Rattle.value.specs.declared.Value.{Value}
 use Rattle.value.specs.declared.Value.the-variants.{Absent}
-use Rattle.eval.specs.Body.{entries-end, expression-end, row}
+use Rattle.eval.specs.Steps.{entries-end, expression-end, row}
 use Rattle.eval.proofs.Ends.{end-within}
 use Rattle.eval.proofs.Fill.{filled, fill-next, fill-none}
-use Rattle.rows.specs.Rows.{rows-at}
+use Rattle.rows.specs.Steps.{rows-at}
 use Rattle.rows.proofs.Laws.{end-next, end-none, result-at, result-row, results-filled}
 use Rattle.rows.proofs.results_of.Statement.{statement}
 use Rattle.rows.proofs.results_of.Tie as tie
@@ -63,12 +63,14 @@ loop-again c =
     let F : ℕ → List Row = rows-at (a .figures .now) (a .paths) in
     let end = c .expression-end .ensures in
     let within = end-within plan (length plan + 2048 + (l .k + 1)) (l .next + 1) (omega arith) (omega arith) in
-    let next = end ∙ ap (λ (i : ℕ). expression-end plan (i + 1)) (l .inv .2) ∙ end-next plan (l .k) (a .at) ∙ ap (λ (k : ℕ). entries-end k plan (a .at)) (sym (add-one (l .k))) in
+    let next = end ∙ ap (λ (i : ℕ). expression-end plan (i + 1)) (l .inv .2) ∙ end-next plan (l .k) (a .at)
+    ∙ ap (λ (k : ℕ). entries-end k plan (a .at)) (sym (add-one (l .k))) in
     let one = c .before .result-of .ensures ∙ ap (result-at plan F (a .n)) (l .inv .2) in (
       omega arith,
       omega (arith, end, within),
       next,
-      ap₂ (λ (rows : List Row) (value : Value). set rows (l .k) (row value)) (l .inv .3) one ∙ fill-next 8 (result-row plan F (a .n) (a .at)) (row Absent) (l .k) (omega (arith, s .pre .2)),
+      ap₂ (λ (rows : List Row) (value : Value). set rows (l .k) (row value)) (l .inv .3) one
+          ∙ fill-next 8 (result-row plan F (a .n) (a .at)) (row Absent) (l .k) (omega (arith, s .pre .2)),
     )
 
 returns : tie.Need-returns Inv-loop μ-loop

@@ -40,7 +40,12 @@ shared-slice-read-if4 c = search needs
 
 returns-4 : tie.Need-returns-4
 unfolding value-in
-returns-4 c = rw (lt-leb _ _ (c .before .before .before .before .if1 .left), lt-leb _ _ (c .before .before .before .if2 .left), lt-leb _ _ (c .before .before .if3 .left), eq-eqb _ _ (c .if4 .taken))
+returns-4 c = rw (
+  lt-leb _ _ (c .before .before .before .before .if1 .left),
+  lt-leb _ _ (c .before .before .before .if2 .left),
+  lt-leb _ _ (c .before .before .if3 .left),
+  eq-eqb _ _ (c .if4 .taken),
+)
 
 add-number : tie.Need-add-number
 add-number c = search needs
@@ -56,7 +61,13 @@ number-requires c κs = search needs
 
 returns-5 : tie.Need-returns-5
 unfolding value-in
-returns-5 c = rw (lt-leb _ _ (c .before .before .before .before .before .before .if1 .left), lt-leb _ _ (c .before .before .before .before .before .if2 .left), lt-leb _ _ (c .before .before .before .before .if3 .left), ne-eqb _ _ (c .before .before .if4 .left), c .number .ensures)
+returns-5 c = rw (
+  lt-leb _ _ (c .before .before .before .before .before .before .if1 .left),
+  lt-leb _ _ (c .before .before .before .before .before .if2 .left),
+  lt-leb _ _ (c .before .before .before .before .if3 .left),
+  ne-eqb _ _ (c .before .before .if4 .left),
+  c .number .ensures,
+)
 
 pub value-at-spec : {M : Type 1} → statement M
 value-at-spec =

@@ -8,7 +8,7 @@ use lib.ListN.{set}
 use Rattle.value.specs.declared.Row.{Row}
 use Rattle.value.specs.declared.Value.{Value}
 use Rattle.value.specs.declared.Value.the-variants.{Absent}
-use Rattle.eval.specs.Body.{row}
+use Rattle.eval.specs.Steps.{row}
 use Rattle.eval.proofs.Fill.{filled, fill-next, fill-none}
 use Rattle.rows.proofs.Laws.{rows-at-filled, value-row}
 use Rattle.rows.proofs.values_at.Statement.{statement}
@@ -33,7 +33,8 @@ loop-again c =
     let f : ℕ → Row = value-row (a .figures .now) (a .v) in
     let one = c .value-at .ensures in (
       omega arith,
-      ap₂ (λ (rows : List Row) (value : Value). set rows (l .j) (row value)) (l .inv .1) one ∙ fill-next 8 f (row Absent) (l .j) (omega (arith, c .before .before .before .lesser .ensures .0)),
+      ap₂ (λ (rows : List Row) (value : Value). set rows (l .j) (row value)) (l .inv .1) one
+          ∙ fill-next 8 f (row Absent) (l .j) (omega (arith, c .before .before .before .lesser .ensures .0)),
     )
 
 returns : tie.Need-returns Inv-loop μ-loop
@@ -46,4 +47,5 @@ returns c =
 pub values-at-spec : {M : Type 1} → statement M
 values-at-spec =
     tie.close
-    (tie.spec Inv-loop μ-loop (λ c κs. search needs) loop-holds (λ c κs. search needs) (λ c. search needs) array-set-from-rows (λ c. search needs) (λ c. search needs) loop-again returns)
+    (tie.spec Inv-loop μ-loop (λ c κs. search needs) loop-holds (λ c κs. search needs) (λ c. search needs) array-set-from-rows (λ c. search needs)
+    (λ c. search needs) loop-again returns)

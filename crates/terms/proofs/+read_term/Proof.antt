@@ -29,7 +29,7 @@ read-term-returns : (t : ℕ) → read-term-lts.Need-returns (
   read-term-below t,
   read-term.Post,
 ) (read-term-at t) read-term.Post
-read-term-returns t c = let a = c .before .before .before .args in sym (handed-on (a .mode) (a .left) (a .s .now) (a .w) (c .if1 .taken))
+read-term-returns t c = let a = c .before .before .before .args in sym (handed-on (a .kind) (a .left) (a .s .now) (a .w) (c .if1 .taken))
 
 read-term-term-step-of-requires : (t : ℕ) → read-term-lts.Need-term-step-of-requires (
   term-step-of-reads.Asked,
@@ -53,7 +53,12 @@ read-term-returns-3 : (t : ℕ) → read-term-lts.Need-returns-3 (
   read-term-below t,
   read-term.Post,
 ) (read-term-at t) read-term.Post
-read-term-returns-3 t c = rw (read-next _ _ _ _ (c .before .if2 .left), eq-eqb _ _ (c .before .before .before .before .if1 .left), ← c .before .before .before .term-step-of .ensures, eq-eqb _ _ (c .if3 .taken))
+read-term-returns-3 t c = rw (
+  read-next _ _ _ _ (c .before .if2 .left),
+  eq-eqb _ _ (c .before .before .before .before .if1 .left),
+  ← c .before .before .before .term-step-of .ensures,
+  eq-eqb _ _ (c .if3 .taken),
+)
 
 read-term-sub-read-term : (t : ℕ) → read-term-lts.Need-sub-read-term (
   term-step-of-reads.Asked,
@@ -77,7 +82,13 @@ read-term-returns-4 : (t : ℕ) → read-term-lts.Need-returns-4 (
   read-term-below t,
   read-term.Post,
 ) (read-term-at t) read-term.Post
-read-term-returns-4 t c = rw (read-next _ _ _ _ (c .before .before .before .if2 .left), eq-eqb _ _ (c .before .before .before .before .before .before .if1 .left), ← c .before .before .before .before .before .term-step-of .ensures, ne-eqb _ _ (c .before .before .if3 .left), eq-eqb _ _ (c .before .if4 .taken)) (c .read-term .ensures)
+read-term-returns-4 t c = rw (
+  read-next _ _ _ _ (c .before .before .before .if2 .left),
+  eq-eqb _ _ (c .before .before .before .before .before .before .if1 .left),
+  ← c .before .before .before .before .before .term-step-of .ensures,
+  ne-eqb _ _ (c .before .before .if3 .left),
+  eq-eqb _ _ (c .before .if4 .taken),
+) (c .read-term .ensures)
 
 read-term-sub-read-term-2 : (t : ℕ) → read-term-lts.Need-sub-read-term-2 (
   term-step-of-reads.Asked,
@@ -117,7 +128,14 @@ read-term-returns-5 : (t : ℕ) → read-term-lts.Need-returns-5 (
   read-term-below t,
   read-term.Post,
 ) (read-term-at t) read-term.Post
-read-term-returns-5 t c = rw (read-next _ _ _ _ (c .before .before .before .before .if2 .left), eq-eqb _ _ (c .before .before .before .before .before .before .before .if1 .left), ← c .before .before .before .before .before .before .term-step-of .ensures, ne-eqb _ _ (c .before .before .before .if3 .left), ne-eqb _ _ (c .before .before .if4 .left), ← c .before .read-term2 .ensures) (c .read-term3 .ensures)
+read-term-returns-5 t c = rw (
+  read-next _ _ _ _ (c .before .before .before .before .if2 .left),
+  eq-eqb _ _ (c .before .before .before .before .before .before .before .if1 .left),
+  ← c .before .before .before .before .before .before .term-step-of .ensures,
+  ne-eqb _ _ (c .before .before .before .if3 .left),
+  ne-eqb _ _ (c .before .before .if4 .left),
+  ← c .before .read-term2 .ensures,
+) (c .read-term3 .ensures)
 
 pub +read-term-spec : {M : Type 1} → statement M
 +read-term-spec = close μ-read-term λ t. read-term-lts.spec (

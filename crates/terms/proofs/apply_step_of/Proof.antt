@@ -16,15 +16,15 @@ byte-requires c κs = search needs
 code-of-requires : tie.Need-code-of-requires
 code-of-requires c κs = search needs
 
-stop-requires : tie.Need-stop-requires
-stop-requires c κs = search needs
+refuse-requires : tie.Need-refuse-requires
+refuse-requires c κs = search needs
 
 operator-is : (c : tie.After-code-of) → c .code-of .result ≡ code-of (c .before .byte .result) 11
 operator-is c = c .code-of .ensures
 
 returns : tie.Need-returns
 unfolding apply-step
-returns c = rw (← c .before .before .before .byte .ensures .0, ← operator-is (c .before .before), ne-eqb _ _ (c .before .if1 .taken)) (c .stop .ensures)
+returns c = rw (← c .before .before .before .byte .ensures .0, ← operator-is (c .before .before), ne-eqb _ _ (c .before .if1 .taken)) (c .refuse .ensures)
 
 add-advance : tie.Need-add-advance
 add-advance c = search needs
@@ -43,7 +43,7 @@ apply-step-of-spec =
     add-at
     byte-requires
     code-of-requires
-    stop-requires
+    refuse-requires
     returns
     add-advance
     advance-requires

@@ -8,7 +8,7 @@ use Rattle.terms.proofs.literal_step_of.Tie as tie
 
 returns : tie.Need-returns
 unfolding literal-step
-returns c = rw (← c .before .before .byte .ensures .0, lt-ltb _ _ (c .before .if1 .taken)) (c .stop .ensures)
+returns c = rw (← c .before .before .byte .ensures .0, lt-ltb _ _ (c .before .if1 .taken)) (c .refuse .ensures)
 
 returns-2 : tie.Need-returns-2
 unfolding literal-step

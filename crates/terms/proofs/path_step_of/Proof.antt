@@ -12,12 +12,12 @@ add-at c = search needs
 path-code-requires : tie.Need-path-code-requires
 path-code-requires c κs = search needs
 
-stop-requires : tie.Need-stop-requires
-stop-requires c κs = search needs
+refuse-requires : tie.Need-refuse-requires
+refuse-requires c κs = search needs
 
 returns : tie.Need-returns
 unfolding path-step
-returns c = rw (← c .before .before .path-code .ensures, ne-eqb _ _ (c .before .if1 .taken)) (c .stop .ensures)
+returns c = rw (← c .before .before .path-code .ensures, ne-eqb _ _ (c .before .if1 .taken)) (c .refuse .ensures)
 
 byte-requires : tie.Need-byte-requires
 byte-requires c κs = search needs
@@ -42,7 +42,14 @@ keep-path-requires c κs = search needs
 
 returns-2 : tie.Need-returns-2
 unfolding path-step
-returns-2 c = rw (← c .before .before .before .before .before .path-code .ensures, eq-eqb _ _ (c .before .before .before .before .if1 .left), ← c .before .before .before .byte .ensures .0, ← c .before .before .path-word .ensures, ← c .before .advance .ensures, c .keep-path .ensures) refl
+returns-2 c = rw (
+  ← c .before .before .before .before .before .path-code .ensures,
+  eq-eqb _ _ (c .before .before .before .before .if1 .left),
+  ← c .before .before .before .byte .ensures .0,
+  ← c .before .before .path-word .ensures,
+  ← c .before .advance .ensures,
+  c .keep-path .ensures,
+) refl
 
 pub path-step-of-spec : {M : Type 1} → statement M
 path-step-of-spec =
@@ -50,7 +57,7 @@ path-step-of-spec =
     (tie.spec
     add-at
     path-code-requires
-    stop-requires
+    refuse-requires
     returns
     byte-requires
     path-word-requires

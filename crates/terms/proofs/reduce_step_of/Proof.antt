@@ -15,19 +15,24 @@ byte-requires c κs = search needs
 code-of-requires : tie.Need-code-of-requires
 code-of-requires c κs = search needs
 
-stop-requires : tie.Need-stop-requires
-stop-requires c κs = search needs
+refuse-requires : tie.Need-refuse-requires
+refuse-requires c κs = search needs
 
 returns : tie.Need-returns
 unfolding reduce-step
-returns c = rw (← c .before .before .before .byte .ensures .0, ← c .before .before .code-of .ensures, ne-eqb _ _ (c .before .if1 .taken)) (c .stop .ensures)
+returns c = rw (← c .before .before .before .byte .ensures .0, ← c .before .before .code-of .ensures, ne-eqb _ _ (c .before .if1 .taken)) (c .refuse .ensures)
 
-stop-requires-2 : tie.Need-stop-requires-2
-stop-requires-2 c κs = search needs
+refuse-requires-2 : tie.Need-refuse-requires-2
+refuse-requires-2 c κs = search needs
 
 returns-2 : tie.Need-returns-2
 unfolding reduce-step
-returns-2 c = rw (← c .before .before .before .before .byte .ensures .0, ← c .before .before .before .code-of .ensures, eq-eqb _ _ (c .before .before .if1 .left), le-leb _ _ (c .before .if2 .taken)) (c .stop2 .ensures)
+returns-2 c = rw (
+  ← c .before .before .before .before .byte .ensures .0,
+  ← c .before .before .before .code-of .ensures,
+  eq-eqb _ _ (c .before .before .if1 .left),
+  le-leb _ _ (c .before .if2 .taken),
+) (c .refuse2 .ensures)
 
 add-advance : tie.Need-add-advance
 add-advance c = search needs
@@ -40,7 +45,13 @@ add-next c = search needs
 
 returns-3 : tie.Need-returns-3
 unfolding reduce-step
-returns-3 c = rw (← c .before .before .before .before .byte .ensures .0, ← c .before .before .before .code-of .ensures, eq-eqb _ _ (c .before .before .if1 .left), lt-leb _ _ (c .before .if2 .left), c .advance .ensures) refl
+returns-3 c = rw (
+  ← c .before .before .before .before .byte .ensures .0,
+  ← c .before .before .before .code-of .ensures,
+  eq-eqb _ _ (c .before .before .if1 .left),
+  lt-leb _ _ (c .before .if2 .left),
+  c .advance .ensures,
+) refl
 
 pub reduce-step-of-spec : {M : Type 1} → statement M
 reduce-step-of-spec =
@@ -49,9 +60,9 @@ reduce-step-of-spec =
     add-at
     byte-requires
     code-of-requires
-    stop-requires
+    refuse-requires
     returns
-    stop-requires-2
+    refuse-requires-2
     returns-2
     add-advance
     advance-requires

@@ -42,4 +42,5 @@ returns-3 c =
     (rw (l .inv .1, e) refl, omega arith)
 
 pub slot-spec : {M : Type 1} → statement M
-slot-spec = tie.close (tie.spec Inv-loop μ-loop loop-holds returns (λ c. search needs) (λ c. search needs) returns-2 (λ c. search needs) (λ c. search needs) loop-again returns-3)
+slot-spec = tie.close (tie.spec Inv-loop μ-loop loop-holds returns (λ c. search needs) (λ c. search needs) returns-2 (λ c. search needs)
+    (λ c. search needs) loop-again returns-3)

@@ -18,7 +18,8 @@ use Rattle.progress.specs.Progress.{blank}
 use Rattle.terms.proofs.Laws.{accepted-as}
 use Rattle.term_text.specs.Text.{path-number}
 use Rattle.wire.proofs.Past.{getD-any}
-use Rattle.term_text.proofs.Paths.{code-range, code-zero, drop-at, key-known, key-zero, legal-parts, nth, present, source-range, source-small, source-zero, two-bytes}
+use Rattle.term_text.proofs.Paths.{code-range, code-zero, drop-at, key-known, key-zero, legal-parts, nth, present, source-range, source-small, source-zero}
+use Rattle.term_text.proofs.Paths.{two-bytes}
 use Rattle.term_text.proofs.Steps.{drop-on, there}
 use Rattle.term_text.proofs.Table.{Further, Table}
 use Rattle.walks.specs.Keys.{all-known, early, in-order, known, legal-keys}
@@ -27,13 +28,13 @@ use Rattle.walks.proofs.Tests.{and-both, and-left, and-right}
 use Rattle.wire.specs.Header.{then}
 use Rattle.wire.specs.Wire.{Bytes}
 use Rattle.wire.proofs.Codes.{then-both, then-zero}
-use Rattle.plan.specs.Plan.{filler-code, row-code, row-step, row-word, rows-scan, slot-code}
-use Rattle.plan.specs.Text.{row-bytes, rows-bytes}
+use Rattle.plan.specs.Plan.{filler-code, listed-code, listed-step, listed-word, listed-scan, slot-code}
+use Rattle.plan.specs.Text.{listed-bytes, all-listed-bytes}
 
 -- "c chains of 6 bytes"
-pub rows-size : (cs : List PathReduction) → length (rows-bytes cs) ≡ 6 * length cs
-rows-size [] = refl
-rows-size (c ∷ cs) = omega (arith, rows-size cs)
+pub listed-size : (cs : List PathReduction) → length (all-listed-bytes cs) ≡ 6 * length cs
+listed-size [] = refl
+listed-size (c ∷ cs) = omega (arith, listed-size cs)
 
 -- a filler byte that is not refused is 0
 pub filler-zero : (b : ℕ) → filler-code b ≡ 0 → b ≡ 0
@@ -50,7 +51,8 @@ Three ks a b c = (getD ks 0 0 ≡ a) × (getD ks 1 0 ≡ b) × (getD ks 2 0 ≡ 
 
 module _ (s : List ℕ) where
   -- the codes of the key bytes a, b, c, as a legal list of keys
-  keys-fine : (ks : List ℕ) → T (legal-keys ks) → (slot-code (length ks) 0 (getD ks 0 0) ≡ 0) × (slot-code (length ks) 1 (getD ks 1 0) ≡ 0) × (slot-code (length ks) 2 (getD ks 2 0) ≡ 0)
+  keys-fine : (ks : List ℕ) → T (legal-keys ks)
+      → (slot-code (length ks) 0 (getD ks 0 0) ≡ 0) × (slot-code (length ks) 1 (getD ks 1 0) ≡ 0) × (slot-code (length ks) 2 (getD ks 2 0) ≡ 0)
   keys-fine ks t = go ks (legal-parts ks t)
     where
       go : (ks : List ℕ) → T (leb 1 (length ks)) × T (leb (length ks) 3) × T (all-known ks) × T (in-order ks)
@@ -83,7 +85,8 @@ module _ (s : List ℕ) where
       let j = key-known b true y in (
         a ∷ b ∷ [],
         refl,
-        and-both (known a && (known b && true)) (early a && true) (and-both (known a) (known b && true) (k .0) (and-both (known b) true (j .0) tt)) (and-both (early a) true (k .1) tt),
+        and-both (known a && (known b && true)) (early a && true) (and-both (known a) (known b && true) (k .0) (and-both (known b) true (j .0) tt))
+            (and-both (early a) true (k .1) tt),
         (refl, refl, sym (filler-zero c z)),
       )
   keys-back (suc (suc (suc zero))) a b c lo hi x y z =
@@ -99,26 +102,40 @@ module _ (s : List ℕ) where
       )
   keys-back (suc (suc (suc (suc n)))) a b c lo hi x y z = absurd (omega arith)
 
-  module _ (c : PathReduction) (fits : PathFits 256 c) (i : ℕ) (rest : List ℕ) (e : drop i s ≡ row-bytes c ++ rest) where
-    -- a byte of the row
-    at : (j k x : ℕ) → k ≡ i + j → getD (row-bytes c ++ rest) j 256 ≡ x → getD s k 256 ≡ x
+  module _ (c : PathReduction) (fits : PathFits 256 c) (i : ℕ) (rest : List ℕ) (e : drop i s ≡ listed-bytes c ++ rest) where
+    -- one of its bytes
+    at : (j k x : ℕ) → k ≡ i + j → getD (listed-bytes c ++ rest) j 256 ≡ x → getD s k 256 ≡ x
     at j k x p q = rw (nth s i j k 256 p, e) q
 
     -- the bytes of a legal one are accepted, and give its number
-    row-accepted : row-code s i ≡ 0
-    unfolding row-code
-    row-accepted =
+    listed-accepted : listed-code s i ≡ 0
+    unfolding listed-code
+    listed-accepted =
         let k = keys-fine (c .keys) (fits .0) in
         let p = legal-parts (c .keys) (fits .0) in
         let n = length (c .keys) in
-        rw (at 0 i n (omega arith) refl, at 1 (i + 1) (getD (c .keys) 0 0) refl refl, at 2 (i + 2) (getD (c .keys) 1 0) refl refl, at 3 (i + 3) (getD (c .keys) 2 0) refl refl, at 4 (i + 4) (c .source % 256) refl refl, at 5 (i + 5) (c .source / 256 % 256) refl refl)
+        rw (
+          at 0 i n (omega arith) refl,
+          at 1 (i + 1) (getD (c .keys) 0 0) refl refl,
+          at 2 (i + 2) (getD (c .keys) 1 0) refl refl,
+          at 3 (i + 3) (getD (c .keys) 2 0) refl refl,
+          at 4 (i + 4) (c .source % 256) refl refl,
+          at 5 (i + 5) (c .source / 256 % 256) refl refl,
+        )
         (then-zero _ _ (code-zero n 3 (leb→le 1 n (p .0)) (leb→le n 3 (p .1)) (omega arith))
         (then-zero _ _ (k .0) (then-zero _ _ (k .1) (then-zero _ _ (k .2) (source-zero (c .source) (fits .1))))))
 
-    row-numbered : row-word s i ≡ path-number c
-    unfolding row-word
-    row-numbered =
-        rw (at 0 i (length (c .keys)) (omega arith) refl, at 1 (i + 1) (getD (c .keys) 0 0) refl refl, at 2 (i + 2) (getD (c .keys) 1 0) refl refl, at 3 (i + 3) (getD (c .keys) 2 0) refl refl, at 4 (i + 4) (c .source % 256) refl refl, at 5 (i + 5) (c .source / 256 % 256) refl refl)
+    listed-numbered : listed-word s i ≡ path-number c
+    unfolding listed-word
+    listed-numbered =
+        rw (
+          at 0 i (length (c .keys)) (omega arith) refl,
+          at 1 (i + 1) (getD (c .keys) 0 0) refl refl,
+          at 2 (i + 2) (getD (c .keys) 1 0) refl refl,
+          at 3 (i + 3) (getD (c .keys) 2 0) refl refl,
+          at 4 (i + 4) (c .source % 256) refl refl,
+          at 5 (i + 5) (c .source / 256 % 256) refl refl,
+        )
         (omega (arith, source-small c fits))
 
   next-byte : (i j : ℕ) → i < length s → i + 1 ≡ j → drop i s ≡ getD s i 256 ∷ drop j s
@@ -136,9 +153,9 @@ module _ (s : List ℕ) where
       ∙ ap (λ (l : List ℕ). getD s (i + 4) 256 ∷ l) (next-byte (i + 5) (i + 6) h (omega arith))))))
 
   -- accepted bytes are those of a legal one
-  row-found : Bytes s → (i : ℕ) → row-code s i ≡ 0 → (c : PathReduction) × PathFits 256 c × (drop i s ≡ row-bytes c ++ drop (i + 6) s)
-  unfolding row-code
-  row-found bytes i e =
+  listed-found : Bytes s → (i : ℕ) → listed-code s i ≡ 0 → (c : PathReduction) × PathFits 256 c × (drop i s ≡ listed-bytes c ++ drop (i + 6) s)
+  unfolding listed-code
+  listed-found bytes i e =
       let n = getD s i 256 in
       let a = getD s (i + 1) 256 in
       let b = getD s (i + 2) 256 in
@@ -163,22 +180,37 @@ module _ (s : List ℕ) where
       )
 
 -- n bytes further, with the path reductions cs and no more terms
-abbrev pub RowsHeld : Progress → Progress → List PathReduction → ℕ → Type 0
-RowsHeld w w′ cs n = Further w w′ cs n (w .terms) (w .reductions)
+abbrev pub ListedHeld : Progress → Progress → List PathReduction → ℕ → Type 0
+ListedHeld w w′ cs n = Further w w′ cs n (w .terms) (w .reductions)
 
 module _ (s : List ℕ) where
   -- one more is held
-  row-held : (w : Progress) (cs : List PathReduction) (c : PathReduction) → w .code ≡ 0 → Table w cs → PathFits 256 c → w .at < length s → row-code s (w .at) ≡ 0
-      → row-word s (w .at) ≡ path-number c → suc (length cs) ≤ 8 → RowsHeld w (row-step s w) (cs ++ (c ∷ [])) 6
-  unfolding row-step
-  row-held w cs c z t f h code word l =
-      let made : row-step s w ≡ record { code = w .code; at = w .at + 6; terms = w .terms; paths = w .paths + 1; reductions = w .reductions; table = set (w .table) (w .paths) (path-number c) } =
+  listed-held : (w : Progress) (cs : List PathReduction) (c : PathReduction) → w .code ≡ 0 → Table w cs → PathFits 256 c → w .at < length s
+      → listed-code s (w .at) ≡ 0
+      → listed-word s (w .at) ≡ path-number c → suc (length cs) ≤ 8 → ListedHeld w (listed-step s w) (cs ++ (c ∷ [])) 6
+  unfolding listed-step
+  listed-held w cs c z t f h code word l =
+      let made : listed-step s w ≡ record {
+        code = w .code;
+        at = w .at + 6;
+        terms = w .terms;
+        paths = w .paths + 1;
+        reductions = w .reductions;
+        table = set (w .table) (w .paths) (path-number c);
+      } =
       rw (lt-leb (length s) (w .at) h, code, lt-leb 8 (w .paths) (omega (arith, t .count)), word) refl in
-      subst (λ (v : Progress). RowsHeld w v (cs ++ (c ∷ [])) 6) (sym made)
+      subst (λ (v : Progress). ListedHeld w v (cs ++ (c ∷ [])) 6) (sym made)
       (record { code = z; at = refl; terms = refl; reductions = refl; table = stored (t .rest) (t .holds) })
     where
       stored : (rest : List ℕ) → w .table ≡ map path-number cs ++ rest
-          → Table (record { code = w .code; at = w .at + 6; terms = w .terms; paths = w .paths + 1; reductions = w .reductions; table = set (w .table) (w .paths) (path-number c) }) (cs ++ (c ∷ []))
+          → Table (record {
+            code = w .code;
+            at = w .at + 6;
+            terms = w .terms;
+            paths = w .paths + 1;
+            reductions = w .reductions;
+            table = set (w .table) (w .paths) (path-number c);
+          }) (cs ++ (c ∷ []))
       stored [] h = absurd (omega (arith, t .size, ap length h, length-append (map path-number cs) [], length-map cs path-number))
       stored (x ∷ rest) h = record {
         legal = all-append (PathFits 256) cs (c ∷ []) (t .legal) (f, tt);
@@ -195,17 +227,20 @@ module _ (s : List ℕ) where
       }
 
   -- the bytes of legal path reductions are read as they
-  pub rows-complete : (ds : List PathReduction) (w : Progress) (cs : List PathReduction) (rest : List ℕ) → w .code ≡ 0 → Table w cs → All (PathFits 256) ds
-      → drop (w .at) s ≡ rows-bytes ds ++ rest → length cs + length ds ≤ 8 → RowsHeld w (rows-scan (length ds) s w) (cs ++ ds) (length (rows-bytes ds))
-  unfolding rows-scan
-  rows-complete [] w cs rest z t f e l =
+  pub listed-complete : (ds : List PathReduction) (w : Progress) (cs : List PathReduction) (rest : List ℕ) → w .code ≡ 0 → Table w cs → All (PathFits 256) ds
+      → drop (w .at) s ≡ all-listed-bytes ds ++ rest → length cs + length ds ≤ 8
+      → ListedHeld w (listed-scan (length ds) s w) (cs ++ ds) (length (all-listed-bytes ds))
+  unfolding listed-scan
+  listed-complete [] w cs rest z t f e l =
       record { code = z; at = omega arith; terms = refl; reductions = refl; table = subst (Table w) (sym (append-nil cs)) t }
-  rows-complete (d ∷ ds) w cs rest z t f e l =
-      let e1 : drop (w .at) s ≡ row-bytes d ++ (rows-bytes ds ++ rest) = e ∙ append-assoc (row-bytes d) (rows-bytes ds) rest in
+  listed-complete (d ∷ ds) w cs rest z t f e l =
+      let e1 : drop (w .at) s ≡ listed-bytes d ++ (all-listed-bytes ds ++ rest) = e ∙ append-assoc (listed-bytes d) (all-listed-bytes ds) rest in
       let h = there s (w .at) (length (d .keys)) _ e1 in
-      let a = row-held w cs d z t (f .0) h (row-accepted s d (f .0) (w .at) (rows-bytes ds ++ rest) e1) (row-numbered s d (f .0) (w .at) (rows-bytes ds ++ rest) e1) (omega arith) in
-      let e2 : drop (row-step s w .at) s ≡ rows-bytes ds ++ rest = ap (λ (i : ℕ). drop i s) (a .at) ∙ drop-on s (w .at) 6 (row-bytes d) (rows-bytes ds ++ rest) e1 refl in
-      let b = rows-complete ds (row-step s w) (cs ++ (d ∷ [])) rest (a .code) (a .table) (f .1) e2 (omega (arith, length-append cs (d ∷ []))) in
+      let a = listed-held w cs d z t (f .0) h (listed-accepted s d (f .0) (w .at) (all-listed-bytes ds ++ rest) e1)
+      (listed-numbered s d (f .0) (w .at) (all-listed-bytes ds ++ rest) e1) (omega arith) in
+      let e2 : drop (listed-step s w .at) s ≡ all-listed-bytes ds ++ rest =
+      ap (λ (i : ℕ). drop i s) (a .at) ∙ drop-on s (w .at) 6 (listed-bytes d) (all-listed-bytes ds ++ rest) e1 refl in
+      let b = listed-complete ds (listed-step s w) (cs ++ (d ∷ [])) rest (a .code) (a .table) (f .1) e2 (omega (arith, length-append cs (d ∷ []))) in
       let more = append-snoc cs d ds in
       rw (eq-eqb (w .code) 0 z)
       (record {
@@ -213,43 +248,44 @@ module _ (s : List ℕ) where
         at = omega (arith, b .at, a .at);
         terms = b .terms ∙ a .terms;
         reductions = b .reductions ∙ a .reductions;
-        table = subst (Table (rows-scan (length ds) s (row-step s w))) more (b .table);
+        table = subst (Table (listed-scan (length ds) s (listed-step s w))) more (b .table);
       })
 
-  rows-refused : (k : ℕ) (w : Progress) → (w .code ≡ 0 → ⊥) → rows-scan k s w ≡ w
-  unfolding rows-scan
-  rows-refused zero w n = refl
-  rows-refused (suc k) w n = rw (ne-eqb (w .code) 0 n) refl
+  listed-refused : (k : ℕ) (w : Progress) → (w .code ≡ 0 → ⊥) → listed-scan k s w ≡ w
+  unfolding listed-scan
+  listed-refused zero w n = refl
+  listed-refused (suc k) w n = rw (ne-eqb (w .code) 0 n) refl
 
   -- and what is read are the bytes of legal ones
-  pub rows-sound : Bytes s → (k : ℕ) (w : Progress) (cs : List PathReduction) → w .code ≡ 0 → Table w cs → length cs + k ≤ 8 → rows-scan k s w .code ≡ 0
-      → (ds : List PathReduction) × (rest : List ℕ) × (length ds ≡ k) × All (PathFits 256) ds × (drop (w .at) s ≡ rows-bytes ds ++ rest)
-  unfolding rows-scan row-step blank
-  rows-sound bytes zero w cs z t l e = ([], drop (w .at) s, refl, tt, refl)
-  rows-sound bytes (suc k) w cs z t l e = go (leb (length s) (w .at)) (eqb (row-code s (w .at)) 0) refl refl (rows-sound bytes k)
+  pub listed-sound : Bytes s → (k : ℕ) (w : Progress) (cs : List PathReduction) → w .code ≡ 0 → Table w cs → length cs + k ≤ 8 → listed-scan k s w .code ≡ 0
+      → (ds : List PathReduction) × (rest : List ℕ) × (length ds ≡ k) × All (PathFits 256) ds × (drop (w .at) s ≡ all-listed-bytes ds ++ rest)
+  unfolding listed-scan listed-step blank
+  listed-sound bytes zero w cs z t l e = ([], drop (w .at) s, refl, tt, refl)
+  listed-sound bytes (suc k) w cs z t l e = go (leb (length s) (w .at)) (eqb (listed-code s (w .at)) 0) refl refl (listed-sound bytes k)
     where
-      on : rows-scan k s (row-step s w) .code ≡ 0
+      on : listed-scan k s (listed-step s w) .code ≡ 0
       on = rw (eq-eqb (w .code) 0 z) at e
 
-      stops : (n : ℕ) → (n ≡ 0 → ⊥) → row-step s w ≡ blank n → ⊥
-      stops n f p = f (accepted-as (ap (rows-scan k s) p ∙ rows-refused k (blank n) f) on)
+      stops : (n : ℕ) → (n ≡ 0 → ⊥) → listed-step s w ≡ blank n → ⊥
+      stops n f p = f (accepted-as (ap (listed-scan k s) p ∙ listed-refused k (blank n) f) on)
 
-      go : (a b : Bool) → leb (length s) (w .at) ≡ a → eqb (row-code s (w .at)) 0 ≡ b
-          → ((w : Progress) (cs : List PathReduction) → w .code ≡ 0 → Table w cs → length cs + k ≤ 8 → rows-scan k s w .code ≡ 0
-          → (ds : List PathReduction) × (rest : List ℕ) × (length ds ≡ k) × All (PathFits 256) ds × (drop (w .at) s ≡ rows-bytes ds ++ rest))
-          → (ds : List PathReduction) × (rest : List ℕ) × (length ds ≡ suc k) × All (PathFits 256) ds × (drop (w .at) s ≡ rows-bytes ds ++ rest)
+      go : (a b : Bool) → leb (length s) (w .at) ≡ a → eqb (listed-code s (w .at)) 0 ≡ b
+          → ((w : Progress) (cs : List PathReduction) → w .code ≡ 0 → Table w cs → length cs + k ≤ 8 → listed-scan k s w .code ≡ 0
+          → (ds : List PathReduction) × (rest : List ℕ) × (length ds ≡ k) × All (PathFits 256) ds × (drop (w .at) s ≡ all-listed-bytes ds ++ rest))
+          → (ds : List PathReduction) × (rest : List ℕ) × (length ds ≡ suc k) × All (PathFits 256) ds × (drop (w .at) s ≡ all-listed-bytes ds ++ rest)
       go true b p q ih = absurd (stops 1 (λ x. omega arith) (rw p refl))
-      go false false p q ih = absurd (stops (row-code s (w .at)) (eqb-false (row-code s (w .at)) 0 q) (rw (p, q) refl))
+      go false false p q ih = absurd (stops (listed-code s (w .at)) (eqb-false (listed-code s (w .at)) 0 q) (rw (p, q) refl))
       go false true p q ih =
           let h = leb-false (length s) (w .at) p in
-          let f = row-found s bytes (w .at) (eqb-true (row-code s (w .at)) 0 q) in
-          let a = row-held w cs (f .0) z t (f .1) h (eqb-true (row-code s (w .at)) 0 q) (row-numbered s (f .0) (f .1) (w .at) (drop (w .at + 6) s) (f .2)) (omega arith) in
-          let r = ih (row-step s w) (cs ++ (f .0 ∷ [])) (a .code) (a .table) (omega (arith, length-append cs (f .0 ∷ []))) on in (
+          let f = listed-found s bytes (w .at) (eqb-true (listed-code s (w .at)) 0 q) in
+          let a = listed-held w cs (f .0) z t (f .1) h (eqb-true (listed-code s (w .at)) 0 q)
+          (listed-numbered s (f .0) (f .1) (w .at) (drop (w .at + 6) s) (f .2)) (omega arith) in
+          let r = ih (listed-step s w) (cs ++ (f .0 ∷ [])) (a .code) (a .table) (omega (arith, length-append cs (f .0 ∷ []))) on in (
             f .0 ∷ r .0,
             r .1,
             ap suc (r .2),
             (f .1, r .3),
             f .2
-                ∙ ap (λ (l : List ℕ). row-bytes (f .0) ++ l) (ap (λ (i : ℕ). drop i s) (sym (a .at)) ∙ r .4)
-                ∙ sym (append-assoc (row-bytes (f .0)) (rows-bytes (r .0)) (r .1)),
+                ∙ ap (λ (l : List ℕ). listed-bytes (f .0) ++ l) (ap (λ (i : ℕ). drop i s) (sym (a .at)) ∙ r .4)
+                ∙ sym (append-assoc (listed-bytes (f .0)) (all-listed-bytes (r .0)) (r .1)),
           )

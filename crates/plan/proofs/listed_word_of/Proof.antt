@@ -1,8 +1,8 @@
--- `plan::row_word_of` meets its contract. Assumes nothing.
+-- `plan::listed_word_of` meets its contract. Assumes nothing.
 use borrow.Author.Needs.{needs}
-use Rattle.plan.specs.Plan.{row-word}
-use Rattle.plan.proofs.row_word_of.Statement.{statement}
-use Rattle.plan.proofs.row_word_of.Tie as tie
+use Rattle.plan.specs.Plan.{listed-word}
+use Rattle.plan.proofs.listed_word_of.Statement.{statement}
+use Rattle.plan.proofs.listed_word_of.Tie as tie
 
 add-byte : tie.Need-add-byte
 add-byte c = search needs
@@ -41,11 +41,18 @@ pack-requires : tie.Need-pack-requires
 pack-requires c κs = search needs
 
 returns : tie.Need-returns
-unfolding row-word
-returns c = rw (← c .before .before .before .before .before .before .byte .ensures .0, ← c .before .before .before .before .before .byte2 .ensures .0, ← c .before .before .before .before .byte3 .ensures .0, ← c .before .before .before .byte4 .ensures .0, ← c .before .before .byte5 .ensures .0, ← c .before .byte6 .ensures .0) (c .pack .ensures)
+unfolding listed-word
+returns c = rw (
+  ← c .before .before .before .before .before .before .byte .ensures .0,
+  ← c .before .before .before .before .before .byte2 .ensures .0,
+  ← c .before .before .before .before .byte3 .ensures .0,
+  ← c .before .before .before .byte4 .ensures .0,
+  ← c .before .before .byte5 .ensures .0,
+  ← c .before .byte6 .ensures .0,
+) (c .pack .ensures)
 
-pub row-word-of-spec : {M : Type 1} → statement M
-row-word-of-spec =
+pub listed-word-of-spec : {M : Type 1} → statement M
+listed-word-of-spec =
     tie.close
     (tie.spec
     add-byte

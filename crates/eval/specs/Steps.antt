@@ -1,0 +1,88 @@
+-- The value of a plan's expression and the rows of its body by its bytes, as the program goes: entries at each vertex, their reductions, the final expression.
+-- Nothing to believe: `expression-value` (proofs/Tree) says that a value is that of the expression's tree, `body-value` (proofs/Body) that the rows are those
+-- of the plan's tree. F gives the values of the path reductions at a vertex, as eight rows.
+use Prim.Native.Nat.{ℕ, zero, suc, _+_, _-_, _*_, min}
+use mathlib.Core.Bool.{Bool, cond, _||_}
+use mathlib.Core.List.{List, [], _∷_, _++_, map}
+use lib.Dec.{leb, eqb}
+use lib.ListN.{length, getD, replicate}
+use Rattle.meaning.specs.Run.{tabulate}
+use Rattle.value.specs.declared.Value.{Value}
+use Rattle.value.specs.declared.Value.the-variants.{Absent, Number}
+use Rattle.value.specs.declared.Row.{Row}
+use Rattle.value.specs.Value.{operate, reduce, values}
+use Rattle.wire.specs.Wire.{at32}
+use Rattle.eval.specs.declared.Found.{Found}
+use Rattle.eval.specs.declared.Head.{Head}
+use Rattle.eval.specs.declared.Head.the-variants.{Leaf, Apply}
+
+-- either of two tags
+abbrev pub one-of : ℕ → ℕ → ℕ → Bool
+one-of tag a b = eqb tag a || eqb tag b
+
+-- a value, and where the next term starts
+abbrev pub found : Value → ℕ → Found
+found v next = record { value = v; next = next }
+
+-- "0x30 and a chain's index for a chain, 0x31 and an entry's index for a reduction; operators and literals keep their bytes": 0x11 or 0x21 and 32 bits, 0x12 or
+-- 0x22 and an operator; any other byte is absent
+unfoldable pub head : List ℕ → List Row → ℕ → Head
+head s rows at =
+    let tag = getD s at 0 in
+    cond (leb (length s) at) (Leaf (found Absent at))
+    (cond (one-of tag 0x30 0x31) (Leaf (found (getD (values rows) (getD s (at + 1) 0) Absent) (at + 2)))
+    (cond (one-of tag 0x11 0x21) (Leaf (found (Number (at32 s (at + 1))) (at + 5)))
+    (cond (one-of tag 0x12 0x22) (Apply (getD s (at + 1) 0) (at + 2)) (Leaf (found Absent at)))))
+
+-- "an operator joins the values of its two terms": `go` is the value of the term at a position
+unfoldable pub joined : (ℕ → Found) → Head → Found
+joined go (Leaf f) = f
+joined go (Apply o next) =
+    let a = go next in
+    let b = go (a .next) in
+    found (operate o (a .value) (b .value)) (b .next)
+
+-- the term at `at`, with so many levels of depth left
+unfoldable pub evaluated : ℕ → List ℕ → List Row → ℕ → Found
+evaluated zero s rows at = found Absent at
+evaluated (suc left) s rows at = joined (evaluated left s rows) (head s rows at)
+
+-- "an answer row holds one"
+abbrev pub row : Value → Row
+row v = record { value = v }
+
+-- values as eight rows, absent ones behind them
+abbrev pub eight : List Value → List Row
+eight vs = map row vs ++ replicate (8 - length vs) (row Absent)
+
+-- where an expression ends
+unfoldable pub expression-end : List ℕ → ℕ → ℕ
+expression-end s at = evaluated 16 s (eight []) at .next
+
+-- the expression at `at`, at each of the n vertices
+unfoldable pub entry-rows : List ℕ → ℕ → (ℕ → List Row) → ℕ → List Row
+entry-rows s at F n = tabulate n zero (λ v. row (evaluated 16 s (F v) at .value))
+
+-- "e entries, each a reduction byte and an expression": their results, "over all n places", the first entry at `at`
+unfoldable pub results : ℕ → List ℕ → ℕ → (ℕ → List Row) → ℕ → List Value
+results zero s at F n = []
+results (suc k) s at F n = reduce (getD s at 0) (values (entry-rows s (at + 1) F n)) ∷ results k s (expression-end s (at + 1)) F n
+
+-- where k entries end, the first at `at`
+unfoldable pub entries-end : ℕ → List ℕ → ℕ → ℕ
+entries-end zero s at = at
+entries-end (suc k) s at = entries-end k s (expression-end s (at + 1))
+
+-- where the entry count of a plan stands: behind the kind byte, the "chain count c" and "c chains of 6 bytes"
+abbrev pub count-at : List ℕ → ℕ
+count-at s = 7 + 6 * getD s 6 0
+
+-- the value of the final expression, over the results of k entries that start at `at`
+unfoldable pub final-found : ℕ → List ℕ → ℕ → (ℕ → List Row) → ℕ → Value
+final-found k s at F n = evaluated 16 s (eight (results k s at F n)) (entries-end k s at) .value
+
+-- kind 0: the rows of the one entry; kind 1: "one row", the final expression over the results of the entries, "e from 0 to 8": a larger count is cut
+unfoldable pub body-found : List ℕ → (ℕ → List Row) → ℕ → List Row
+body-found s F n =
+    let at = count-at s in
+    cond (eqb (getD s 5 0) 0) (entry-rows s (at + 2) F n) (row (final-found (min (getD s at 0) 8) s (at + 1) F n) ∷ [])

@@ -1,0 +1,13 @@
+-- `query::term_kind` meets its contract. Assumes nothing.
+use borrow.Author.Tests.{eq-eqb, ne-eqb}
+use Rattle.query.proofs.term_kind.Statement.{statement}
+use Rattle.query.proofs.term_kind.Tie as tie
+
+returns : tie.Need-returns
+returns c = rw (eq-eqb _ _ (c .if1 .taken))
+
+returns-2 : tie.Need-returns-2
+returns-2 c = rw (ne-eqb _ _ (c .if1 .left))
+
+pub term-kind-spec : {M : Type 1} → statement M
+term-kind-spec = tie.close (tie.spec returns returns-2)

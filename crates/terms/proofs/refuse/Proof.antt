@@ -1,0 +1,11 @@
+-- `terms::refuse` meets its contract. Assumes nothing.
+use borrow.Author.Needs.{needs}
+use mathlib.Core.Path.{refl}
+use Rattle.terms.proofs.refuse.Statement.{statement}
+use Rattle.terms.proofs.refuse.Tie as tie
+
+returns : tie.Need-returns
+returns c = rw (c .blank-of .ensures) refl
+
+pub refuse-spec : {M : Type 1} → statement M
+refuse-spec = tie.close (tie.spec (λ c κs. search needs) returns)

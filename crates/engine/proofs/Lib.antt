@@ -2,3 +2,4 @@ pub mod Sources
 pub mod Numbers
 pub mod Meant
 pub mod Table
+pub mod Every

@@ -22,7 +22,7 @@ use Rattle.plan.specs.Plan.{plan-code, plan-scan}
 use Rattle.plan.specs.Text.{encode, kind-of}
 use Rattle.plan.specs.Tree.{plan-of}
 use Rattle.plan.proofs.Exact.{read-complete}
-use Rattle.plan.proofs.Tree.{plan-read}
+use Rattle.plan.proofs.Tree.{plan-back, plan-read}
 use Rattle.eval.specs.Steps.{body-found}
 use Rattle.rows.specs.Steps.{body-count, many, rows-at}
 use Rattle.rows.proofs.Exact.{Holds, answer-rows, rows-length}
@@ -156,10 +156,12 @@ run-passed limit s m bytes room n = go (eqb (run-code (plan-scan s) m) 0) refl
     go true e = eqb-true (run-code (plan-scan s) m) 0 e
     go false e = absurd (n _ (run-refused limit s m bytes room _ refl (eqb-false (run-code (plan-scan s) m) 0 e)))
 
--- A LEGAL PLAN ON AN ACCEPTED MAP THAT HAS ITS STARTS is not refused before 15
-pub run-accepted : (s m : List ℕ) → Bytes s → plan-code s ≡ 0 → graph-code m ≡ 0 → All (PathFits (at16 m 5)) (plan-of s .paths) → run-code (plan-scan s) m ≡ 0
-unfolding run-code
-run-accepted s m bytes plan-ok graph-ok fits = rw (plan-ok, graph-ok, paths-read s bytes plan-ok) (sources-accepted (at16 m 5) (plan-of s .paths) fits)
+-- A LEGAL PLAN ON AN ACCEPTED MAP THAT HAS ITS STARTS: the reply is the encoding of its outcome, where it fits
+pub run-answers : (p : Plan) → PlanLegal 256 p → (m : List ℕ) → graph-code m ≡ 0 → All (PathFits (at16 m 5)) (p .paths) → (limit : Limit) (room : ℕ)
+    → run-reply limit (encode p) m room ≡ fitted (answer.encode (at16 m 5) (kind-of (p .body)) (outcome limit (graph-of m) p)) room
+unfolding run-reply
+run-answers p legal m graph-ok fits limit room =
+    rw (read-complete p legal .accepted, graph-ok, plan-back p legal, sources-accepted (at16 m 5) (p .paths) fits) refl
 
 -- ---- the program's reply, where nothing is refused before 15
 

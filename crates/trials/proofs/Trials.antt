@@ -4,28 +4,39 @@ use mathlib.Core.List.{map}
 use Rattle.meaning.specs.Run.{pull, push, run, stopped}
 use Rattle.query.specs.Query.{query-code, query-scan}
 use Rattle.query.specs.Tree.{query-of}
-use Rattle.plan.specs.Plan.{body-scan, plan-code, entries-scan, entry-scan, final-scan, moved, plan-scan, row-code, row-step, row-word, rows-scan}
+use Rattle.plan.specs.Plan.{body-scan, plan-code, entries-scan, entry-scan, final-scan, moved, plan-scan, listed-code, listed-scan, listed-step, listed-word}
 use Rattle.fusion.specs.Fusion.{fuse-reply}
 use Rattle.term_text.specs.Tree.{path-of, reduction-of, term-of}
 use Rattle.wire.specs.Wire.{done}
 use Rattle.path_fields.specs.Paths.{keys-code, path-code, path-word}
-use Rattle.terms.specs.Terms.{advanced, kept-path, leaf-step, leaf-tag, literal-tag, path-step, read, reduce-step, index-step, literal-step, slot-of, term-step}
+use Rattle.terms.specs.Terms.{
+  advanced,
+  kept-path,
+  leaf-step,
+  leaf-tag,
+  literal-tag,
+  path-step,
+  read,
+  reduce-step,
+  index-step,
+  literal-step,
+  slot-of,
+  term-step,
+}
 use Rattle.progress.specs.Progress.{blank, ended, started}
 use Rattle.value.specs.declared.Value.{Value}
 use Rattle.value.specs.Value.{combine, compute}
 use Rattle.walks.specs.Keys.{row}
 use Rattle.walks.specs.Rounds.{best, first, gather, marked, rounds, state}
 use Rattle.wire.specs.Header.{header-code}
-use Rattle.trials.specs.Samples.{Run, outcome-by, queries, runs, samples, plans}
-use Rattle.trials.specs.Trials.{Fusing, Reading, Trial, found, fusings, readings, trials}
+use Rattle.trials.specs.Samples.{Reading, Run, outcome-by, queries, runs, samples, plans}
+use Rattle.trials.specs.Trials.{found, said, trials}
 
--- THE MARKED TRIALS: by pull, by push, what readers say, and what fusing gives
-pub marked-trials : (map (found pull) trials ≡ map (λ (t : Trial). t .expected) trials)
-    × (map (found push) trials ≡ map (λ (t : Trial). t .expected) trials)
-    × (map (λ (r : Reading). query-code (r .bytes)) readings ≡ map (λ (r : Reading). r .number) readings)
-    × (map (λ (f : Fusing). fuse-reply (f .query-bytes) 560) fusings ≡ map (λ (f : Fusing). done (f .plan-bytes)) fusings)
-unfolding run stopped rounds first state marked gather best row query-scan header-code ended started blank read term-step leaf-step leaf-tag literal-tag path-step path-code keys-code kept-path slot-of advanced path-word reduce-step fuse-reply query-of term-of path-of reduction-of compute combine
-marked-trials = (refl, refl, refl, refl)
+-- THE MARKED TRIALS HOLD: by pull and by push, what readers say, what fusing gives
+pub marked-trials : map found trials ≡ map said trials
+unfolding run stopped rounds first state marked gather best row query-scan header-code ended started blank read term-step leaf-step leaf-tag literal-tag
+    path-step path-code keys-code kept-path slot-of advanced path-word reduce-step fuse-reply query-of term-of path-of reduction-of compute combine
+marked-trials = refl
 
 -- operators and reductions
 pub samples-hold : map (λ (p : Value × Value). p .0) samples ≡ map (λ (p : Value × Value). p .1) samples
@@ -40,5 +51,7 @@ runs-hold = (refl, refl)
 -- the numbers that readers of questions and worksheets give
 pub numbers-hold : (map (λ (r : Reading). query-code (r .bytes)) queries ≡ map (λ (r : Reading). r .number) queries)
     × (map (λ (r : Reading). plan-code (r .bytes)) plans ≡ map (λ (r : Reading). r .number) plans)
-unfolding query-scan header-code ended started blank read term-step leaf-step leaf-tag literal-tag path-step path-code keys-code kept-path slot-of advanced path-word reduce-step index-step literal-step row plan-scan listed-scan listed-step listed-code listed-word body-scan moved entries-scan entry-scan final-scan
+unfolding query-scan header-code ended started blank read term-step leaf-step leaf-tag literal-tag path-step path-code keys-code kept-path slot-of advanced
+    path-word reduce-step index-step literal-step row plan-scan listed-scan listed-step listed-code listed-word body-scan moved entries-scan entry-scan
+    final-scan
 numbers-hold = (refl, refl)

@@ -10,7 +10,7 @@ use Rattle.value.specs.declared.Value.{Value}
 use Rattle.value.specs.declared.Value.the-variants.{Absent, Number}
 use Rattle.value.specs.Value.{operate, reduce}
 use Rattle.walks.specs.Walks.{Graph, edge}
-use Rattle.trials.specs.Trials.{Reading, graph-a}
+use Rattle.trials.specs.Trials.{graph-a}
 
 -- operators and reductions: the last number that fits, the first that does not, an absent operand, ties
 
@@ -108,7 +108,11 @@ runs =
     ∷ sample graph-a (each (leaf (path (2 ∷ []) 0))) (some 5) 5 (Number 0 ∷ Number 5 ∷ Number 2 ∷ Number 5 ∷ [])
     ∷ []
 
--- a question or a worksheet behind its header, with the number that reading it gives
+-- the bytes of a question or a worksheet, with the number that reading them gives
+pub record Reading : Type 0 where
+  pub bytes : List ℕ
+  pub number : ℕ
+
 abbrev headed : ℕ → List ℕ → ℕ → Reading
 headed letter l number = record { bytes = 0x4c ∷ 0x50 ∷ letter ∷ 0x01 ∷ 0x00 ∷ l; number = number }
 

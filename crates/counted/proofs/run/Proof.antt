@@ -17,6 +17,7 @@ use prog.Memory.{Memory}
 use prog.Routine.{Routine}
 use prog.Wp.{Heap, Calls, Loops, WpFn, Tables}
 use ghost.Atoms.{Atoms}
+use borrow.Author.Needs.{needs}
 use contract.Monad.{Fun, fact}
 use contract.Lifetimes.{Lfts, AllOutlive}
 use contract.Running.{givenOf, tables, tablesOf}
@@ -397,4 +398,4 @@ run-spec 𝓤 H 𝓜 𝓖 𝓡 =
     (tables 𝓤 H 𝓜 𝓡 code.env .C) (tables 𝓤 H 𝓜 𝓡 code.env .Λ) name code.function (code.unfolded 𝓤 H 𝓜 𝓡)
     (thin-meets 𝓤 H (𝓖 .A) (givenOf 𝓤 H 𝓜 𝓖) (𝓜 .mem) (𝓡 .run) _ _ _ (tablesOf 𝓤 H 𝓜 (tables 𝓤 H 𝓜 𝓡 code.env))
     (cited 𝓤 H (ByValue 𝓤 H (𝓖 .A) (𝓜 .mem) (𝓡 .run)) 𝓜 𝓡 code.env by-value-def.name by-value-def.routine code.calls-counted·by-value
-    (by-value-thm.met 𝓤 H 𝓜 𝓖 𝓡)) refl refl refl)
+    (by-value-thm.met 𝓤 H 𝓜 𝓖 𝓡)) (search needs) (search needs) (search needs))

@@ -9,4 +9,6 @@ slice-aggregate-run : tie.Need-slice-aggregate-run
 slice-aggregate-run c = simp length-take (omega arith)
 
 pub case-spec : {M : Type 1} → statement M
-case-spec = tie.close (tie.spec (λ c. search needs) slice-aggregate-run (λ c κs. search needs) (λ c κs. search needs) (λ c κs. search needs) (λ c. search needs))
+case-spec =
+    tie.close
+    (tie.spec (λ c. search needs) slice-aggregate-run (λ c κs. search needs) (λ c κs. search needs) (λ c κs. search needs) (λ c. search needs))

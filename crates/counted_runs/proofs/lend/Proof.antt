@@ -1,6 +1,6 @@
--- `counted_runs::lend` meets its contract: a walk of its MIR, by hand. The counters are copied into a local, which is lent to the counted run for a lifetime that the walk
--- makes; once that is over, what lies in the local are the counters that the run left, and they go into the result. All that the proof knows of the run is that it meets
--- its contract. Assumes nothing.
+-- `counted_runs::lend` meets its contract: a walk of its MIR, by hand. The counters are copied into a local, which is lent to the counted run for
+-- a lifetime that the walk makes; once that is over, what lies in the local are the counters that the run left, and they go into the result.
+-- All that the proof knows of the run is its contract. Assumes nothing.
 use mathlib.Core.Path.{_≡_, refl, ap}
 use Prim.Native.Nat.{ℕ, _<_, _^_}
 use mathlib.Core.List.{[], _∷_, List}
@@ -323,7 +323,8 @@ module _ {M : Type 1} (𝓤 : URA M) (H : Heap 𝓤) (A : Atoms 𝓤) (W : Given
           -- α is ended, and the local is had back
           move ! (1 ∷ []) $ split ! $ move ! (1 ∷ []) $ split ! $ move ! (1 ∷ []) $ split ! $ move ! (1 ∷ []) $ split ! $ lft-end ! tt $
           move ! (0 ∷ 13 ∷ 6 ∷ []) $
-          use3 W (later (‵ (mem T.the-row .lies (zs .1 .1 .1 .1 .1 .0) l₇ 0))) (ref-back 𝓤 H A W T.the-row (α ∷ []) γ (zs .1 .1 .1 .1 .1 .0) l₇ 0) $ await ! tt $
+          use3 W (later (‵ (mem T.the-row .lies (zs .1 .1 .1 .1 .1 .0) l₇ 0)))
+          (ref-back 𝓤 H A W T.the-row (α ∷ []) γ (zs .1 .1 .1 .1 .1 .0) l₇ 0) $ await ! tt $
           use1 W
           (given (Is T.the-row (zs .1 .1 .1 .1 .1 .0) (val-of (zs .1 .1 .1 .1 .1 .0) ∷ [])) (‵ (fat fullShare T′.mir l₇ 0 (val-of (zs .1 .1 .1 .1 .1 .0)))))
           (back 𝓤 H A W l₇ (zs .1 .1 .1 .1 .1 .0)) $ learn ! (λ d-is.
@@ -331,7 +332,8 @@ module _ {M : Type 1} (𝓤 : URA M) (H : Heap 𝓤) (A : Atoms 𝓤) (W : Given
           assigns ! (of-opd ! (load ! (from ! (stop !)) (look ! 0 refl))) (from ! (stop !))
           (init ! 12 refl (LL.lawful T.the-type T′.the-laws 𝓤 H A W .typed (zs .1 .1 .1 .1 .1 .0) _ d-is .0)) $
           assigns !
-          (agg ! (and-then ! (load ! (from ! (stop !)) (look ! 20 refl)) (and-then ! (load ! (from ! (stop !)) (look ! 12 refl)) (no-more !)))) (from ! (stop !))
+          (agg ! (and-then ! (load ! (from ! (stop !)) (look ! 20 refl)) (and-then ! (load ! (from ! (stop !)) (look ! 12 refl)) (no-more !))))
+          (from ! (stop !))
           (init ! 35 refl
           (LL.lawful E.the-type E′.the-laws 𝓤 H A W .typed (left n (zs .1 .1 .1 .1 .1 .0)) _ (left-is n (zs .1 .1 .1 .1 .1 .0) (is .1) d-is) .0)) $
           returns ! (look ! 35 refl) $

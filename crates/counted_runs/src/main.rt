@@ -1,5 +1,5 @@
-// Runs the cases below as counted runs and compares the number returned, the whole buffer and the tally with what was written down by hand
-// from document 01. Prints the first cases that differ, then how many there are and how many differ.
+// Makes the counted runs below, and compares the number returned, the whole buffer and the counters (document 01's tally) with what was
+// written down by hand from document 01. Prints which cases differ, then how many there are and how many differ.
 use counted::Way;
 use counters::Counters;
 use engine::Limit;
@@ -22,21 +22,22 @@ const REFUSED: u32 = 65536;
 // The bytes of an answer of one row.
 const ANSWER: usize = 19;
 
-// What is run: the marked worksheet on map A of document 01; or one of them where the other is due, a start that map A has not, a cut map.
+// What is run: the marked worksheet on map A of document 01; the map as the worksheet; the worksheet as the map; a worksheet whose start,
+// 9, the map has not; a map without its rows.
 const MARKED: u8 = 0;
 
-const MAP_FOR_PLAN: u8 = 1;
+const NO_PLAN: u8 = 1;
 
-const PLAN_FOR_MAP: u8 = 2;
+const NO_GRAPH: u8 = 2;
 
-const START_9: u8 = 3;
+const SOURCE_9: u8 = 3;
 
-const CUT_MAP: u8 = 4;
+const CUT: u8 = 4;
 
 // What a run left: its number, and the tally.
 struct Left {
     number: u32,
-    tally: Counters,
+    counters: Counters,
 }
 
 // What a run is to leave: its number, and of an answer the rounds and the result.
@@ -50,33 +51,40 @@ struct Wanted {
 struct Score {
     cases: u64,
     differences: u64,
-    tally: Counters,
+    counters: Counters,
 }
 
 // A counted run, with the tally in a local that is lent to it.
-fn lend(way: Way, plan: &[u8], graph: &[u8], limit: Limit, out: &mut [u8], tally: Counters) -> Left
+fn lend(
+    way: Way,
+    plan: &[u8],
+    graph: &[u8],
+    limit: Limit,
+    out: &mut [u8],
+    counters: Counters,
+) -> Left
     ensures { λ r. ⌜ Counted (run-reply limit (now (plan .entry)) (now (graph .entry)) (length (now (out .entry))))
-        (r .number) (now (out .entry)) (now (out .exit)) tally (r .tally) ⌝ }
+        (r .number) (now (out .entry)) (now (out .exit)) counters (r .counters) ⌝ }
 {
-    let mut lent = tally;
+    let mut lent = counters;
     let number = counted::run(way, plan, graph, limit, out, &mut lent);
     Left {
         number: number,
-        tally: lent,
+        counters: lent,
     }
 }
 
-fn run(files: u8, way: Way, limit: Limit, out: &mut [u8], tally: Counters) -> Left {
+fn run(files: u8, way: Way, limit: Limit, out: &mut [u8], counters: Counters) -> Left {
     let plan = b"LPW\x01\0\x01\x01\x01\x01\0\0\0\0\x01\x02\x30\0\x31\0";
-    let start_9 = b"LPW\x01\0\x01\x01\x01\x01\0\0\x09\0\x01\x02\x30\0\x31\0";
-    let map =
+    let source_9 = b"LPW\x01\0\x01\x01\x01\x01\0\0\x09\0\x01\x02\x30\0\x31\0";
+    let graph =
         b"LPM\x01\0\x04\0\x04\0\0\0\x01\0\x05\0\x0a\0\0\0\x02\0\x02\0\x04\0\x02\0\x01\0\x03\0\x14\0\x01\0\x03\0\0\0\x07\0";
     match files {
-        MARKED => lend(way, plan, map, limit, out, tally),
-        MAP_FOR_PLAN => lend(way, map, map, limit, out, tally),
-        PLAN_FOR_MAP => lend(way, plan, plan, limit, out, tally),
-        START_9 => lend(way, start_9, map, limit, out, tally),
-        _ => lend(way, plan, b"LPM\x01\0\x04\0\x04\0", limit, out, tally),
+        MARKED => lend(way, plan, graph, limit, out, counters),
+        NO_PLAN => lend(way, graph, graph, limit, out, counters),
+        NO_GRAPH => lend(way, plan, plan, limit, out, counters),
+        SOURCE_9 => lend(way, source_9, graph, limit, out, counters),
+        _ => lend(way, plan, b"LPM\x01\0\x04\0\x04\0", limit, out, counters),
     }
 }
 
@@ -116,7 +124,7 @@ fn same_bytes(out: &[u8; 24], w: Wanted) -> bool {
     true
 }
 
-fn same_tally(a: Counters, b: Counters) -> bool {
+fn same_counters(a: Counters, b: Counters) -> bool {
     if a.asked != b.asked {
         return false;
     }
@@ -130,14 +138,14 @@ fn same(left: Left, w: Wanted, after: Counters, out: &[u8; 24]) -> bool {
     if left.number != w.number {
         return false;
     }
-    let tally = left.tally;
-    if same_tally(tally, after) {
+    let counters = left.counters;
+    if same_counters(counters, after) {
         return same_bytes(out, w);
     }
     false
 }
 
-fn tally(asked: u64, answered: u64, refused: u64) -> Counters {
+fn counts(asked: u64, answered: u64, refused: u64) -> Counters {
     Counters {
         asked: asked,
         answered: answered,
@@ -146,11 +154,11 @@ fn tally(asked: u64, answered: u64, refused: u64) -> Counters {
 }
 
 // The cases go on from another tally.
-fn from(score: Score, tally: Counters) -> Score {
+fn from(score: Score, counters: Counters) -> Score {
     Score {
         cases: score.cases,
         differences: score.differences,
-        tally: tally,
+        counters: counters,
     }
 }
 
@@ -159,8 +167,8 @@ fn more(x: u64) -> u64 {
 }
 
 // One more case: what differs is named.
-fn scored(score: Score, same: bool, tally: Counters) -> Score {
-    let mut r = from(score, tally);
+fn scored(score: Score, same: bool, counters: Counters) -> Score {
+    let mut r = from(score, counters);
     r.cases = more(score.cases);
     if same {
         return r;
@@ -185,10 +193,10 @@ fn case(
     requires { ⌜ room ≤ 24 ⌝ }
 {
     let mut out = [FILL; 24];
-    let before = score.tally;
+    let before = score.counters;
     let left = run(files, way, limit, &mut out[..room], before);
-    let left_tally = left.tally;
-    scored(score, same(left, w, after, &out), left_tally)
+    let after_it = left.counters;
+    scored(score, same(left, w, after, &out), after_it)
 }
 
 // A run that is answered, and the tally after it.
@@ -222,35 +230,28 @@ fn refused(score: Score, files: u8, way: Way, limit: Limit, number: u32, after: 
 
 // Answers by pull and by push, quiet and stopped: the tally goes on from run to run.
 fn answers(score: Score) -> Score {
-    let mut s = from(score, tally(5, 3, 2));
-    s = answered(s, Way::Pull, Limit::Quiet, 3, 2, tally(6, 4, 2));
-    s = answered(s, Way::Push, Limit::Quiet, 3, 2, tally(7, 5, 2));
-    s = answered(s, Way::Pull, Limit::Rounds(0), 0, 0, tally(8, 6, 2));
-    s = answered(s, Way::Push, Limit::Rounds(0), 0, 0, tally(9, 7, 2));
-    s = answered(s, Way::Pull, Limit::Rounds(1), 1, 1, tally(10, 8, 2));
-    s = answered(s, Way::Push, Limit::Rounds(1), 1, 1, tally(11, 9, 2));
-    s = answered(s, Way::Pull, Limit::Rounds(5), 5, 2, tally(12, 10, 2));
-    answered(s, Way::Push, Limit::Rounds(5), 5, 2, tally(13, 11, 2))
+    let mut s = from(score, counts(5, 3, 2));
+    s = answered(s, Way::Pull, Limit::Quiet, 3, 2, counts(6, 4, 2));
+    s = answered(s, Way::Push, Limit::Quiet, 3, 2, counts(7, 5, 2));
+    s = answered(s, Way::Pull, Limit::Rounds(0), 0, 0, counts(8, 6, 2));
+    s = answered(s, Way::Push, Limit::Rounds(0), 0, 0, counts(9, 7, 2));
+    s = answered(s, Way::Pull, Limit::Rounds(1), 1, 1, counts(10, 8, 2));
+    s = answered(s, Way::Push, Limit::Rounds(1), 1, 1, counts(11, 9, 2));
+    s = answered(s, Way::Pull, Limit::Rounds(5), 5, 2, counts(12, 10, 2));
+    answered(s, Way::Push, Limit::Rounds(5), 5, 2, counts(13, 11, 2))
 }
 
 // Refusals for the worksheet (2), the map (2 and 6), a start (13) and the buffer (15).
 fn refusals(score: Score) -> Score {
-    let mut s = from(score, tally(0, 0, 0));
-    s = refused(s, MAP_FOR_PLAN, Way::Pull, Limit::Quiet, 2, tally(1, 0, 1));
-    s = refused(
-        s,
-        MAP_FOR_PLAN,
-        Way::Push,
-        Limit::Rounds(1),
-        2,
-        tally(2, 0, 2),
-    );
-    s = refused(s, PLAN_FOR_MAP, Way::Push, Limit::Quiet, 2, tally(3, 0, 3));
-    s = refused(s, CUT_MAP, Way::Pull, Limit::Rounds(0), 6, tally(4, 0, 4));
-    s = refused(s, START_9, Way::Push, Limit::Quiet, 13, tally(5, 0, 5));
-    s = refused(s, MARKED, Way::Pull, Limit::Quiet, 15, tally(6, 0, 6));
-    s = refused(s, MARKED, Way::Push, Limit::Rounds(0), 15, tally(7, 0, 7));
-    answered(s, Way::Pull, Limit::Quiet, 3, 2, tally(8, 1, 7))
+    let mut s = from(score, counts(0, 0, 0));
+    s = refused(s, NO_PLAN, Way::Pull, Limit::Quiet, 2, counts(1, 0, 1));
+    s = refused(s, NO_PLAN, Way::Push, Limit::Rounds(1), 2, counts(2, 0, 2));
+    s = refused(s, NO_GRAPH, Way::Push, Limit::Quiet, 2, counts(3, 0, 3));
+    s = refused(s, CUT, Way::Pull, Limit::Rounds(0), 6, counts(4, 0, 4));
+    s = refused(s, SOURCE_9, Way::Push, Limit::Quiet, 13, counts(5, 0, 5));
+    s = refused(s, MARKED, Way::Pull, Limit::Quiet, 15, counts(6, 0, 6));
+    s = refused(s, MARKED, Way::Push, Limit::Rounds(0), 15, counts(7, 0, 7));
+    answered(s, Way::Pull, Limit::Quiet, 3, 2, counts(8, 1, 7))
 }
 
 // "if any of the three is at its greatest, none changes", whether the run is answered or refused.
@@ -259,40 +260,33 @@ fn stays(score: Score, full: Counters) -> Score {
     s = answered(s, Way::Pull, Limit::Quiet, 3, 2, full);
     s = refused(s, MARKED, Way::Push, Limit::Quiet, 15, full);
     s = answered(s, Way::Push, Limit::Rounds(1), 1, 1, full);
-    refused(s, MAP_FOR_PLAN, Way::Pull, Limit::Rounds(1), 2, full)
+    refused(s, NO_PLAN, Way::Pull, Limit::Rounds(1), 2, full)
 }
 
 // Each of the three reaches its greatest, and from then on none changes.
 fn reaches(score: Score) -> Score {
-    let mut s = from(score, tally(MOST - 1, 3, 2));
-    s = answered(s, Way::Pull, Limit::Quiet, 3, 2, tally(MOST, 4, 2));
-    s = answered(s, Way::Pull, Limit::Quiet, 3, 2, tally(MOST, 4, 2));
-    s = from(s, tally(5, MOST - 1, 2));
-    s = refused(
-        s,
-        START_9,
-        Way::Pull,
-        Limit::Quiet,
-        13,
-        tally(6, MOST - 1, 3),
-    );
-    s = answered(s, Way::Push, Limit::Quiet, 3, 2, tally(7, MOST, 3));
-    s = refused(s, START_9, Way::Push, Limit::Quiet, 13, tally(7, MOST, 3));
-    s = from(s, tally(5, 3, MOST - 1));
-    s = refused(s, MARKED, Way::Pull, Limit::Quiet, 15, tally(6, 3, MOST));
-    answered(s, Way::Push, Limit::Quiet, 3, 2, tally(6, 3, MOST))
+    let mut s = from(score, counts(MOST - 1, 3, 2));
+    s = answered(s, Way::Pull, Limit::Quiet, 3, 2, counts(MOST, 4, 2));
+    s = answered(s, Way::Pull, Limit::Quiet, 3, 2, counts(MOST, 4, 2));
+    s = from(s, counts(5, MOST - 1, 2));
+    s = refused(s, CUT, Way::Pull, Limit::Quiet, 6, counts(6, MOST - 1, 3));
+    s = answered(s, Way::Push, Limit::Quiet, 3, 2, counts(7, MOST, 3));
+    s = refused(s, SOURCE_9, Way::Push, Limit::Quiet, 13, counts(7, MOST, 3));
+    s = from(s, counts(5, 3, MOST - 1));
+    s = refused(s, MARKED, Way::Pull, Limit::Quiet, 15, counts(6, 3, MOST));
+    answered(s, Way::Push, Limit::Quiet, 3, 2, counts(6, 3, MOST))
 }
 
 fn main() {
     let mut s = Score {
         cases: 0,
         differences: 0,
-        tally: tally(0, 0, 0),
+        counters: counts(0, 0, 0),
     };
     s = refusals(answers(s));
-    s = stays(s, tally(MOST, 3, 2));
-    s = stays(s, tally(5, MOST, 2));
-    s = stays(s, tally(5, 3, MOST));
+    s = stays(s, counts(MOST, 3, 2));
+    s = stays(s, counts(5, MOST, 2));
+    s = stays(s, counts(5, 3, MOST));
     s = reaches(s);
     io::write_all(OUT, b"counted runs ");
     io::print_decimal(OUT, s.cases);

@@ -82,8 +82,8 @@ graph-slot = shrSliceOf (1 ∷ []) tt (plain (λ _. u8))
 abbrev limit-slot : Slot 3
 limit-slot = plain (λ _. L.the-row)
 
-abbrev tally-slot : Slot 3
-tally-slot = plain (λ _. T.the-row)
+abbrev counters-slot : Slot 3
+counters-slot = plain (λ _. T.the-row)
 
 -- the buffer is given up to the run; of the others nothing is had at the end
 abbrev stayed : Stays (lend.ended .signature .params) (lend.ended .kept)
@@ -93,7 +93,7 @@ stayed = (
     stay-dropped plan-slot yes,
     (
       stay-dropped graph-slot yes,
-      (stay-dropped limit-slot yes, (gave-slice (2 ∷ []) tt (plain (λ _. u8)), (stay-dropped tally-slot yes, tt))),
+      (stay-dropped limit-slot yes, (gave-slice (2 ∷ []) tt (plain (λ _. u8)), (stay-dropped counters-slot yes, tt))),
     ),
   ),
 )
@@ -110,7 +110,7 @@ limit-val = EL.val L.the-type L′.the-laws
 
 -- the result
 abbrev left : ℕ → Counters → Left
-left n d = record { number = n; tally = d }
+left n d = record { number = n; counters = d }
 
 left-is : (n : ℕ) (d : Counters) → n < 2 ^ 32 → Is T.the-row d (val-of d ∷ []) → Is E.the-row (left n d) (LL.vals E.the-type E′.the-laws (left n d))
 left-is n d fits is = LL.owes E.the-type E′.the-laws (left n d) ((refl, fits), (is, tt))
@@ -156,7 +156,7 @@ module _ {M : Type 1} (𝓤 : URA M) (H : Heap 𝓤) (A : Atoms 𝓤) (W : Given
   Called = Counting 𝓤 H A at-mem run
 
   module _ (κs : Lfts 3) (qs : Share × (Share × (Share × Unit {0}))) (bounds : AllOutlive 3 (lend.signature .outlives) κs)
-      (way : Way) (plan graph : RefT (List ℕ)) (limit : Limit) (out : RefT (List ℕ)) (tally : Counters) where
+      (way : Way) (plan graph : RefT (List ℕ)) (limit : Limit) (out : RefT (List ℕ)) (before : Counters) where
     -- the lifetimes of the three references
     abbrev κ₁ : Lft
     κ₁ = κs .0
@@ -191,7 +191,7 @@ module _ {M : Type 1} (𝓤 : URA M) (H : Heap 𝓤) (A : Atoms 𝓤) (W : Given
     vals last = (way-val way ∷ [], (slice plan ∷ [], (slice graph ∷ [], (limit-val limit ∷ [], (slice out ∷ [], (last, tt))))))
 
     abbrev passed : List Val
-    passed = way-val way ∷ slice plan ∷ slice graph ∷ limit-val limit ∷ slice out ∷ val-of tally ∷ []
+    passed = way-val way ∷ slice plan ∷ slice graph ∷ limit-val limit ∷ slice out ∷ val-of before ∷ []
 
     -- the tokens of the slices, and with that of the lent counters
     abbrev Tokens : Item 𝓤
@@ -201,11 +201,11 @@ module _ {M : Type 1} (𝓤 : URA M) (H : Heap 𝓤) (A : Atoms 𝓤) (W : Given
     Tokens′ α = ‵ (flft κ₁ (qs .0)) ⊛ ‵ (flft κ₂ (qs .1 .0)) ⊛ ‵ (flft κ₃ (qs .1 .1 .0)) ⊛ ‵ (flft (α ∷ []) fullShare) ⊛ ‵ ftrue
 
     abbrev Post : Val → SProp 𝓤
-    Post = walkOf 𝓤 H A lend.ended stayed clauses .post ((κs, qs, bounds, args tally, vals (val-of tally ∷ [])), tt)
+    Post = walkOf 𝓤 H A lend.ended stayed clauses .post ((κs, qs, bounds, args before, vals (val-of before ∷ [])), tt)
 
     -- what the run, and this function, say of the number, the buffer's last list and the counters
     abbrev Said : ℕ → List ℕ → Counters → Type 0
-    Said n zs d = Counted (run-reply limit (plan .now) (graph .now) (length (out .now))) n (out .now) zs tally d
+    Said n zs d = Counted (run-reply limit (plan .now) (graph .now) (length (out .now))) n (out .now) zs before d
 
     -- the end: what is left over
     abbrev Over : List ℕ → List (Item 𝓤)
@@ -216,7 +216,7 @@ module _ {M : Type 1} (𝓤 : URA M) (H : Heap 𝓤) (A : Atoms 𝓤) (W : Given
     exits n zs d fits is e l =
         qed W (Over zs) ∵
         suffices ! _
-        (ends-at 𝓤 H A lend.ended stayed clauses W ((κs, qs, bounds, args tally, vals (val-of tally ∷ [])), tt)
+        (ends-at 𝓤 H A lend.ended stayed clauses W ((κs, qs, bounds, args before, vals (val-of before ∷ [])), tt)
         (LL.val E.the-type E′.the-laws (left n d)) (left n d) (tt, (tt, (tt, (tt, (zs, (tt, tt)))))) (tt, (tt, (tt, (tt, (l, (tt, tt))))))) $
         says ! e $
         -- the three tokens
@@ -232,7 +232,7 @@ module _ {M : Type 1} (𝓤 : URA M) (H : Heap 𝓤) (A : Atoms 𝓤) (W : Given
 
     abbrev to-call : ℕ → ℕ → GName → Called .Ghost
     to-call α l γ = (
-      (κs′ α, (qs .0, (qs .1 .0, (qs .1 .1 .0, (fullShare, tt)))), tt, args (lent-at 𝓤 H A W l γ tally), vals (vptr l 0 ∷ [])),
+      (κs′ α, (qs .0, (qs .1 .0, (qs .1 .1 .0, (fullShare, tt)))), tt, args (lent-at 𝓤 H A W l γ before), vals (vptr l 0 ∷ [])),
       tt,
     )
 
@@ -240,7 +240,7 @@ module _ {M : Type 1} (𝓤 : URA M) (H : Heap 𝓤) (A : Atoms 𝓤) (W : Given
     Passed α l γ =
         (‵ (flft (α ∷ []) fullShare) ⊛ Tokens)
         ∷ ‵ Handed
-        ∷ ‵ (MutRef (named 3) (α ∷ []) T.the-row .own (lent-at 𝓤 H A W l γ tally) (vptr l 0 ∷ []))
+        ∷ ‵ (MutRef (named 3) (α ∷ []) T.the-row .own (lent-at 𝓤 H A W l γ before) (vptr l 0 ∷ []))
         ∷ []
 
     goes-call : (α l : ℕ) (γ : GName) → ent 𝓤 (⋆ 𝓤 H A (Passed α l γ)) (Called .pre (to-call α l γ))
@@ -258,14 +258,14 @@ module _ {M : Type 1} (𝓤 : URA M) (H : Heap 𝓤) (A : Atoms 𝓤) (W : Given
     module _ (C : Calls 𝓤 H) (Λ : Loops 𝓤 H) (fm : FmC 𝓤 H (W .laws) C) (known : Triple 𝓤 (C counted-run-def.name) Called) where
       walk : Is D.the-row way (way-val way ∷ []) → Is (ShrSlice (named 0) κ₁ u8) plan (slice plan ∷ [])
           → Is (ShrSlice (named 1) κ₂ u8) graph (slice graph ∷ []) → Is L.the-row limit (limit-val limit ∷ []) → Room u8 (length (out .now))
-          → Is T.the-row tally (val-of tally ∷ [])
-          → ent 𝓤 (onEntry 𝓤 H A lend.signature κs qs (args tally) (vals (val-of tally ∷ []))) (WpFn 𝓤 H C Λ code.function passed Post)
-      walk way-is plan-is graph-is limit-is room tally-is =
+          → Is T.the-row before (val-of before ∷ [])
+          → ent 𝓤 (onEntry 𝓤 H A lend.signature κs qs (args before) (vals (val-of before ∷ []))) (WpFn 𝓤 H C Λ code.function passed Post)
+      walk way-is plan-is graph-is limit-is room counters-are =
           qed W
           (Tokens
           ∷ ‵ (owns
           (D.the-row ∷ ShrSlice (named 0) κ₁ u8 ∷ ShrSlice (named 1) κ₂ u8 ∷ L.the-row ∷ MutSlice (named 2) κ₃ u8 ∷ T.the-row ∷ [])
-          (args tally) (vals (val-of tally ∷ [])))
+          (args before) (vals (val-of before ∷ [])))
           ∷ []) ∵
           -- what the parameters own, but for the counters, together
           move ! (1 ∷ []) $ fsplit ! $ move ! (1 ∷ []) $ fsplit ! $ move ! (1 ∷ []) $ fsplit ! $ move ! (1 ∷ []) $ fsplit ! $
@@ -282,10 +282,10 @@ module _ {M : Type 1} (𝓤 : URA M) (H : Heap 𝓤) (A : Atoms 𝓤) (W : Given
           pass1 ! (init ! 18 refl (shr-slice-lawful 𝓤 H A W (named 1) κ₂ u8 .typed graph (slice graph ∷ []) graph-is .0)) $
           pass1 ! (init ! 16 refl (EL.lawful L.the-type L′.the-laws 𝓤 H A W tt .typed limit _ limit-is .0)) $
           pass1 ! (init ! 14 refl (tt, (tt, (record { fits = room .0 }, tt)))) $
-          pass1 ! (init ! 12 refl (LL.lawful T.the-type T′.the-laws 𝓤 H A W .typed tally _ tally-is .0)) $ pass0 ! $
+          pass1 ! (init ! 12 refl (LL.lawful T.the-type T′.the-laws 𝓤 H A W .typed before _ counters-are .0)) $ pass0 ! $
           -- the counters are copied into a local, and the buffer is lent on
           assigns ! (of-opd ! (load ! (from ! (stop !)) (look ! 12 refl))) (from ! (stop !))
-          (init ! 10 refl (LL.lawful T.the-type T′.the-laws 𝓤 H A W .typed tally _ tally-is .0)) $
+          (init ! 10 refl (LL.lawful T.the-type T′.the-laws 𝓤 H A W .typed before _ counters-are .0)) $
           assigns ! (addr ! (from ! (fld ! refl (hop ! (look-in ! 14 (sub ! 0 refl (whole !))) (stop !))))) (from ! (stop !)) (init ! 6 refl (tt, tt)) $
           assigns !
           (agg !
@@ -295,7 +295,7 @@ module _ {M : Type 1} (𝓤 : URA M) (H : Heap 𝓤) (A : Atoms 𝓤) (W : Given
           -- the local is lent, for a lifetime α
           assigns ! (addr ! (from ! (stop !))) (from ! (stop !)) (init ! 2 refl (tt, tt)) $
           move ! (10 ∷ []) $ lft-new ! tt (λ α. move ! (1 ∷ []) $
-          use1 W (later (some (λ (γ : GName). Lent 𝓤 H A W (α ∷ []) l₇ tally γ))) (lends 𝓤 H A W (α ∷ []) l₇ tally tally-is) $ await ! tt $ pick ! (λ γ.
+          use1 W (later (some (λ (γ : GName). Lent 𝓤 H A W (α ∷ []) l₇ before γ))) (lends 𝓤 H A W (α ∷ []) l₇ before counters-are) $ await ! tt $ pick ! (λ γ.
           split ! $ move ! (2 ∷ 28 ∷ []) $ join ! $ move ! (0 ∷ 28 ∷ 1 ∷ []) $
           -- [the tokens; Handed; the lent counters; the lender's part; _12; …; _8; …; what frees _7; _6; …; _0; …; what the counters own; true]
           use3 W (raw (Called .pre (to-call α l₇ γ))) (goes-call α l₇ γ) $
@@ -305,13 +305,13 @@ module _ {M : Type 1} (𝓤 : URA M) (H : Heap 𝓤) (A : Atoms 𝓤) (W : Given
           (and-then ! (load ! (from ! (stop !)) (look ! 6 refl)) (and-then ! (load ! (from ! (stop !)) (look ! 4 refl)) (no-more !))))))) (λ v.
           use1 W
           (later (some (λ (n : ℕ). (Tokens′ α ⊛ ‵ (u32 .own n (v ∷ [])))
-          ⊛ raw (ensured 𝓤 H A counted-run.ended (counted-run.clauses 𝓤 H A at-mem run) (κs′ α) (args (lent-at 𝓤 H A W l₇ γ tally)) tt n)))) (id⊢ 𝓤 _) $
+          ⊛ raw (ensured 𝓤 H A counted-run.ended (counted-run.clauses 𝓤 H A at-mem run) (κs′ α) (args (lent-at 𝓤 H A W l₇ γ before)) tt n)))) (id⊢ 𝓤 _) $
           await ! tt $ pick ! (λ n.
           -- what it ensures, at some last list of the buffer and some last counters
           split ! $ move ! (1 ∷ []) $
           use1 W
           (some (λ (zs : Unit {0} × (Unit {0} × (Unit {0} × (Unit {0} × (List ℕ × (Counters × Unit {0})))))).
-          ‵ (lasts counted-run.ended (κs′ α) (args (lent-at 𝓤 H A W l₇ γ tally)) zs)
+          ‵ (lasts counted-run.ended (κs′ α) (args (lent-at 𝓤 H A W l₇ γ before)) zs)
           ⊛ raw (fact 𝓤 (Said n (zs .1 .1 .1 .1 .0) (zs .1 .1 .1 .1 .1 .0))))) (id⊢ 𝓤 _) $ pick ! (λ zs.
           split ! $ move ! (1 ∷ []) $ heard ! (Said n (zs .1 .1 .1 .1 .0) (zs .1 .1 .1 .1 .1 .0)) (λ e.
           fsplit ! $ move ! (1 ∷ []) $ fsplit ! $ move ! (1 ∷ []) $ fsplit ! $ move ! (1 ∷ []) $ fsplit ! $ move ! (1 ∷ []) $
@@ -376,7 +376,7 @@ module _ {M : Type 1} (𝓤 : URA M) (H : Heap 𝓤) (A : Atoms 𝓤) (W : Given
         goes-dropped 𝓤 H A W 3 graph-slot yes (λ κs x f. refl),
         (
           goes-dropped 𝓤 H A W 3 limit-slot yes (λ κs x f. refl),
-          (goes-gave-slice 𝓤 H A W 3 2 tt (plain (λ _. u8)), (goes-dropped 𝓤 H A W 3 tally-slot yes (λ κs x f. refl), tt)),
+          (goes-gave-slice 𝓤 H A W 3 2 tt (plain (λ _. u8)), (goes-dropped 𝓤 H A W 3 counters-slot yes (λ κs x f. refl), tt)),
         ),
       ),
     ),

@@ -12,7 +12,7 @@ use mir.Syntax.{Body as Code, Fn, addrOf, aggregate, assign, call, copy, deref, 
 use mir.Syntax.{return, rvOpd, seq, tyInt, tyRef, valueLocal, w8, w32}
 use mir.Val.{Val, vint, vptr}
 use base.Logic.{SProp, ent, emp, via, fst∗, id⊢}
-use base.Fml.{Lft, Share, Fml, ftrue, fsep, flft, fobs, fbor, fat}
+use base.Fml.{Lft, Share, Fml, ftrue, flft, fobs, fbor, fat}
 use prog.Memory.{Memory}
 use prog.Routine.{Routine}
 use prog.Wp.{Heap, Calls, Loops, WpFn, Tables}
@@ -21,20 +21,19 @@ use borrow.Author.Needs.{needs}
 use contract.Monad.{Fun, fact}
 use contract.Lifetimes.{Lfts, AllOutlive}
 use contract.Running.{givenOf, tables, tablesOf}
-use types.Kit.{Given, Item, ‵, raw, _⊛_, ⋆, some, later, _$_, _∵_, !, qed, by, move, keep, drop, use1, use3, split, join, pick, rewrite}
+use types.Kit.{Given, Item, ‵, raw, _⊛_, ⋆, some, later, _$_, _∵_, !, qed, by, move, keep, drop, use1, use2, use3, split, join, pick, rewrite}
 use types.Kit.{fsplit, fsplit3, fjoin, fjoin3, feqL, feqI, suffices, frame, await, done}
 use types.Run.{look, look-raw, init, store-raw, forget, stop, hop, fld, from, load, addr, of-opd, and-then, no-more, assigns, land, returns}
 use types.Run.{enter, alloc1, alloc0, params1, pass1, pass0, free1, free0}
 use types.Part.{agg, whole, sub, look-in}
 use types.SemTy.{Body}
 use sound.WpLaws.{FmC, fmOf, WpFn-mono}
-use denote.RattleType.{owns}
 use denote.Laws.{Is, shows}
 use denote.Memory.{mem, pointee}
 use denote.Plain.{uint-makes}
 use denote.Builtin.{u8, u32}
 use denote.Ref.{RefT, MutRef, ptr-vals, mut-tells}
-use denote.Slice.{sliceTy, sliceVal, ShrSlice, MutSlice, Room, finally, slice-vals, shr-slice-tells, shr-slice-lawful, mut-slice-tells}
+use denote.Slice.{sliceTy, ShrSlice, Room, finally, slice-vals, shr-slice-tells, shr-slice-lawful, mut-slice-tells}
 use denote.Signature.{Slot, plain, shrSliceOf}
 use denote.Steps.{only, opens, closes, owned, peeks, heard, nothing}
 use denote.Struct.Steps.{spelt}
@@ -63,6 +62,8 @@ use Rattle.counted.proofs.Ended as E
 use Rattle.counted.proofs.Ended.Laws as E′
 use Rattle.counted.proofs.Way as D
 use Rattle.counted.proofs.Way.Laws as D′
+use Rattle.counted.proofs.Passed as P
+use Rattle.counted.proofs.Passed.{Args, Vals, val-of, way-val, limit-val, slice}
 use Rattle.counted.proofs.by_value as by-value
 use Rattle.counted.proofs.by_value.Symbol as by-value-def
 use Rattle.counted.proofs.by_value.Met as by-value-thm
@@ -138,16 +139,6 @@ stayed = (
   ),
 )
 
--- the machine values of counters, of a way and of a limit
-abbrev vals-of : Counters → List Val
-vals-of = LL.vals T.the-type T′.the-laws
-
-abbrev way-val : Way → Val
-way-val = EL.val D.the-type D′.the-laws
-
-abbrev limit-val : Limit → Val
-limit-val = EL.val L.the-type L′.the-laws
-
 -- the contract that the proof cites
 abbrev ByValue : {M : Type 1} (𝓤 : URA M) (H : Heap 𝓤) (A : Atoms 𝓤) (at-mem : Memory → SProp 𝓤) (run : Routine → Fun 𝓤) → Contract 𝓤
 ByValue 𝓤 H A at-mem run = tripleOf 𝓤 H A by-value.signature (by-value.spec 𝓤 H A at-mem run)
@@ -184,44 +175,29 @@ module _ {M : Type 1} (𝓤 : URA M) (H : Heap 𝓤) (A : Atoms 𝓤) (W : Given
     abbrev before : Counters
     before = lent .now
 
-    abbrev slice : RefT (List ℕ) → Val
-    slice s = sliceVal (s .ptr) (length (s .now))
-
     -- what the parameters before the counters own
     abbrev Handed : Fml
-    Handed = fsep (D.the-row .own way (way-val way ∷ []))
-        (fsep (ShrSlice (named 0) κ₁ u8 .own plan (slice plan ∷ []))
-        (fsep (ShrSlice (named 1) κ₂ u8 .own graph (slice graph ∷ []))
-        (fsep (L.the-row .own limit (limit-val limit ∷ [])) (MutSlice (named 2) κ₃ u8 .own out (slice out ∷ [])))))
+    Handed = P.Handed way plan graph limit out κ₁ κ₂ κ₃
 
-    -- what the function is passed
-    abbrev Args : Type 0 → Type 0
-    Args X = Way × (RefT (List ℕ) × (RefT (List ℕ) × (Limit × (RefT (List ℕ) × (X × Unit {0})))))
+    -- what the function is passed, and the machine values
+    abbrev args : {X : Type 0} → X → Args X
+    args = P.args way plan graph limit out
 
-    abbrev args : Args (RefT Counters)
-    args = (way, (plan, (graph, (limit, (out, (lent, tt))))))
-
-    abbrev Vals : Type 0
-    Vals = List Val × (List Val × (List Val × (List Val × (List Val × (List Val × Unit {0})))))
-
-    abbrev vals : List Val → Vals
-    vals last = (way-val way ∷ [], (slice plan ∷ [], (slice graph ∷ [], (limit-val limit ∷ [], (slice out ∷ [], (last, tt))))))
+    abbrev vals : Val → Vals
+    vals = P.vals way plan graph limit out
 
     abbrev passed : List Val
-    passed = way-val way ∷ slice plan ∷ slice graph ∷ limit-val limit ∷ slice out ∷ vptr b o ∷ []
+    passed = P.passed way plan graph limit out (vptr b o)
 
-    -- what the run by value is passed, with the slices' three tokens
+    -- the run by value has the slices' three tokens
     abbrev κs′ : Lfts 3
     κs′ = (κ₁, (κ₂, (κ₃, tt)))
-
-    abbrev args′ : Args Counters
-    args′ = (way, (plan, (graph, (limit, (out, (before, tt))))))
 
     abbrev Tokens : Item 𝓤
     Tokens = ‵ (flft κ₁ (qs .0)) ⊛ ‵ (flft κ₂ (qs .1 .0)) ⊛ ‵ (flft κ₃ (qs .1 .1 .0)) ⊛ ‵ ftrue
 
     abbrev Post : Val → SProp 𝓤
-    Post = walkOf 𝓤 H A counted-run.ended stayed clauses .post ((κs, qs, bounds, args, vals (vptr b o ∷ [])), tt)
+    Post = walkOf 𝓤 H A counted-run.ended stayed clauses .post ((κs, qs, bounds, args lent, vals (vptr b o)), tt)
 
     -- what the run by value, and this function, say of the end and of the buffer's last list
     abbrev Said : Ended → List ℕ → Type 0
@@ -242,7 +218,7 @@ module _ {M : Type 1} (𝓤 : URA M) (H : Heap 𝓤) (A : Atoms 𝓤) (W : Given
     exits r zs fits e l =
         qed W (Left r zs) ∵
         suffices ! _
-        (ends-at 𝓤 H A counted-run.ended stayed clauses W ((κs, qs, bounds, args, vals (vptr b o ∷ [])), tt) (vint w32 (r .number)) (r .number)
+        (ends-at 𝓤 H A counted-run.ended stayed clauses W ((κs, qs, bounds, args lent, vals (vptr b o)), tt) (vint w32 (r .number)) (r .number)
         (tt, (tt, (tt, (tt, (zs, (r .counters, tt)))))) (tt, (tt, (tt, (tt, (l, (tt, tt))))))) $
         says ! e $
         -- the four tokens
@@ -256,42 +232,36 @@ module _ {M : Type 1} (𝓤 : URA M) (H : Heap 𝓤) (A : Atoms 𝓤) (W : Given
 
     -- the call: what the run's triple binds outside, and its entry
     abbrev to-call : Called .Ghost
-    to-call = ((κs′, (qs .0, (qs .1 .0, (qs .1 .1 .0, tt))), tt, args′, vals (vals-of before)), tt)
+    to-call = ((κs′, (qs .0, (qs .1 .0, (qs .1 .1 .0, tt))), tt, args before, vals (val-of before)), tt)
 
     abbrev Passed : List (Item 𝓤)
-    Passed = Tokens ∷ ‵ Handed ∷ ‵ (T.the-row .own before (vals-of before)) ∷ []
+    Passed = Tokens ∷ ‵ Handed ∷ ‵ (T.the-row .own before (val-of before ∷ [])) ∷ []
 
     goes-call : ent 𝓤 (⋆ 𝓤 H A Passed) (Called .pre to-call)
     goes-call =
         qed W Passed ∵
-        nothing ! $ move ! (3 ∷ 0 ∷ []) $ fjoin ! $ move ! (2 ∷ []) $
-        fsplit ! $ move ! (1 ∷ []) $ fsplit ! $ move ! (1 ∷ []) $ fsplit ! $ move ! (1 ∷ []) $ fsplit ! $
-        -- [limit; out; graph; plan; way; what the counters own; Tokens]
-        move ! (1 ∷ 5 ∷ []) $ fjoin ! $ move ! (1 ∷ 0 ∷ []) $ fjoin ! $ move ! (1 ∷ 0 ∷ []) $ fjoin ! $ move ! (1 ∷ 0 ∷ []) $ fjoin ! $
-        move ! (1 ∷ 0 ∷ []) $ fjoin ! $ move ! (1 ∷ 0 ∷ []) $ join ! $ frame ! $ done !
+        move ! (1 ∷ 2 ∷ []) $
+        use2 W (‵ (P.Owned way plan graph limit out κ₁ κ₂ κ₃ T.the-row before (val-of before)))
+        (P.together way plan graph limit out κ₁ κ₂ κ₃ T.the-row before (val-of before) 𝓤 H A W) $
+        move ! (1 ∷ 0 ∷ []) $ join ! $ frame ! $ done !
 
     module _ (C : Calls 𝓤 H) (Λ : Loops 𝓤 H) (fm : FmC 𝓤 H (W .laws) C) (known : Triple 𝓤 (C by-value-def.name) Called) where
       walk : Is D.the-row way (way-val way ∷ []) → Is (ShrSlice (named 0) κ₁ u8) plan (slice plan ∷ [])
           → Is (ShrSlice (named 1) κ₂ u8) graph (slice graph ∷ []) → Is L.the-row limit (limit-val limit ∷ []) → Room u8 (length (out .now))
-          → ent 𝓤 (onEntry 𝓤 H A counted-run.signature κs qs args (vals (vptr b o ∷ []))) (WpFn 𝓤 H C Λ function passed Post)
+          → ent 𝓤 (onEntry 𝓤 H A counted-run.signature κs qs (args lent) (vals (vptr b o))) (WpFn 𝓤 H C Λ function passed Post)
       walk way-is plan-is graph-is limit-is room =
           qed W
           ((‵ (flft κ₁ (qs .0)) ⊛ ‵ (flft κ₂ (qs .1 .0)) ⊛ ‵ (flft κ₃ (qs .1 .1 .0)) ⊛ ‵ (flft κ₄ (qs .1 .1 .1 .0)) ⊛ ‵ ftrue)
-          ∷ ‵ (owns
-          (D.the-row ∷ ShrSlice (named 0) κ₁ u8 ∷ ShrSlice (named 1) κ₂ u8 ∷ L.the-row ∷ MutSlice (named 2) κ₃ u8
-          ∷ MutRef (named 3) κ₄ T.the-row ∷ [])
-          args (vals (vptr b o ∷ [])))
+          ∷ ‵ (P.Owned way plan graph limit out κ₁ κ₂ κ₃ (MutRef (named 3) κ₄ T.the-row) lent (vptr b o))
           ∷ []) ∵
           -- the run's three tokens together, and that of the counters
           split ! $ move ! (1 ∷ []) $ split ! $ move ! (1 ∷ []) $ split ! $ move ! (1 ∷ []) $ split ! $
           move ! (2 ∷ 1 ∷ []) $ join ! $ move ! (2 ∷ 0 ∷ []) $ join ! $ move ! (2 ∷ 0 ∷ []) $ join ! $
           -- what the parameters own: the counters' borrow, and the rest together
-          move ! (2 ∷ []) $ fsplit ! $ move ! (1 ∷ []) $ fsplit ! $ move ! (1 ∷ []) $ fsplit ! $ move ! (1 ∷ []) $ fsplit ! $
-          move ! (1 ∷ []) $ fsplit ! $ move ! (1 ∷ []) $ fsplit ! $ fsplit3 ! $ drop ! $
-          -- [obs; the borrow; true; out; limit; graph; plan; way; Tokens; the counters' token]
-          move ! (4 ∷ 3 ∷ []) $ fjoin ! $ move ! (4 ∷ 0 ∷ []) $ fjoin ! $ move ! (4 ∷ 0 ∷ []) $ fjoin ! $ move ! (4 ∷ 0 ∷ []) $ fjoin ! $
-          move ! (1 ∷ 2 ∷ 5 ∷ 4 ∷ 0 ∷ []) $
-          -- [obs; the borrow; the counters' token; Tokens; Handed; true]
+          move ! (2 ∷ []) $ use1 W (‵ Handed ⊛ ‵ (MutRef (named 3) κ₄ T.the-row .own lent (vptr b o ∷ [])))
+          (P.apart way plan graph limit out κ₁ κ₂ κ₃ (MutRef (named 3) κ₄ T.the-row) lent (vptr b o) 𝓤 H A W) $ split ! $
+          move ! (1 ∷ []) $ fsplit3 ! $ drop ! $ move ! (0 ∷ 1 ∷ 4 ∷ 3 ∷ 2 ∷ []) $
+          -- [obs; the borrow; the counters' token; Tokens; Handed]
           enter ! C Λ function passed _ $
           alloc1 ! (λ l₀. alloc1 ! (λ l₁. alloc1 ! (λ l₂. alloc1 ! (λ l₃. alloc1 ! (λ l₄. alloc1 ! (λ l₅. alloc1 ! (λ l₆. alloc1 ! (λ l₇.
           alloc1 ! (λ l₈. alloc1 ! (λ l₉. alloc1 ! (λ l₁₀. alloc0 ! $ params1 ! $
@@ -309,9 +279,9 @@ module _ {M : Type 1} (𝓤 : URA M) (H : Heap 𝓤) (A : Atoms 𝓤) (W : Given
           (from ! (stop !)) (init ! 2 refl (tt, (tt, (record { fits = room .0 }, tt)))) $
           -- the borrow of the counters is opened, and they are copied out
           move ! (22 ∷ 23 ∷ 24 ∷ []) $ opens ! tt T.the-row {h = before} b o (λ vs.
-          spelt ! T.the-row (Is T.the-row) (shows 𝓤 H A T.the-row) vals-of (LL.tells T.the-type T′.the-laws) fullShare before vs b o $
-          move ! (1 ∷ []) $ peeks ! T.the-row (Is T.the-row) (shows 𝓤 H A T.the-row) before (vals-of before) (λ was.
-          -- [what the counters own; their cell; the open borrow; obs; auth; _10; …; _1; …; room for _0; …; Tokens; Handed; true]
+          spelt ! T.the-row (Is T.the-row) (shows 𝓤 H A T.the-row) (LL.vals T.the-type T′.the-laws) (LL.tells T.the-type T′.the-laws) fullShare before vs b o $
+          move ! (1 ∷ []) $ peeks ! T.the-row (Is T.the-row) (shows 𝓤 H A T.the-row) before (val-of before ∷ []) (λ was.
+          -- [what the counters own; their cell; the open borrow; obs; auth; _10; …; _1; …; room for _0; …; Tokens; Handed]
           assigns ! (of-opd ! (load ! (from ! (hop ! (look ! 13 refl) (stop !))) (look-raw ! 1 refl))) (from ! (stop !))
           (init ! 5 refl (LL.lawful T.the-type T′.the-laws 𝓤 H A W .typed before _ was .0)) $
           -- the run by value
@@ -322,29 +292,29 @@ module _ {M : Type 1} (𝓤 : URA M) (H : Heap 𝓤) (A : Atoms 𝓤) (W : Given
           (and-then ! (load ! (from ! (stop !)) (look ! 7 refl)) (and-then ! (load ! (from ! (stop !)) (look ! 5 refl)) (no-more !))))))) (λ v.
           use1 W
           (later (some (λ (r : Ended). (Tokens ⊛ ‵ (E.the-row .own r (v ∷ [])))
-          ⊛ raw (ensured 𝓤 H A by-value.ended (by-value.clauses 𝓤 H A at-mem run) κs′ args′ tt r)))) (id⊢ 𝓤 _) $ await ! tt $ pick ! (λ r.
+          ⊛ raw (ensured 𝓤 H A by-value.ended (by-value.clauses 𝓤 H A at-mem run) κs′ (args before) tt r)))) (id⊢ 𝓤 _) $ await ! tt $ pick ! (λ r.
           -- what it ensures, at some last list of the buffer
           split ! $ move ! (1 ∷ []) $
           use1 W
           (some (λ (zs : Unit {0} × (Unit {0} × (Unit {0} × (Unit {0} × (List ℕ × (Unit {0} × Unit {0})))))).
-          ‵ (lasts by-value.ended κs′ args′ zs) ⊛ raw (fact 𝓤 (Said r (zs .1 .1 .1 .1 .0))))) (id⊢ 𝓤 _) $ pick ! (λ zs.
+          ‵ (lasts by-value.ended κs′ (args before) zs) ⊛ raw (fact 𝓤 (Said r (zs .1 .1 .1 .1 .0))))) (id⊢ 𝓤 _) $ pick ! (λ zs.
           split ! $ move ! (1 ∷ []) $ heard ! (Said r (zs .1 .1 .1 .1 .0)) (λ e.
           fsplit ! $ move ! (1 ∷ []) $ fsplit ! $ move ! (1 ∷ []) $ fsplit ! $ move ! (1 ∷ []) $ fsplit ! $ move ! (1 ∷ []) $
           fsplit ! $ fsplit ! $ move ! (1 ∷ []) $ feqL ! (λ l.
           move ! (6 ∷ []) $ split ! $ move ! (1 ∷ []) $ peeks ! E.the-row (Is E.the-row) (shows 𝓤 H A E.the-row) r (v ∷ []) (λ is.
-          -- [what the end owns; Tokens; the last list; true five times; the cell; the open borrow; obs; auth; _10; …; _0; …; true]
+          -- [what the end owns; Tokens; the last list; true five times; the cell; the open borrow; obs; auth; _10; …; _0; …]
           land ! (from ! (stop !)) (init ! 18 refl (LL.lawful E.the-type E′.the-laws 𝓤 H A W .typed r _ is .0)) $
           rewrite ! 18 (λ (u : Val). ‵ (fat fullShare E′.mir l₇ 0 u)) (ap only (LL.tells E.the-type E′.the-laws r _ is)) refl $
           -- its counters are stored back, its number is the result
           assigns ! (of-opd ! (load ! (from ! (fld ! refl (stop !))) (look-in ! 18 (sub ! 1 refl (whole !))))) (from ! (hop ! (look ! 20 refl) (stop !)))
           (store-raw ! 8 refl
-          (LL.lawful T.the-type T′.the-laws 𝓤 H A W .typed (r .counters) (vals-of (r .counters)) (LL.owed E.the-type E′.the-laws r _ is .1 .0) .0)) $
+          (LL.lawful T.the-type T′.the-laws 𝓤 H A W .typed (r .counters) (val-of (r .counters) ∷ []) (LL.owed E.the-type E′.the-laws r _ is .1 .0) .0)) $
           assigns ! (of-opd ! (load ! (from ! (fld ! refl (stop !))) (look-in ! 18 (sub ! 0 refl (whole !))))) (from ! (stop !))
           (init ! 32 refl (tt, record { fits = LL.owed E.the-type E′.the-laws r _ is .0 .1 })) $
           -- the borrow is closed, and the locals are given back
           drop ! $
           owned ! T.the-row (Is T.the-row) (LL.makes T.the-type T′.the-plain 𝓤 H A) (r .counters) _ (LL.owed E.the-type E′.the-laws r _ is .1 .0) $
-          move ! (8 ∷ 0 ∷ 9 ∷ 10 ∷ 11 ∷ []) $ closes ! tt T.the-row (r .counters) (vals-of (r .counters)) b o $ returns ! (look ! 30 refl) $
+          move ! (8 ∷ 0 ∷ 9 ∷ 10 ∷ 11 ∷ []) $ closes ! tt T.the-row (r .counters) (val-of (r .counters) ∷ []) b o $ returns ! (look ! 30 refl) $
           forget ! 10 refl $ forget ! 12 refl $ forget ! 14 refl $ forget ! 16 refl $ forget ! 18 refl $ forget ! 20 refl $
           forget ! 22 refl $ forget ! 24 refl $ forget ! 26 refl $ forget ! 28 refl $ forget ! 30 refl $
           move ! (30 ∷ 31 ∷ []) $ free1 ! $ move ! (28 ∷ 29 ∷ []) $ free1 ! $ move ! (26 ∷ 27 ∷ []) $ free1 ! $ move ! (24 ∷ 25 ∷ []) $ free1 ! $

@@ -18,7 +18,7 @@ use ghost.Atoms.{Atoms, sem}
 use contract.Monad.{Fun, fact}
 use contract.Lifetimes.{Lfts, AllOutlive}
 use contract.Running.{givenOf, tables, tablesOf}
-use types.Kit.{Given, Item, ‵, raw, _⊛_, ⋆, some, given, later, _$_, _∵_, !, qed, by, move, keep, use1, use3, split, join, pick, learn, check, rewrite}
+use types.Kit.{Given, Item, ‵, raw, _⊛_, ⋆, some, given, later, _$_, _∵_, !, qed, by, move, keep, use1, use2, use3, split, join, pick, learn, check, rewrite}
 use types.Kit.{fsplit, fjoin, fpick, fpack, feqL, suffices, frame, await, done}
 use types.Tokens.{lft-new, lft-end}
 use types.Run.{look, init, forget, stop, hop, fld, from, load, addr, of-opd, and-then, no-more, assigns, land, returns}
@@ -26,14 +26,13 @@ use types.Run.{enter, alloc1, alloc0, params1, pass1, pass0, free1, free0}
 use types.Part.{agg, whole, sub, look-in}
 use types.SemTy.{Body}
 use sound.WpLaws.{FmC, fmOf, WpFn-mono}
-use denote.RattleType.{owns}
 use denote.Laws.{Is, shows}
 use denote.Lend.{lends-ref, ref-back}
 use denote.Memory.{mem, cellAt, partOf}
 use denote.Plain.{uint-lawful}
 use denote.Builtin.{u8, u32}
 use denote.Ref.{RefT, MutRef}
-use denote.Slice.{sliceVal, ShrSlice, MutSlice, Room, finally, slice-vals, shr-slice-tells, shr-slice-lawful, mut-slice-tells}
+use denote.Slice.{ShrSlice, Room, finally, slice-vals, shr-slice-tells, shr-slice-lawful, mut-slice-tells}
 use denote.Signature.{Slot, plain, shrSliceOf}
 use denote.Steps.{only, owned, peeks, heard, nothing}
 use denote.Struct.Steps.{spelt}
@@ -58,6 +57,8 @@ use Rattle.counted.specs.Counted.{Counted}
 use Rattle.counted.specs.declared.Way.{Way}
 use Rattle.counted.proofs.Way as D
 use Rattle.counted.proofs.Way.Laws as D′
+use Rattle.counted.proofs.Passed as P
+use Rattle.counted.proofs.Passed.{Args, Vals, val-of, way-val, limit-val, slice}
 use Rattle.counted.proofs.run as counted-run
 use Rattle.counted.proofs.run.Symbol as counted-run-def
 use Rattle.counted.proofs.run.Met as counted-run-thm
@@ -97,16 +98,6 @@ stayed = (
     ),
   ),
 )
-
--- the machine values of counters, of a way and of a limit
-abbrev val-of : Counters → Val
-val-of = LL.val T.the-type T′.the-laws
-
-abbrev way-val : Way → Val
-way-val = EL.val D.the-type D′.the-laws
-
-abbrev limit-val : Limit → Val
-limit-val = EL.val L.the-type L′.the-laws
 
 -- the result
 abbrev left : ℕ → Counters → Left
@@ -167,31 +158,19 @@ module _ {M : Type 1} (𝓤 : URA M) (H : Heap 𝓤) (A : Atoms 𝓤) (W : Given
     abbrev κ₃ : Lft
     κ₃ = κs .1 .1 .0
 
-    abbrev slice : RefT (List ℕ) → Val
-    slice s = sliceVal (s .ptr) (length (s .now))
-
     -- what the parameters before the counters own
     abbrev Handed : Fml
-    Handed = fsep (D.the-row .own way (way-val way ∷ []))
-        (fsep (ShrSlice (named 0) κ₁ u8 .own plan (slice plan ∷ []))
-        (fsep (ShrSlice (named 1) κ₂ u8 .own graph (slice graph ∷ []))
-        (fsep (L.the-row .own limit (limit-val limit ∷ [])) (MutSlice (named 2) κ₃ u8 .own out (slice out ∷ [])))))
+    Handed = P.Handed way plan graph limit out κ₁ κ₂ κ₃
 
-    -- what the function is passed, and what the run is
-    abbrev Args : Type 0 → Type 0
-    Args X = Way × (RefT (List ℕ) × (RefT (List ℕ) × (Limit × (RefT (List ℕ) × (X × Unit {0})))))
-
+    -- what the function is passed, and the run, with the machine values
     abbrev args : {X : Type 0} → X → Args X
-    args x = (way, (plan, (graph, (limit, (out, (x, tt))))))
+    args = P.args way plan graph limit out
 
-    abbrev Vals : Type 0
-    Vals = List Val × (List Val × (List Val × (List Val × (List Val × (List Val × Unit {0})))))
-
-    abbrev vals : List Val → Vals
-    vals last = (way-val way ∷ [], (slice plan ∷ [], (slice graph ∷ [], (limit-val limit ∷ [], (slice out ∷ [], (last, tt))))))
+    abbrev vals : Val → Vals
+    vals = P.vals way plan graph limit out
 
     abbrev passed : List Val
-    passed = way-val way ∷ slice plan ∷ slice graph ∷ limit-val limit ∷ slice out ∷ val-of before ∷ []
+    passed = P.passed way plan graph limit out (val-of before)
 
     -- the tokens of the slices, and with that of the lent counters
     abbrev Tokens : Item 𝓤
@@ -201,7 +180,7 @@ module _ {M : Type 1} (𝓤 : URA M) (H : Heap 𝓤) (A : Atoms 𝓤) (W : Given
     Tokens′ α = ‵ (flft κ₁ (qs .0)) ⊛ ‵ (flft κ₂ (qs .1 .0)) ⊛ ‵ (flft κ₃ (qs .1 .1 .0)) ⊛ ‵ (flft (α ∷ []) fullShare) ⊛ ‵ ftrue
 
     abbrev Post : Val → SProp 𝓤
-    Post = walkOf 𝓤 H A lend.ended stayed clauses .post ((κs, qs, bounds, args before, vals (val-of before ∷ [])), tt)
+    Post = walkOf 𝓤 H A lend.ended stayed clauses .post ((κs, qs, bounds, args before, vals (val-of before)), tt)
 
     -- what the run, and this function, say of the number, the buffer's last list and the counters
     abbrev Said : ℕ → List ℕ → Counters → Type 0
@@ -216,7 +195,7 @@ module _ {M : Type 1} (𝓤 : URA M) (H : Heap 𝓤) (A : Atoms 𝓤) (W : Given
     exits n zs d fits is e l =
         qed W (Over zs) ∵
         suffices ! _
-        (ends-at 𝓤 H A lend.ended stayed clauses W ((κs, qs, bounds, args before, vals (val-of before ∷ [])), tt)
+        (ends-at 𝓤 H A lend.ended stayed clauses W ((κs, qs, bounds, args before, vals (val-of before)), tt)
         (LL.val E.the-type E′.the-laws (left n d)) (left n d) (tt, (tt, (tt, (tt, (zs, (tt, tt)))))) (tt, (tt, (tt, (tt, (l, (tt, tt))))))) $
         says ! e $
         -- the three tokens
@@ -232,7 +211,7 @@ module _ {M : Type 1} (𝓤 : URA M) (H : Heap 𝓤) (A : Atoms 𝓤) (W : Given
 
     abbrev to-call : ℕ → ℕ → GName → Called .Ghost
     to-call α l γ = (
-      (κs′ α, (qs .0, (qs .1 .0, (qs .1 .1 .0, (fullShare, tt)))), tt, args (lent-at 𝓤 H A W l γ before), vals (vptr l 0 ∷ [])),
+      (κs′ α, (qs .0, (qs .1 .0, (qs .1 .1 .0, (fullShare, tt)))), tt, args (lent-at 𝓤 H A W l γ before), vals (vptr l 0)),
       tt,
     )
 
@@ -245,12 +224,11 @@ module _ {M : Type 1} (𝓤 : URA M) (H : Heap 𝓤) (A : Atoms 𝓤) (W : Given
 
     goes-call : (α l : ℕ) (γ : GName) → ent 𝓤 (⋆ 𝓤 H A (Passed α l γ)) (Called .pre (to-call α l γ))
     goes-call α l γ =
+        let lent = lent-at 𝓤 H A W l γ before in
         qed W (Passed α l γ) ∵
-        nothing ! $ move ! (3 ∷ 0 ∷ []) $ fjoin ! $ move ! (2 ∷ []) $
-        fsplit ! $ move ! (1 ∷ []) $ fsplit ! $ move ! (1 ∷ []) $ fsplit ! $ move ! (1 ∷ []) $ fsplit ! $
-        -- [limit; out; graph; plan; way; the lent counters; the tokens]
-        move ! (1 ∷ 5 ∷ []) $ fjoin ! $ move ! (1 ∷ 0 ∷ []) $ fjoin ! $ move ! (1 ∷ 0 ∷ []) $ fjoin ! $ move ! (1 ∷ 0 ∷ []) $ fjoin ! $
-        move ! (1 ∷ 0 ∷ []) $ fjoin ! $
+        move ! (1 ∷ 2 ∷ []) $
+        use2 W (‵ (P.Owned way plan graph limit out κ₁ κ₂ κ₃ (MutRef (named 3) (α ∷ []) T.the-row) lent (vptr l 0)))
+        (P.together way plan graph limit out κ₁ κ₂ κ₃ (MutRef (named 3) (α ∷ []) T.the-row) lent (vptr l 0) 𝓤 H A W) $
         move ! (1 ∷ []) $ split ! $ move ! (1 ∷ []) $ split ! $ move ! (1 ∷ []) $ split ! $ move ! (1 ∷ []) $ split ! $
         -- [κ₃; true; κ₂; κ₁; α; the parameters]
         move ! (4 ∷ 1 ∷ []) $ join ! $ move ! (1 ∷ 0 ∷ []) $ join ! $ move ! (1 ∷ 0 ∷ []) $ join ! $ move ! (1 ∷ 0 ∷ []) $ join ! $ join ! $ frame ! $ done !
@@ -259,21 +237,14 @@ module _ {M : Type 1} (𝓤 : URA M) (H : Heap 𝓤) (A : Atoms 𝓤) (W : Given
       walk : Is D.the-row way (way-val way ∷ []) → Is (ShrSlice (named 0) κ₁ u8) plan (slice plan ∷ [])
           → Is (ShrSlice (named 1) κ₂ u8) graph (slice graph ∷ []) → Is L.the-row limit (limit-val limit ∷ []) → Room u8 (length (out .now))
           → Is T.the-row before (val-of before ∷ [])
-          → ent 𝓤 (onEntry 𝓤 H A lend.signature κs qs (args before) (vals (val-of before ∷ []))) (WpFn 𝓤 H C Λ code.function passed Post)
+          → ent 𝓤 (onEntry 𝓤 H A lend.signature κs qs (args before) (vals (val-of before))) (WpFn 𝓤 H C Λ code.function passed Post)
       walk way-is plan-is graph-is limit-is room counters-are =
           qed W
-          (Tokens
-          ∷ ‵ (owns
-          (D.the-row ∷ ShrSlice (named 0) κ₁ u8 ∷ ShrSlice (named 1) κ₂ u8 ∷ L.the-row ∷ MutSlice (named 2) κ₃ u8 ∷ T.the-row ∷ [])
-          (args before) (vals (val-of before ∷ [])))
-          ∷ []) ∵
+          (Tokens ∷ ‵ (P.Owned way plan graph limit out κ₁ κ₂ κ₃ T.the-row before (val-of before)) ∷ []) ∵
           -- what the parameters own, but for the counters, together
-          move ! (1 ∷ []) $ fsplit ! $ move ! (1 ∷ []) $ fsplit ! $ move ! (1 ∷ []) $ fsplit ! $ move ! (1 ∷ []) $ fsplit ! $
-          move ! (1 ∷ []) $ fsplit ! $ move ! (1 ∷ []) $ fsplit ! $
-          -- [what the counters own; true; out; limit; graph; plan; way; Tokens]
-          move ! (3 ∷ 2 ∷ []) $ fjoin ! $ move ! (3 ∷ 0 ∷ []) $ fjoin ! $ move ! (3 ∷ 0 ∷ []) $ fjoin ! $ move ! (3 ∷ 0 ∷ []) $ fjoin ! $
-          move ! (3 ∷ 0 ∷ []) $
-          -- [Tokens; Handed; what the counters own; true]
+          move ! (1 ∷ []) $ use1 W (‵ Handed ⊛ ‵ (T.the-row .own before (val-of before ∷ [])))
+          (P.apart way plan graph limit out κ₁ κ₂ κ₃ T.the-row before (val-of before) 𝓤 H A W) $ split ! $ move ! (2 ∷ 0 ∷ 1 ∷ []) $
+          -- [Tokens; Handed; what the counters own]
           enter ! C Λ code.function passed _ $
           alloc1 ! (λ l₀. alloc1 ! (λ l₁. alloc1 ! (λ l₂. alloc1 ! (λ l₃. alloc1 ! (λ l₄. alloc1 ! (λ l₅. alloc1 ! (λ l₆. alloc1 ! (λ l₇.
           alloc1 ! (λ l₈. alloc1 ! (λ l₉. alloc1 ! (λ l₁₀. alloc1 ! (λ l₁₁. alloc1 ! (λ l₁₂. alloc0 ! $ params1 ! $
@@ -297,7 +268,7 @@ module _ {M : Type 1} (𝓤 : URA M) (H : Heap 𝓤) (A : Atoms 𝓤) (W : Given
           move ! (10 ∷ []) $ lft-new ! tt (λ α. move ! (1 ∷ []) $
           use1 W (later (some (λ (γ : GName). Lent 𝓤 H A W (α ∷ []) l₇ before γ))) (lends 𝓤 H A W (α ∷ []) l₇ before counters-are) $ await ! tt $ pick ! (λ γ.
           split ! $ move ! (2 ∷ 28 ∷ []) $ join ! $ move ! (0 ∷ 28 ∷ 1 ∷ []) $
-          -- [the tokens; Handed; the lent counters; the lender's part; _12; …; _8; …; what frees _7; _6; …; _0; …; what the counters own; true]
+          -- [the tokens; Handed; the lent counters; the lender's part; _12; …; _8; …; what frees _7; _6; …; _0; …; what the counters own]
           use3 W (raw (Called .pre (to-call α l₇ γ))) (goes-call α l₇ γ) $
           calls-at ! fm Called known (to-call α l₇ γ)
           (and-then ! (load ! (from ! (stop !)) (look ! 23 refl)) (and-then ! (load ! (from ! (stop !)) (look ! 21 refl))

@@ -1,2 +1,2 @@
 pub mod Numbers
-mod Thin
+pub mod Passed

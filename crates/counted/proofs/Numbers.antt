@@ -19,8 +19,8 @@ use Rattle.engine.proofs.Meant.{run-judged}
 use Rattle.graph.specs.Graph.{graph-of}
 use Rattle.plan.specs.Plan.{plan-scan}
 use Rattle.value.specs.declared.Value.{Value}
-use Rattle.wire.specs.Wire.{Reply, done, fitted, refused, reply-number, unless}
-use Rattle.counted.specs.Counted.{counters-after, is-done}
+use Rattle.wire.specs.Wire.{Reply, Returned, done, fitted, refused, reply-number, unless}
+use Rattle.counted.specs.Counted.{Counted, counters-after, is-done}
 
 -- a reply whose number tells
 abbrev Told : Reply → Type 0
@@ -47,7 +47,12 @@ told-answer : (n rounds kind : ℕ) (vs : List Value) (room : ℕ) → Told (ans
 unfolding answer-reply answer-bytes
 told-answer n rounds kind vs room =
     told-unless (fields-code n kind) _ (λ z. told-fitted (answer-bytes n rounds kind vs) room
-    (omega (arith, encode-length n kind (record { count = rounds; rows = answer-rows n kind vs }), length-take (row-count n kind) vs, count-most n kind 256 (fields n kind z .few-vertices) (omega arith))))
+    (omega (
+      arith,
+      encode-length n kind (record { count = rounds; rows = answer-rows n kind vs }),
+      length-take (row-count n kind) vs,
+      count-most n kind 256 (fields n kind z .few-vertices) (omega arith),
+    )))
 
 told-run : (limit : Limit) (s m : List ℕ) (room : ℕ) → Told (run-reply limit s m room)
 unfolding answered
@@ -55,9 +60,16 @@ told-run limit s m room =
     let g = graph-of m in
     let cs = paths-of (plan-scan s) in
     rw (run-judged limit s m room)
-    (told-unless (run-code (plan-scan s) m) (answered limit s g cs room) (λ _. told-answer (g .vertices) (rounds-done limit g cs) (getD s 5 0) (rows-after s g cs (rounds-done limit g cs)) room))
+    (told-unless (run-code (plan-scan s) m) (answered limit s g cs room)
+    (λ _. told-answer (g .vertices) (rounds-done limit g cs) (getD s 5 0) (rows-after s g cs (rounds-done limit g cs)) room))
 
 -- THE COUNTERS BY THE NUMBER ARE THOSE BY THE REPLY
 pub counted-told : (limit : Limit) (s m : List ℕ) (room : ℕ) (c : Counters) (n : ℕ) → n ≡ reply-number (run-reply limit s m room)
     → counted-by c (ltb n 65536) ≡ counters-after (run-reply limit s m room) c
 counted-told limit s m room c n e = ap (λ (k : ℕ). counted-by c (ltb k 65536)) e ∙ ap (counted-by c) (told-run limit s m room)
+
+-- SO A RUN WHOSE END IS COUNTED BY ITS NUMBER IS A COUNTED RUN
+pub counted-run : (limit : Limit) (s m before : List ℕ) {after : List ℕ} (c : Counters) {k n : ℕ} {d : Counters}
+    → Returned (run-reply limit s m (length before)) k before after → (n ≡ k) × (d ≡ counted-by c (ltb k 65536))
+    → Counted (run-reply limit s m (length before)) n before after c d
+counted-run limit s m before c {k} run e = ((e .0 ∙ run .0, run .1), e .1 ∙ counted-told limit s m (length before) c k (run .0))

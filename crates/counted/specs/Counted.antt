@@ -1,8 +1,11 @@
--- The counters after a counted run (document 01), by its reply.
+-- What a counted run leaves (document 01), by its reply.
+use Prim.Native.Nat.{ℕ}
+use mathlib.Core.Path.{_≡_}
 use mathlib.Core.Bool.{Bool, true, false}
+use mathlib.Core.List.{List}
 use Rattle.counters.specs.Counted.{counted-by}
 use Rattle.counters.specs.declared.Counters.{Counters}
-use Rattle.wire.specs.Wire.{Reply, done, refused}
+use Rattle.wire.specs.Wire.{Reply, Returned, done, refused}
 
 -- "answered (number 0) or refused"
 abbrev pub is-done : Reply → Bool
@@ -12,3 +15,7 @@ is-done (refused k) = false
 -- "A counted run adds one to asked and one to answered (number 0) or refused"
 abbrev pub counters-after : Reply → Counters → Counters
 counters-after r c = counted-by c (is-done r)
+
+-- "The tally is one record, lent to each counted run and changed in place": the run's own number and buffer, and the tally from c to d
+abbrev pub Counted : Reply → ℕ → List ℕ → List ℕ → Counters → Counters → Type 0
+Counted reply number before after c d = Returned reply number before after × (d ≡ counters-after reply c)

@@ -5,11 +5,15 @@ use engine::Limit;
 ghost use mathlib.Core.Path.{_≡_};
 ghost use lib.ListN.{length};
 ghost use lib.Dec.{ltb};
-ghost use Rattle.wire.specs.Wire.{reply-number, reply-buffer};
-ghost use Rattle.engine.specs.declared.Limit.the-variants.{Quiet};
 ghost use Rattle.engine.specs.Run.{run-reply};
 ghost use Rattle.counters.specs.Counted.{counted-by};
-ghost use Rattle.counted.specs.Counted.{counters-after};
+ghost use Rattle.counted.specs.Counted.{Counted};
+
+// The way a run goes: the answers are the same.
+pub enum Way {
+    Pull,
+    Push,
+}
 
 // The number of a run, and the counters after it.
 struct Ended {
@@ -28,34 +32,30 @@ fn counted(number: u32, c: Counters) -> Ended
     }
 }
 
-// The counted run by pull, the counters by value.
-fn pull_by_value(plan: &[u8], graph: &[u8], out: &mut [u8], c: Counters) -> Ended
-    ensures { λ r. ⌜ (r .number ≡ reply-number (run-reply Quiet (now (plan .entry)) (now (graph .entry)) (length (now (out .entry))))) × (now (out .exit) ≡ reply-buffer (run-reply Quiet (now (plan .entry)) (now (graph .entry)) (length (now (out .entry)))) (now (out .entry))) × (r .counters ≡ counters-after (run-reply Quiet (now (plan .entry)) (now (graph .entry)) (length (now (out .entry)))) c) ⌝ }
+// The counted run, the counters by value.
+fn by_value(way: Way, plan: &[u8], graph: &[u8], limit: Limit, out: &mut [u8], c: Counters) -> Ended
+    ensures { λ r. ⌜ Counted (run-reply limit (now (plan .entry)) (now (graph .entry)) (length (now (out .entry))))
+        (r .number) (now (out .entry)) (now (out .exit)) c (r .counters) ⌝ }
 {
-    counted(engine::pull(plan, graph, Limit::Quiet, out), c)
+    match way {
+        Way::Pull => counted(engine::pull(plan, graph, limit, out), c),
+        Way::Push => counted(engine::push(plan, graph, limit, out), c),
+    }
 }
 
-// The same by push.
-fn push_by_value(plan: &[u8], graph: &[u8], out: &mut [u8], c: Counters) -> Ended
-    ensures { λ r. ⌜ (r .number ≡ reply-number (run-reply Quiet (now (plan .entry)) (now (graph .entry)) (length (now (out .entry))))) × (now (out .exit) ≡ reply-buffer (run-reply Quiet (now (plan .entry)) (now (graph .entry)) (length (now (out .entry)))) (now (out .entry))) × (r .counters ≡ counters-after (run-reply Quiet (now (plan .entry)) (now (graph .entry)) (length (now (out .entry)))) c) ⌝ }
+// The counted run: the one function that the counters are lent to, and thin, since a struct lent by `&mut` is proved by hand.
+pub fn run(
+    way: Way,
+    plan: &[u8],
+    graph: &[u8],
+    limit: Limit,
+    out: &mut [u8],
+    counters: &mut Counters,
+) -> u32
+    ensures { λ r. ⌜ Counted (run-reply limit (now (plan .entry)) (now (graph .entry)) (length (now (out .entry))))
+        r (now (out .entry)) (now (out .exit)) (now (counters .entry)) (now (counters .exit)) ⌝ }
 {
-    counted(engine::push(plan, graph, Limit::Quiet, out), c)
-}
-
-// The counted run by pull: thin, since a struct lent by `&mut` is proved by hand (proofs/Thin, once for both runs).
-pub fn pull(plan: &[u8], graph: &[u8], out: &mut [u8], counters: &mut Counters) -> u32
-    ensures { λ r. ⌜ (r ≡ reply-number (run-reply Quiet (now (plan .entry)) (now (graph .entry)) (length (now (out .entry))))) × (now (out .exit) ≡ reply-buffer (run-reply Quiet (now (plan .entry)) (now (graph .entry)) (length (now (out .entry)))) (now (out .entry))) × (now (counters .exit) ≡ counters-after (run-reply Quiet (now (plan .entry)) (now (graph .entry)) (length (now (out .entry)))) (now (counters .entry))) ⌝ }
-{
-    let r = pull_by_value(plan, graph, out, *counters);
-    *counters = r.counters;
-    r.number
-}
-
-// The counted run by push: the same.
-pub fn push(plan: &[u8], graph: &[u8], out: &mut [u8], counters: &mut Counters) -> u32
-    ensures { λ r. ⌜ (r ≡ reply-number (run-reply Quiet (now (plan .entry)) (now (graph .entry)) (length (now (out .entry))))) × (now (out .exit) ≡ reply-buffer (run-reply Quiet (now (plan .entry)) (now (graph .entry)) (length (now (out .entry)))) (now (out .entry))) × (now (counters .exit) ≡ counters-after (run-reply Quiet (now (plan .entry)) (now (graph .entry)) (length (now (out .entry)))) (now (counters .entry))) ⌝ }
-{
-    let r = push_by_value(plan, graph, out, *counters);
+    let r = by_value(way, plan, graph, limit, out, *counters);
     *counters = r.counters;
     r.number
 }

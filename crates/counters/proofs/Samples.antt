@@ -1,5 +1,5 @@
--- The tally after one more run, in samples written by hand from document 01: "adds one to asked and one to answered (number 0) or refused; if any of the three is at its
--- greatest, none changes".
+-- The tally after one more run, in samples written by hand from document 01: "adds one to asked and one to answered (number 0) or refused;
+-- if any of the three is at its greatest, none changes".
 use Prim.Native.Nat.{ℕ}
 use mathlib.Core.Bool.{true, false}
 use mathlib.Core.Path.{_≡_, refl}

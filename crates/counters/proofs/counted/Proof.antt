@@ -16,10 +16,20 @@ returns-3 : tie.Need-returns-3
 returns-3 c = let a = c .before .before .before .before .before .before .args in sym (refused-full (a .c) (a .done) (c .if3 .taken))
 
 returns-4 : tie.Need-returns-4
-returns-4 c = sym (one-counted _ _ (c .before .before .before .before .before .before .before .if1 .left) (c .before .before .before .before .before .if2 .left) (c .before .before .before .if3 .left) ∙ ap (one-more _) (c .before .before .if4 .taken))
+returns-4 c =
+    let asked = c .before .before .before .before .before .before .before .if1 .left in
+    let answered = c .before .before .before .before .before .if2 .left in
+    let refused = c .before .before .before .if3 .left in
+    sym (one-counted _ _ asked answered refused ∙ ap (one-more _) (c .before .before .if4 .taken))
 
 returns-5 : tie.Need-returns-5
-returns-5 c = sym (one-counted _ _ (c .before .before .before .before .before .before .before .if1 .left) (c .before .before .before .before .before .if2 .left) (c .before .before .before .if3 .left) ∙ ap (one-more _) (c .before .before .if4 .left))
+returns-5 c =
+    let asked = c .before .before .before .before .before .before .before .if1 .left in
+    let answered = c .before .before .before .before .before .if2 .left in
+    let refused = c .before .before .before .if3 .left in
+    sym (one-counted _ _ asked answered refused ∙ ap (one-more _) (c .before .before .if4 .left))
 
 pub counted-spec : {M : Type 1} → statement M
-counted-spec = tie.close (tie.spec returns returns-2 returns-3 (λ c. search needs) (λ c. search needs) returns-4 (λ c. search needs) (λ c. search needs) returns-5)
+counted-spec =
+    tie.close
+    (tie.spec returns returns-2 returns-3 (λ c. search needs) (λ c. search needs) returns-4 (λ c. search needs) (λ c. search needs) returns-5)

@@ -1,0 +1,296 @@
+// Makes the counted runs below, and compares the number returned, the whole buffer and the counters (document 01's tally) with what was
+// written down by hand from document 01. Prints which cases differ, then how many there are and how many differ.
+use counted::Way;
+use counters::Counters;
+use engine::Limit;
+ghost use Prim.Native.Nat.{_≤_};
+ghost use lib.ListN.{length};
+ghost use Rattle.engine.specs.Run.{run-reply};
+ghost use Rattle.counted.specs.Counted.{Counted};
+
+const OUT: i32 = 1;
+
+// The greatest number of 64 bits.
+const MOST: u64 = 18446744073709551615;
+
+// What the buffer is filled with before a run.
+const FILL: u8 = 0xa5;
+
+// A refusal is 65,536 and its number.
+const REFUSED: u32 = 65536;
+
+// The bytes of an answer of one row.
+const ANSWER: usize = 19;
+
+// What is run: the marked worksheet on map A of document 01; the map as the worksheet; the worksheet as the map; a worksheet whose start,
+// 9, the map has not; a map without its rows.
+const MARKED: u8 = 0;
+
+const NO_PLAN: u8 = 1;
+
+const NO_GRAPH: u8 = 2;
+
+const SOURCE_9: u8 = 3;
+
+const CUT: u8 = 4;
+
+// What a run left: its number, and the tally.
+struct Left {
+    number: u32,
+    counters: Counters,
+}
+
+// What a run is to leave: its number, and of an answer the rounds and the result.
+struct Wanted {
+    number: u32,
+    rounds: u8,
+    result: u8,
+}
+
+// How many cases were run and differed, and the tally that the last one left.
+struct Score {
+    cases: u64,
+    differences: u64,
+    counters: Counters,
+}
+
+// A counted run, with the tally in a local that is lent to it.
+fn lend(
+    way: Way,
+    plan: &[u8],
+    graph: &[u8],
+    limit: Limit,
+    out: &mut [u8],
+    counters: Counters,
+) -> Left
+    ensures { λ r. ⌜ Counted (run-reply limit (now (plan .entry)) (now (graph .entry)) (length (now (out .entry))))
+        (r .number) (now (out .entry)) (now (out .exit)) counters (r .counters) ⌝ }
+{
+    let mut lent = counters;
+    let number = counted::run(way, plan, graph, limit, out, &mut lent);
+    Left {
+        number: number,
+        counters: lent,
+    }
+}
+
+fn run(files: u8, way: Way, limit: Limit, out: &mut [u8], counters: Counters) -> Left {
+    let plan = b"LPW\x01\0\x01\x01\x01\x01\0\0\0\0\x01\x02\x30\0\x31\0";
+    let source_9 = b"LPW\x01\0\x01\x01\x01\x01\0\0\x09\0\x01\x02\x30\0\x31\0";
+    let graph =
+        b"LPM\x01\0\x04\0\x04\0\0\0\x01\0\x05\0\x0a\0\0\0\x02\0\x02\0\x04\0\x02\0\x01\0\x03\0\x14\0\x01\0\x03\0\0\0\x07\0";
+    match files {
+        MARKED => lend(way, plan, graph, limit, out, counters),
+        NO_PLAN => lend(way, graph, graph, limit, out, counters),
+        NO_GRAPH => lend(way, plan, plan, limit, out, counters),
+        SOURCE_9 => lend(way, source_9, graph, limit, out, counters),
+        _ => lend(way, plan, b"LPM\x01\0\x04\0\x04\0", limit, out, counters),
+    }
+}
+
+// Byte i of the answer: `LPA`, version 1, 4 places, the rounds, kind 1, one row with a number.
+fn answer_byte(w: Wanted, i: usize) -> u8 {
+    let head = b"LPA\x01\0\x04\0";
+    if i < 7 {
+        return head[i];
+    }
+    match i {
+        7 => w.rounds,
+        9 => 1,
+        10 => 1,
+        11 => w.result,
+        _ => 0,
+    }
+}
+
+// Byte i of the buffer: of the answer, or as it was filled.
+fn wanted_byte(w: Wanted, i: usize) -> u8 {
+    if w.number < REFUSED {
+        if i < ANSWER {
+            return answer_byte(w, i);
+        }
+    }
+    FILL
+}
+
+fn same_bytes(out: &[u8; 24], w: Wanted) -> bool {
+    let mut i: usize = 0;
+    while i < 24 {
+        if out[i] != wanted_byte(w, i) {
+            return false;
+        }
+        i += 1;
+    }
+    true
+}
+
+fn same_counters(a: Counters, b: Counters) -> bool {
+    if a.asked != b.asked {
+        return false;
+    }
+    if a.answered != b.answered {
+        return false;
+    }
+    a.refused == b.refused
+}
+
+fn same(left: Left, w: Wanted, after: Counters, out: &[u8; 24]) -> bool {
+    if left.number != w.number {
+        return false;
+    }
+    let counters = left.counters;
+    if same_counters(counters, after) {
+        return same_bytes(out, w);
+    }
+    false
+}
+
+fn counts(asked: u64, answered: u64, refused: u64) -> Counters {
+    Counters {
+        asked: asked,
+        answered: answered,
+        refused: refused,
+    }
+}
+
+// The cases go on from another tally.
+fn from(score: Score, counters: Counters) -> Score {
+    Score {
+        cases: score.cases,
+        differences: score.differences,
+        counters: counters,
+    }
+}
+
+fn more(x: u64) -> u64 {
+    std::num::wrapping_add_u64(x, 1)
+}
+
+// One more case: what differs is named.
+fn scored(score: Score, same: bool, counters: Counters) -> Score {
+    let mut r = from(score, counters);
+    r.cases = more(score.cases);
+    if same {
+        return r;
+    }
+    io::write_all(OUT, b"differs: case ");
+    io::print_decimal(OUT, score.cases);
+    io::write_all(OUT, b"\n");
+    r.differences = more(score.differences);
+    r
+}
+
+// A case: so many bytes of the buffer are lent, and the tally that the case before left.
+fn case(
+    score: Score,
+    files: u8,
+    way: Way,
+    limit: Limit,
+    room: usize,
+    w: Wanted,
+    after: Counters,
+) -> Score
+    requires { ⌜ room ≤ 24 ⌝ }
+{
+    let mut out = [FILL; 24];
+    let before = score.counters;
+    let left = run(files, way, limit, &mut out[..room], before);
+    let after_it = left.counters;
+    scored(score, same(left, w, after, &out), after_it)
+}
+
+// A run that is answered, and the tally after it.
+fn answered(
+    score: Score,
+    way: Way,
+    limit: Limit,
+    rounds: u8,
+    result: u8,
+    after: Counters,
+) -> Score {
+    let w = Wanted {
+        number: 19,
+        rounds: rounds,
+        result: result,
+    };
+    case(score, MARKED, way, limit, 24, w, after)
+}
+
+// A run that is refused, and the tally after it.
+fn refused(score: Score, files: u8, way: Way, limit: Limit, number: u32, after: Counters) -> Score
+    requires { ⌜ number ≤ 16 ⌝ }
+{
+    let w = Wanted {
+        number: REFUSED + number,
+        rounds: 0,
+        result: 0,
+    };
+    case(score, files, way, limit, 18, w, after)
+}
+
+// Answers by pull and by push, quiet and stopped: the tally goes on from run to run.
+fn answers(score: Score) -> Score {
+    let mut s = from(score, counts(5, 3, 2));
+    s = answered(s, Way::Pull, Limit::Quiet, 3, 2, counts(6, 4, 2));
+    s = answered(s, Way::Push, Limit::Quiet, 3, 2, counts(7, 5, 2));
+    s = answered(s, Way::Pull, Limit::Rounds(0), 0, 0, counts(8, 6, 2));
+    s = answered(s, Way::Push, Limit::Rounds(0), 0, 0, counts(9, 7, 2));
+    s = answered(s, Way::Pull, Limit::Rounds(1), 1, 1, counts(10, 8, 2));
+    s = answered(s, Way::Push, Limit::Rounds(1), 1, 1, counts(11, 9, 2));
+    s = answered(s, Way::Pull, Limit::Rounds(5), 5, 2, counts(12, 10, 2));
+    answered(s, Way::Push, Limit::Rounds(5), 5, 2, counts(13, 11, 2))
+}
+
+// Refusals for the worksheet (2), the map (2 and 6), a start (13) and the buffer (15).
+fn refusals(score: Score) -> Score {
+    let mut s = from(score, counts(0, 0, 0));
+    s = refused(s, NO_PLAN, Way::Pull, Limit::Quiet, 2, counts(1, 0, 1));
+    s = refused(s, NO_PLAN, Way::Push, Limit::Rounds(1), 2, counts(2, 0, 2));
+    s = refused(s, NO_GRAPH, Way::Push, Limit::Quiet, 2, counts(3, 0, 3));
+    s = refused(s, CUT, Way::Pull, Limit::Rounds(0), 6, counts(4, 0, 4));
+    s = refused(s, SOURCE_9, Way::Push, Limit::Quiet, 13, counts(5, 0, 5));
+    s = refused(s, MARKED, Way::Pull, Limit::Quiet, 15, counts(6, 0, 6));
+    s = refused(s, MARKED, Way::Push, Limit::Rounds(0), 15, counts(7, 0, 7));
+    answered(s, Way::Pull, Limit::Quiet, 3, 2, counts(8, 1, 7))
+}
+
+// "if any of the three is at its greatest, none changes", whether the run is answered or refused.
+fn stays(score: Score, full: Counters) -> Score {
+    let mut s = from(score, full);
+    s = answered(s, Way::Pull, Limit::Quiet, 3, 2, full);
+    s = refused(s, MARKED, Way::Push, Limit::Quiet, 15, full);
+    s = answered(s, Way::Push, Limit::Rounds(1), 1, 1, full);
+    refused(s, NO_PLAN, Way::Pull, Limit::Rounds(1), 2, full)
+}
+
+// Each of the three reaches its greatest, and from then on none changes.
+fn reaches(score: Score) -> Score {
+    let mut s = from(score, counts(MOST - 1, 3, 2));
+    s = answered(s, Way::Pull, Limit::Quiet, 3, 2, counts(MOST, 4, 2));
+    s = answered(s, Way::Pull, Limit::Quiet, 3, 2, counts(MOST, 4, 2));
+    s = from(s, counts(5, MOST - 1, 2));
+    s = refused(s, CUT, Way::Pull, Limit::Quiet, 6, counts(6, MOST - 1, 3));
+    s = answered(s, Way::Push, Limit::Quiet, 3, 2, counts(7, MOST, 3));
+    s = refused(s, SOURCE_9, Way::Push, Limit::Quiet, 13, counts(7, MOST, 3));
+    s = from(s, counts(5, 3, MOST - 1));
+    s = refused(s, MARKED, Way::Pull, Limit::Quiet, 15, counts(6, 3, MOST));
+    answered(s, Way::Push, Limit::Quiet, 3, 2, counts(6, 3, MOST))
+}
+
+fn main() {
+    let mut s = Score {
+        cases: 0,
+        differences: 0,
+        counters: counts(0, 0, 0),
+    };
+    s = refusals(answers(s));
+    s = stays(s, counts(MOST, 3, 2));
+    s = stays(s, counts(5, MOST, 2));
+    s = stays(s, counts(5, 3, MOST));
+    s = reaches(s);
+    io::write_all(OUT, b"counted runs ");
+    io::print_decimal(OUT, s.cases);
+    io::write_all(OUT, b" cases ");
+    io::print_decimal(OUT, s.differences);
+    io::write_all(OUT, b" differences\n");
+}

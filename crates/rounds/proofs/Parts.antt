@@ -7,8 +7,8 @@ use native.Mathlib.Omega.{arith}
 use borrow.Rule.Slice.PartMut.{post-is, putMid}
 use lib.ListN.{take, drop}
 use Rattle.wire.specs.Wire.{at16}
-use Rattle.cells.specs.Cells.{keys-of, relaxed-upto, source-of, initialized, taken-upto}
-use Rattle.rounds.specs.Run.{part, initialized-at, step-takes, stepped, with-part}
+use Rattle.cells.specs.Steps.{keys-of, relaxed-upto, source-of, initialized, taken-upto}
+use Rattle.rounds.specs.Steps.{part, initialized-at, step-takes, stepped, with-part}
 
 size : (a w : ℕ) → a + w - a ≡ w
 size a w = omega arith

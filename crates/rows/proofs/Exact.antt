@@ -21,7 +21,7 @@ use Rattle.value.specs.declared.Value.the-variants.{Absent}
 use Rattle.value.specs.Value.{values}
 use Rattle.eval.specs.Body.{body-found, row}
 use Rattle.eval.proofs.Body.{Agrees, body-value, eight-holds}
-use Rattle.rounds.specs.Run.{value-in}
+use Rattle.rounds.specs.Steps.{value-in}
 use Rattle.rows.specs.Rows.{body-read, final-found, many, body-count, rows-at}
 
 -- ---- the entry count of a legal plan is not cut

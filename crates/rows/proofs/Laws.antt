@@ -13,7 +13,7 @@ use Rattle.value.specs.Value.{reduce, values}
 use Rattle.eval.specs.Eval.{evaluated}
 use Rattle.eval.specs.Body.{count-at, eight, entries-end, entry-rows, expression-end, results, row}
 use Rattle.eval.proofs.Fill.{filled, fill-front}
-use Rattle.rounds.specs.Run.{value-in}
+use Rattle.rounds.specs.Steps.{value-in}
 use Rattle.rows.specs.Rows.{body-read, final-found, many, rows-at}
 
 rows-of : (g : ℕ → Value) (k i : ℕ) → map row (tabulate k i g) ≡ tabulate k i (λ j. row (g j))

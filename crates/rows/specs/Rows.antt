@@ -11,7 +11,7 @@ use Rattle.value.specs.declared.Value.{Value}
 use Rattle.value.specs.declared.Value.the-variants.{Absent}
 use Rattle.eval.specs.Eval.{evaluated}
 use Rattle.eval.specs.Body.{count-at, eight, entries-end, entry-rows, results, row}
-use Rattle.rounds.specs.Run.{value-in}
+use Rattle.rounds.specs.Steps.{value-in}
 
 -- the values of the path reductions at the vertex v, as eight rows
 unfoldable pub rows-at : List ℕ → ℕ → ℕ → List Row

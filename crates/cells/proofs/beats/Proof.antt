@@ -3,7 +3,7 @@ use Prim.Native.Nat.{_+_}
 use mathlib.Core.Path.{_≡_}
 use lib.ListN.{getD}
 use borrow.Author.Tests.{eq-eqb, ne-eqb}
-use Rattle.cells.specs.Cells.{displaces, onward}
+use Rattle.cells.specs.Steps.{displaces, onward}
 use borrow.Author.Needs.{needs}
 use Rattle.cells.proofs.beats.Statement.{statement}
 use Rattle.cells.proofs.beats.Tie as tie

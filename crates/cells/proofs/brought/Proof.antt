@@ -1,5 +1,5 @@
 -- `cells::brought` meets its contract. Assumes nothing.
-use Rattle.cells.specs.Cells.{through}
+use Rattle.cells.specs.Steps.{through}
 use borrow.Author.Needs.{needs}
 use Rattle.cells.proofs.brought.Statement.{statement}
 use Rattle.cells.proofs.brought.Tie as tie

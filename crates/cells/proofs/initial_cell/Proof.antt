@@ -1,6 +1,6 @@
 -- `cells::initial_cell` meets its contract. Assumes nothing.
 use borrow.Author.Tests.{not-true, not-false}
-use Rattle.cells.specs.Cells.{initial-cell, starts-here}
+use Rattle.cells.specs.Steps.{initial-cell, starts-here}
 use mathlib.Core.Path.{_≡_, sym, _∙_}
 use mathlib.Core.Bool.{true, false}
 use borrow.Author.Needs.{needs}

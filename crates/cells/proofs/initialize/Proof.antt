@@ -4,7 +4,7 @@ use mathlib.Core.Path.{_≡_, sym, refl, _∙_, ap}
 use native.Mathlib.Numerals.{add-one}
 use lib.ListN.{length}
 use lib.Seq.{length-sets}
-use Rattle.cells.specs.Cells.{keys-of, numbers, source-of, initialized}
+use Rattle.cells.specs.Steps.{keys-of, numbers, source-of, initialized}
 use native.Mathlib.Omega.{arith}
 use Rattle.cells.proofs.initialize.Statement.{statement}
 use Rattle.cells.proofs.initialize.Tie as tie

@@ -1,5 +1,5 @@
 -- `cells::path_keys` meets its contract. Assumes nothing.
-use Rattle.cells.specs.Cells.{keys-of}
+use Rattle.cells.specs.Steps.{keys-of}
 use borrow.Author.Needs.{needs}
 use Rattle.cells.proofs.path_keys.Statement.{statement}
 use Rattle.cells.proofs.path_keys.Tie as tie

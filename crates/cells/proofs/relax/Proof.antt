@@ -1,7 +1,7 @@
 -- `cells::relax` meets its contract. Assumes nothing.
 use borrow.Author.Tests.{lt-ltb, le-ltb, not-true, not-false}
 use mathlib.Core.Path.{refl}
-use Rattle.cells.specs.Cells.{taken, relaxed}
+use Rattle.cells.specs.Steps.{taken, relaxed}
 use borrow.Author.Needs.{needs}
 use Rattle.cells.proofs.relax.Statement.{statement}
 use Rattle.cells.proofs.relax.Tie as tie

@@ -6,7 +6,7 @@ use native.Mathlib.Numerals.{add-one}
 use lib.ListN.{length}
 use Rattle.graph.proofs.Accepted.{accepted}
 use Rattle.wire.specs.Wire.{at16}
-use Rattle.cells.specs.Cells.{relaxed-upto, taken-upto}
+use Rattle.cells.specs.Steps.{relaxed-upto, taken-upto}
 use Rattle.cells.proofs.relax_all.Statement.{statement}
 use Rattle.cells.proofs.relax_all.Tie as tie
 

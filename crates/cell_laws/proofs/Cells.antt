@@ -15,11 +15,11 @@ use Rattle.walks.specs.Walks.{Edge, edge, extend}
 use Rattle.walks.specs.declared.Extreme.{Extreme}
 use Rattle.walks.specs.declared.Measure.{Measure}
 use Rattle.walks.specs.declared.Measure.the-variants.{Bottleneck, Edges, Source, Weight}
-use Rattle.cells.specs.Cells.{ahead, displaces, numbers, taken}
+use Rattle.cells.specs.Steps.{ahead, displaces, numbers, taken}
 use Rattle.cells.specs.declared.Cell.{Cell}
 use Rattle.cells.specs.declared.PathKeys.{PathKeys}
-use Rattle.rounds_laws.specs.Cells.{figures-at, numbers-at, stamp-at}
-use Rattle.rounds_laws.proofs.Order.{ahead-is, ahead-self, eqb-swap, less-is}
+use Rattle.cell_laws.specs.Steps.{figures-at, numbers-at, stamp-at}
+use Rattle.cell_laws.proofs.Order.{ahead-is, ahead-self, eqb-swap, less-is}
 
 -- ---- four numbers stored at i
 

@@ -10,7 +10,7 @@ use Rattle.walks.specs.Keys.{good?, kept}
 use Rattle.walks.specs.Rounds.{precedes}
 use Rattle.walks.specs.declared.Extreme.{Extreme}
 use Rattle.walks.specs.declared.Extreme.the-variants.{Greatest, Least}
-use Rattle.cells.specs.Cells.{ahead}
+use Rattle.cells.specs.Steps.{ahead}
 
 -- anything, of tests that contradict each other
 pub never : {A : Type 0} → _≡_ {A = Bool} false true → A

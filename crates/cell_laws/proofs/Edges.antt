@@ -18,10 +18,10 @@ use Rattle.walks.specs.declared.Measure.{Measure}
 use Rattle.walks.specs.declared.Measure.the-variants.{Bottleneck, Edges, Source, Weight}
 use Rattle.graph.specs.Graph.{edge-in}
 use Rattle.cells.specs.declared.Cell.{Cell}
-use Rattle.cells.specs.Cells.{numbers, relaxed, relaxed-upto, taken, taken-upto, through}
-use Rattle.rounds_laws.specs.Cells.{figures-at, numbers-at, stamp-at}
-use Rattle.rounds_laws.proofs.Cells.{Keys3, beaten, figures-here, figures-other, onward-is, present, put-other, rows3, stamp-here, taken-is}
-use Rattle.rounds_laws.proofs.Order.{never, overtakes}
+use Rattle.cells.specs.Steps.{numbers, relaxed, relaxed-upto, taken, taken-upto, through}
+use Rattle.cell_laws.specs.Steps.{figures-at, numbers-at, stamp-at}
+use Rattle.cell_laws.proofs.Cells.{Keys3, beaten, figures-here, figures-other, onward-is, present, put-other, rows3, stamp-here, taken-is}
+use Rattle.cell_laws.proofs.Order.{never, overtakes}
 
 -- ---- the better of two
 

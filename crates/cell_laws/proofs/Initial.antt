@@ -43,7 +43,9 @@ module _ (P : PathKeys) (source : ℕ) (l : List ℕ) (n : ℕ) (long : length l
   initialized-long (suc i) = length-sets (initialized P source l i) (4 * i) (numbers (initial-cell P source i)) ∙ initialized-long i
 
   abbrev Right : ℕ → ℕ → Type 0
-  Right i v = (figures-at (initialized P source l i) v ≡ cell-figures (initial-cell P source v)) × (stamp-at (initialized P source l i) v ≡ initial-cell P source v .stamp)
+  Right i v =
+      (figures-at (initialized P source l i) v ≡ cell-figures (initial-cell P source v))
+      × (stamp-at (initialized P source l i) v ≡ initial-cell P source v .stamp)
 
   initialized-right : (i : ℕ) → i ≤ n → (v : ℕ) → v < i → Right i v
   unfolding initialized

@@ -1,4 +1,5 @@
--- A path reduction of fewer than three keys with its last key again: every figure of the added keys is that of the last, and nothing is decided otherwise. Assumes nothing.
+-- A path reduction of fewer than three keys with its last key again: every figure of the added keys is that of the last, and nothing is decided
+-- otherwise. Assumes nothing.
 use Prim.Native.Nat.{ℕ, zero, suc}
 use mathlib.Core.Path.{_≡_, refl, sym, ap, ap₂, _∙_}
 use mathlib.Core.Bool.{Bool, true, false, cond, _&&_}

@@ -335,7 +335,8 @@ module _ (s : List ℕ) (w : ℕ) where
 
           theory : (v : ℕ) → v < n → Next 1 (omega arith) v ≡ gather N ks (N .usable) S v (N .edges)
           theory v k =
-              gather-reached N ks (λ i. leb 1 (stamp-at l (N .edge i .from))) S v m (λ i j. there (N .edge i .from) (from-there i j) (leb 1 (stamp-at l (N .edge i .from))) refl)
+              gather-reached N ks (λ i. leb 1 (stamp-at l (N .edge i .from))) S v m
+              (λ i j. there (N .edge i .from) (from-there i j) (leb 1 (stamp-at l (N .edge i .from))) refl)
               ∙ ap (gather N ks (λ i. true) S v) (sym (edges-count s))
 
       -- BY PUSH: over those from marked vertices, where these are the vertices that round r changed

@@ -23,8 +23,8 @@ paths-in count table = map path-of (take count table)
 abbrev pub path-at : List ℕ → ℕ → PathReduction
 path-at table j = path-of (getD table j 0)
 
--- what the table has at vertex v for the path reduction with index j: three figures, and a stamp that is 0 where the vertex is absent, else one more than the last
--- round that changed it
+-- what the table has at vertex v for the path reduction with index j: three figures, and a stamp that is 0 where the vertex is absent, else one
+-- more than the last round that changed it
 unfoldable pub cell-in : List ℕ → ℕ → ℕ → Cell
 cell-in l j v = record {
   first = getD l (1024 * j + 4 * v) 0;

@@ -24,7 +24,8 @@ use Rattle.rounds.specs.Run.{AllStand, Begun, Ended, Ran, Stands, Turned
 use Rattle.rounds.proofs.Standing.{begun-stands, not-both, stands-kept}
 
 -- what holds of the first path reductions of a table holds of each
-pub legal-at : (P : PathReduction → Type 0) (table : List ℕ) (paths : ℕ) → All P (paths-in paths table) → (j : ℕ) → j < paths → j < length table → P (path-at table j)
+pub legal-at : (P : PathReduction → Type 0) (table : List ℕ) (paths : ℕ) → All P (paths-in paths table)
+    → (j : ℕ) → j < paths → j < length table → P (path-at table j)
 legal-at P [] paths a j h k = absurd (not-suc-le-zero k)
 legal-at P (x ∷ t) zero a j h k = absurd (not-suc-le-zero h)
 legal-at P (x ∷ t) (suc p) a zero h k = a .0
@@ -47,7 +48,7 @@ quiet-more g r n (x ∷ t) (suc k) h =
     ap (λ (b : Bool). unchanged (pull g (path-of x)) r n && b) (quiet-more g r n t k (omega arith))
     ∙ and-assoc (unchanged (pull g (path-of x)) r n) (quiet n (map (pull g) (paths-in k t)) r) (unchanged (pull g (path-at t k)) r n)
 
-module _ (g : Graph) (few : g .vertices ≤ 256) (paths : ℕ) (table : List ℕ) (b : paths ≤ 8) where
+module _ (g : Graph) (paths : ℕ) (table : List ℕ) (b : paths ≤ 8) where
   -- ---- initial values
 
   -- those of the first k
@@ -83,8 +84,8 @@ module _ (g : Graph) (few : g .vertices ≤ 256) (paths : ℕ) (table : List ℕ
     x .says ∙ ap (λ (i : ℕ). not (quiet (g .vertices) (map (pull g) (paths-in i table)) r)) e,
   )
 
-  module _ (r k : ℕ) (h : k < paths) (here : k < length table) (rest rest′ l l′ : List ℕ) (changed moved : Bool) (x : Upto r k rest l changed) (flags : length rest′ ≡ 8)
-      (t : Turned g (path-at table k) r k rest rest′ l l′ moved) where
+  module _ (r k : ℕ) (h : k < paths) (here : k < length table) (rest rest′ l l′ : List ℕ) (changed moved : Bool)
+      (x : Upto r k rest l changed) (flags : length rest′ ≡ 8) (t : Turned g (path-at table k) r k rest rest′ l l′ moved) where
     kept : (q j : ℕ) → j < paths → (j ≡ k → ⊥) → Stands g (path-at table j) q j (getD rest j 0) l → Stands g (path-at table j) q j (getD rest′ j 0) l′
     kept q j i n =
         stands-kept g (path-at table j) q j (getD rest j 0) (getD rest′ j 0) l l′ (t .other-flags j n) (t .stands .sound .long)
@@ -141,8 +142,8 @@ module _ (g : Graph) (few : g .vertices ≤ 256) (paths : ℕ) (table : List ℕ
   ran-spent limit r rest l e x f = ran-as limit r rest l (omega arith) x (inl (e, λ q h. f q (omega arith)))
 
 -- initial values of one more
-module _ (s : List ℕ) (few : at16 s 5 ≤ 256) (paths : ℕ) (table : List ℕ) (b : paths ≤ 8) (k : ℕ) (h : k < paths) (given : Given s (getD table k 0)) (l l′ : List ℕ)
-    (x : Started (graph-of s) few paths table b k l) (y : Begun (graph-of s) (path-at table k) k l l′) where
+module _ (s : List ℕ) (paths : ℕ) (table : List ℕ) (b : paths ≤ 8) (k : ℕ) (h : k < paths) (given : Given s (getD table k 0)) (l l′ : List ℕ)
+    (x : Started (graph-of s) paths table b k l) (y : Begun (graph-of s) (path-at table k) k l l′) where
   zero-flag : (j : ℕ) → j < 8 → getD {A = ℕ} (replicate 8 0) j 0 ≡ 1 → ⊥
   zero-flag j i e = omega (arith, getD-replicate {A = ℕ} 8 j 0 0 i)
 
@@ -155,5 +156,5 @@ module _ (s : List ℕ) (few : at16 s 5 ≤ 256) (paths : ℕ) (table : List ℕ
       stands-kept (graph-of s) (path-at table j) 0 j (getD (replicate 8 0) j 0) (getD (replicate 8 0) j 0) l l′ refl (y .sound .long)
       (λ v q. y .others j (omega arith) n v q) (x .shown j (omega arith))
 
-  pub started-more : Started (graph-of s) few paths table b (suc k) l′
+  pub started-more : Started (graph-of s) paths table b (suc k) l′
   started-more = record { shown = λ j i. shown-now j i (ℕ-discrete j k); long = y .sound .long }

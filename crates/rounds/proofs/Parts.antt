@@ -37,7 +37,8 @@ module _ (s xs ys : List ℕ) (j n : ℕ) (e : n ≡ at16 s 5) where
   step-put word since stamp p = put-part ∙ ap (with-part s j xs) (rw mid-part at p)
 
   -- and by what it says
-  pub step-said : (word since stamp : ℕ) (b : Bool) → b ≡ taken-upto (keys-of word) s since stamp (take (1024 * j + 4 * n - 1024 * j) (drop (1024 * j) xs)) (at16 s 7)
+  pub step-said : (word since stamp : ℕ) (b : Bool)
+      → b ≡ taken-upto (keys-of word) s since stamp (take (1024 * j + 4 * n - 1024 * j) (drop (1024 * j) xs)) (at16 s 7)
       → b ≡ step-takes s word j since stamp xs
   unfolding step-takes
   step-said word since stamp b p = rw mid-part at p

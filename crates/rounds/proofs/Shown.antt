@@ -124,7 +124,8 @@ module _ (s : List ℕ) (w : ℕ) (g : Given s w) (j : ℕ) (h : j < 8) where
 
       -- BY PULL
       pub pull-round-at : Round (graph-of s) (path-of w) r j
-          (pulled (network-of (graph-of s) (path-of w)) (path-of w .keys) (figures-in (path-of w) l j)) l (stepped s w j 1 (r + 2) l) (step-takes s w j 1 (r + 2) l)
+          (pulled (network-of (graph-of s) (path-of w)) (path-of w .keys) (figures-in (path-of w) l j)) l
+          (stepped s w j 1 (r + 2) l) (step-takes s w j 1 (r + 2) l)
       unfolding stepped step-takes
       pull-round-at =
           let N = network-of (graph-of s) c in

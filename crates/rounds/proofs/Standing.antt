@@ -59,7 +59,8 @@ stands-kept g c r j flag flag′ l l′ e long same x = record {
 }
 
 -- one that does not rest, whatever its flag is
-pub stands-awake : (g : Graph) (c : PathReduction) (r j flag flag′ : ℕ) (l : List ℕ) → (flag ≡ 1 → ⊥) → (flag′ ≡ 1 → ⊥) → Stands g c r j flag l → Stands g c r j flag′ l
+pub stands-awake : (g : Graph) (c : PathReduction) (r j flag flag′ : ℕ) (l : List ℕ) → (flag ≡ 1 → ⊥) → (flag′ ≡ 1 → ⊥)
+    → Stands g c r j flag l → Stands g c r j flag′ l
 stands-awake g c r j flag flag′ l n m x = record { figures = x .figures; marks = λ q. x .marks n; rests = λ q. absurd (m q); sound = x .sound }
 
 module _ (s : List ℕ) (w : ℕ) (g : Given s w) (j : ℕ) where
@@ -123,7 +124,8 @@ module _ (s : List ℕ) (w : ℕ) (g : Given s w) (j : ℕ) where
     S = figures-in c l j
 
     -- BY PULL
-    pub pull-stands : (l′ : List ℕ) (b : Bool) → Round (graph-of s) (path-of w) r j (pulled (network-of (graph-of s) (path-of w)) (path-of w .keys) (figures-in (path-of w) l j)) l l′ b
+    pub pull-stands : (l′ : List ℕ) (b : Bool)
+        → Round (graph-of s) (path-of w) r j (pulled (network-of (graph-of s) (path-of w)) (path-of w .keys) (figures-in (path-of w) l j)) l l′ b
         → Stands (graph-of s) (path-of w) (suc r) j 0 l′ × (b ≡ not (unchanged (pull (graph-of s) (path-of w)) r (at16 s 5))) × Others (at16 s 5) j l l′
     pull-stands l′ b y =
         let t = pull-steps N (c .keys) (path-network s w g) r S (x .figures) in
@@ -131,7 +133,8 @@ module _ (s : List ℕ) (w : ℕ) (g : Given s w) (j : ℕ) where
 
     -- BY PUSH
     pub push-stands : (l′ : List ℕ) (b : Bool)
-        → Round (graph-of s) (path-of w) r j (pushed-from (network-of (graph-of s) (path-of w)) (path-of w .keys) (figures-in (path-of w) l j) (changed-in r l j)) l l′ b
+        → Round (graph-of s) (path-of w) r j
+        (pushed-from (network-of (graph-of s) (path-of w)) (path-of w .keys) (figures-in (path-of w) l j) (changed-in r l j)) l l′ b
         → Stands (graph-of s) (path-of w) (suc r) j 0 l′ × (b ≡ not (unchanged (pull (graph-of s) (path-of w)) r (at16 s 5))) × Others (at16 s 5) j l l′
     push-stands l′ b y =
         let t =

@@ -31,7 +31,8 @@ pub record Begun (g : Graph) (c : PathReduction) (j : ℕ) (old new : List ℕ) 
   pub others : Others (g .vertices) j old new
   pub sound : Sound (g .vertices) c 0 new j
 
--- THE ROUND AFTER r of the path reduction c with index j, alone: each vertex holds what `next` says, those that changed are marked, and the round says whether any is
+-- THE ROUND AFTER r of the path reduction c with index j, alone: each vertex holds what `next` says, those that changed are marked, and the
+-- round says whether any is
 pub record Round (g : Graph) (c : PathReduction) (r j : ℕ) (next : State) (old new : List ℕ) (says : Bool) : Type 0 where
   pub figures : (v : ℕ) → v < g .vertices → figures-in c new j v ≡ next v
   pub marks : (v : ℕ) → v < g .vertices → changed-in (suc r) new j v ≡ not (same (figures-in c new j v) (figures-in c old j v))
@@ -69,8 +70,8 @@ Ended g paths table limit rounds =
     ((rounds ≡ limit) × ((q : ℕ) → q < limit → T (quiet-after g paths table q) → ⊥))
     ⊎ ((q : ℕ) × (rounds ≡ suc q) × T (quiet-after g paths table q) × ((i : ℕ) → i < q → T (quiet-after g paths table i) → ⊥))
 
--- WHAT A RUN OF AT MOST `limit` ROUNDS LEAVES: as many rounds as it says, and a table that shows at each vertex for each path reduction what the theory's state is
--- after that many
+-- WHAT A RUN OF AT MOST `limit` ROUNDS LEAVES: as many rounds as it says, and a table that shows at each vertex for each path reduction what the
+-- theory's state is after that many
 pub record Ran (g : Graph) (paths : ℕ) (table : List ℕ) (limit rounds : ℕ) (figures : List ℕ) : Type 0 where
   pub within : rounds ≤ limit
   pub ended : Ended g paths table limit rounds

@@ -1,5 +1,5 @@
--- The table's parts and a round of one of them, as the program goes. Nothing to believe: the contracts of `initialize_at`, `pull_round` and `push_round` say what
--- these are in the words of the theory, and `value-shown` (proofs/Values) what `value-in` is.
+-- The table's parts and a round of one of them, as the program goes. Nothing to believe: the contracts of `initialize_at`, `pull_round` and
+-- `push_round` say what these are in the words of the theory, and `value-shown` (proofs/Values) what `value-in` is.
 use Prim.Native.Nat.{ℕ, _+_, _*_}
 use mathlib.Core.Bool.{Bool, cond}
 use mathlib.Core.List.{List, _++_}

@@ -1,4 +1,5 @@
-// Rounds of all path reductions of a plan on one flat table (document 01: pull run, push run). Path reduction j has the numbers from 1,024 * j on (crate cells).
+// Rounds of all path reductions of a plan on one flat table (document 01: pull run, push run). Path reduction j has the numbers from
+// 1,024 * j on (crate cells).
 ghost use mathlib.Core.Path.{_≡_};
 ghost use mathlib.Core.Bool.{not};
 ghost use Prim.Native.Nat.{suc, _<_, _≤_};

@@ -29,7 +29,8 @@ use Rattle.rounds.proofs.Joint.{legal-at}
 use Rattle.rounds.proofs.Values.{value-shown}
 
 -- what a function gives at the path reduction with index j
-at-index : {B : Type 0} (f : PathReduction → B) (table : List ℕ) (paths j : ℕ) (d : B) → j < paths → j < length table → getD (map f (paths-in paths table)) j d ≡ f (path-at table j)
+at-index : {B : Type 0} (f : PathReduction → B) (table : List ℕ) (paths j : ℕ) (d : B) → j < paths → j < length table
+    → getD (map f (paths-in paths table)) j d ≡ f (path-at table j)
 at-index f [] paths j d h k = absurd (not-suc-le-zero k)
 at-index f (x ∷ t) zero j d h k = absurd (not-suc-le-zero h)
 at-index f (x ∷ t) (suc p) zero d h k = refl
@@ -72,7 +73,8 @@ module _ (g : Graph) (legal-graph : GraphLegal g) (paths : ℕ) (table : List �
 
   -- ROUND BY ROUND: after a given number of rounds each vertex holds for each path reduction its figures over walks of no more edges
   pub round-value : (j : ℕ) → j < paths → (v : ℕ) → v < g .vertices →
-      Figures (network-of g (path-at table j)) (path-at table j .keys) (Within (network-of g (path-at table j)) limit v) (figures-in (path-at table j) figures j v)
+      Figures (network-of g (path-at table j)) (path-at table j .keys) (Within (network-of g (path-at table j)) limit v)
+      (figures-in (path-at table j) figures j v)
   round-value j h v k =
       subst (Figures (network-of g (c j)) (c j .keys) (Within (network-of g (c j)) limit v)) (sym (shows-limit j h v k))
       (state-figures (network-of g (c j)) (c j .keys) (path-in-order (g .vertices) (c j) (fits-at j h)) limit v)
@@ -139,7 +141,9 @@ module _ (g : Graph) (legal-graph : GraphLegal g) (paths : ℕ) (table : List �
     quiet-final j h v k =
         subst (Figures (network-of g (c j)) (c j .keys) (AllTo (network-of g (c j)) v))
         (sym (ran .shows j h v k ∙ ap (λ (r : ℕ). pull g (c j) r v) quiet-rounds))
-        (legal-at (λ d. (u : ℕ) → u < g .vertices → Figures (network-of g d) (d .keys) (AllTo (network-of g d) u) (pull g d (rounds (g .vertices) (map (pull g) cs)) u)) table paths
+        (legal-at
+        (λ d. (u : ℕ) → u < g .vertices → Figures (network-of g d) (d .keys) (AllTo (network-of g d) u) (pull g d (rounds (g .vertices) (map (pull g) cs)) u))
+        table paths
         (rounds-final g (legal-graph .fits) cs legal) j h (omega arith) v k)
 
     -- so said of its value

@@ -1,7 +1,7 @@
--- AFTER EACH ROUND, by pull and by push, the table shows figures over walks of one edge more: from what the round functions in code ensure (`pull_round`, `push_round`,
--- `initialize_at`). Assumes nothing.
+-- AFTER EACH ROUND, by pull and by push, the table shows figures over walks of one edge more: from what the round functions in code ensure
+-- (`pull_round`, `push_round`, `initialize_at`). Assumes nothing.
 use Prim.Native.Nat.{ℕ, suc, _<_}
-use mathlib.Core.Path.{_≡_, sym, _∙_, subst}
+use mathlib.Core.Path.{_≡_, sym, ap, _∙_, subst}
 use mathlib.Core.Bool.{Bool}
 use mathlib.Core.List.{List}
 use lib.Dec.{T}
@@ -18,7 +18,6 @@ use Rattle.meaning.specs.Query.{PathReduction, network-of}
 use Rattle.meaning.proofs.Rounds.{network-fits, path-in-order}
 use Rattle.cells.specs.Table.{changed-in, figures-in}
 use Rattle.rounds.specs.Run.{Begun, Round, pulled, pushed-from}
-use mathlib.Core.Path.{ap}
 
 module _ (g : Graph) (fits : GraphFits g) (c : PathReduction) (legal : PathFits (g .vertices) c) (j : ℕ) where
   abbrev N : Network

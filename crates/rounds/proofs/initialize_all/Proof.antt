@@ -8,14 +8,13 @@ use lib.ListN.{length}
 use Rattle.meaning.specs.Limits.{PathFits}
 use Rattle.wire.specs.Wire.{at16}
 use Rattle.graph.specs.Graph.{graph-of}
-use Rattle.graph.proofs.Accepted.{accepted}
 use Rattle.rounds.proofs.Joint.{Started, legal-at, started-all, started-more}
 use Rattle.rounds.proofs.initialize_all.Statement.{statement}
 use Rattle.rounds.proofs.initialize_all.Tie as tie
 
 abbrev Inv-loop : tie.InvT-loop
 Inv-loop graph paths figures₀ table j₀ figures j =
-    (few : at16 graph 5 ≤ 256) × (b : paths ≤ 8) × (j ≤ paths) × Started (graph-of graph) few paths table b j figures
+    (b : paths ≤ 8) × (j ≤ paths) × Started (graph-of graph) paths table b j figures
 
 abbrev μ-loop : tie.MeasureT-loop
 μ-loop graph paths figures₀ table j₀ figures j = paths - j
@@ -23,13 +22,13 @@ abbrev μ-loop : tie.MeasureT-loop
 loop-holds : tie.Need-loop-holds Inv-loop μ-loop
 loop-holds c =
     let s = c .before .before in
-    (accepted _ (s .pre .0) .sizes .few-vertices, s .pre .1, omega arith, record { shown = λ j h. absurd (not-suc-le-zero h); long = s .pre .3 })
+    (s .pre .1, omega arith, record { shown = λ j h. absurd (not-suc-le-zero h); long = s .pre .3 })
 
 mul-word : tie.Need-mul-word Inv-loop μ-loop
-mul-word c = omega (arith, c .before .loop .inv .1)
+mul-word c = omega (arith, c .before .loop .inv .0)
 
 array-read-word : tie.Need-array-read-word Inv-loop μ-loop
-array-read-word c = omega (arith, c .before .loop .inv .1)
+array-read-word c = omega (arith, c .before .loop .inv .0)
 
 initialize-at-requires : tie.Need-initialize-at-requires Inv-loop μ-loop
 initialize-at-requires c κs =
@@ -37,8 +36,12 @@ initialize-at-requires c κs =
     let a = s .args in
     let l = c .before .before .loop in
     let e : length {A = ℕ} (a .t3) ≡ 8 = s .good .1 .1 .0 .1 .0 .1 in
-    let h : l .j < a .paths = omega arith in
-    (s .pre .0, omega (arith, s .pre .1), legal-at (PathFits (at16 (a .graph .now) 5)) (a .t3) (a .paths) (s .pre .2) (l .j) h (omega (arith, s .pre .1)), l .inv .3 .long)
+    let h : l .j < a .paths = omega arith in (
+      s .pre .0,
+      omega (arith, s .pre .1),
+      legal-at (PathFits (at16 (a .graph .now) 5)) (a .t3) (a .paths) (s .pre .2) (l .j) h (omega (arith, s .pre .1)),
+      l .inv .2 .long,
+    )
 
 add-j : tie.Need-add-j Inv-loop μ-loop
 add-j c = omega arith
@@ -56,21 +59,21 @@ loop-again c =
     let h : l .j < a .paths = omega arith in
     let fits = legal-at (PathFits (at16 (a .graph .now) 5)) (a .t3) (a .paths) (s .pre .2) (l .j) h (omega (arith, s .pre .1)) in (
       l .inv .0,
-      l .inv .1,
       omega arith,
       rw (add-one (l .j))
-          (started-more (a .graph .now) (l .inv .0) (a .paths) (a .t3) (l .inv .1) (l .j) h (record { bytes = λ i. omega (arith, known .given i); accepted = s .pre .0; fits = fits })
-          (l .figures) _ (l .inv .3) (c .before .before .initialize-at .ensures)),
+          (started-more (a .graph .now) (a .paths) (a .t3) (l .inv .0) (l .j) h
+          (record { bytes = λ i. omega (arith, known .given i); accepted = s .pre .0; fits = fits })
+          (l .figures) _ (l .inv .2) (c .before .before .initialize-at .ensures)),
     )
 
 same-length : tie.Need-same-length Inv-loop μ-loop
-same-length c = c .before .loop .inv .3 .long ∙ sym (c .before .before .before .before .pre .3)
+same-length c = c .before .loop .inv .2 .long ∙ sym (c .before .before .before .before .pre .3)
 
 returns : tie.Need-returns Inv-loop μ-loop
 returns c =
     let a = c .before .before .before .before .args in
     let l = c .before .loop in
-    started-all (graph-of (a .graph .now)) (l .inv .0) (a .paths) (a .t3) (l .inv .1) (l .j) (l .figures) (l .inv .3) (omega (arith, l .inv .2))
+    started-all (graph-of (a .graph .now)) (a .paths) (a .t3) (l .inv .0) (l .j) (l .figures) (l .inv .2) (omega (arith, l .inv .1))
 
 pub initialize-all-spec : {M : Type 1} → statement M
 initialize-all-spec =

@@ -7,14 +7,13 @@ use lib.ListN.{length}
 use Rattle.meaning.specs.Limits.{PathFits}
 use Rattle.wire.specs.Wire.{at16}
 use Rattle.graph.specs.Graph.{graph-of}
-use Rattle.graph.proofs.Accepted.{accepted}
 use Rattle.rounds.proofs.Joint.{Upto, legal-at, upto-all, upto-more, upto-none}
 use Rattle.rounds.proofs.round.Statement.{statement}
 use Rattle.rounds.proofs.round.Tie as tie
 
 abbrev Inv-loop : tie.InvT-loop
 Inv-loop push graph paths r rest₀ figures₀ table changed₀ j₀ rest figures changed j =
-    (few : at16 graph 5 ≤ 256) × (b : paths ≤ 8) × (j ≤ paths) × Upto (graph-of graph) few paths table b r j rest figures changed
+    (b : paths ≤ 8) × (j ≤ paths) × Upto (graph-of graph) paths table b r j rest figures changed
 
 abbrev μ-loop : tie.MeasureT-loop
 μ-loop push graph paths r rest₀ figures₀ table changed₀ j₀ rest figures changed j = paths - j
@@ -23,14 +22,13 @@ loop-holds : tie.Need-loop-holds Inv-loop μ-loop
 loop-holds c =
     let s = c .before .before .before in
     let a = s .args in
-    let few = accepted _ (s .pre .0) .sizes .few-vertices in
-    (few, s .pre .1, omega arith, upto-none (graph-of (a .graph .now)) few (a .paths) (a .t4) (s .pre .1) (a .r) (a .rest .now) (a .figures .now) (s .pre .4))
+    (s .pre .1, omega arith, upto-none (graph-of (a .graph .now)) (a .paths) (a .t4) (s .pre .1) (a .r) (a .rest .now) (a .figures .now) (s .pre .4))
 
 mul-word : tie.Need-mul-word Inv-loop μ-loop
-mul-word c = omega (arith, c .before .loop .inv .1)
+mul-word c = omega (arith, c .before .loop .inv .0)
 
 array-read-word : tie.Need-array-read-word Inv-loop μ-loop
-array-read-word c = omega (arith, c .before .loop .inv .1)
+array-read-word c = omega (arith, c .before .loop .inv .0)
 
 turn-requires : tie.Need-turn-requires Inv-loop μ-loop
 turn-requires c κs =
@@ -43,8 +41,8 @@ turn-requires c κs =
       omega (arith, s .pre .1),
       legal-at (PathFits (at16 (a .graph .now) 5)) (a .t4) (a .paths) (s .pre .2) (l .j) h (omega (arith, s .pre .1)),
       s .pre .3,
-      l .inv .3 .flags,
-      l .inv .3 .waits (l .j) (omega arith) h,
+      l .inv .2 .flags,
+      l .inv .2 .waits (l .j) (omega arith) h,
     )
 
 add-j : tie.Need-add-j Inv-loop μ-loop
@@ -62,24 +60,23 @@ loop-again c =
     let e : length {A = ℕ} (a .t4) ≡ 8 = s .good .1 .1 .1 .0 .1 .0 .1 in
     let h : l .j < a .paths = omega arith in (
       l .inv .0,
-      l .inv .1,
       omega arith,
       rw (add-one (l .j))
-          (upto-more (graph-of (a .graph .now)) (l .inv .0) (a .paths) (a .t4) (l .inv .1) (a .r) (l .j) h (omega (arith, s .pre .1)) (l .rest) _ (l .figures) _ (l .changed) (t .result)
-          (l .inv .3) (t .kept .1 .1 .1 .1 .1 .0 ∙ l .inv .3 .flags) (t .ensures)),
+          (upto-more (graph-of (a .graph .now)) (a .paths) (a .t4) (l .inv .0) (a .r) (l .j) h (omega (arith, s .pre .1)) (l .rest) _ (l .figures) _
+          (l .changed) (t .result) (l .inv .2) (t .kept .1 .1 .1 .1 .1 .0 ∙ l .inv .2 .flags) (t .ensures)),
     )
 
 same-length : tie.Need-same-length Inv-loop μ-loop
-same-length c = c .before .loop .inv .3 .flags ∙ sym (c .before .before .before .before .before .pre .4 .flags)
+same-length c = c .before .loop .inv .2 .flags ∙ sym (c .before .before .before .before .before .pre .4 .flags)
 
 same-length-2 : tie.Need-same-length-2 Inv-loop μ-loop
-same-length-2 c = c .before .loop .inv .3 .long ∙ sym (c .before .before .before .before .before .pre .4 .long)
+same-length-2 c = c .before .loop .inv .2 .long ∙ sym (c .before .before .before .before .before .pre .4 .long)
 
 returns : tie.Need-returns Inv-loop μ-loop
 returns c =
     let a = c .before .before .before .before .before .args in
     let l = c .before .loop in
-    upto-all (graph-of (a .graph .now)) (l .inv .0) (a .paths) (a .t4) (l .inv .1) (a .r) (l .j) (l .rest) (l .figures) (l .changed) (omega (arith, l .inv .2)) (l .inv .3)
+    upto-all (graph-of (a .graph .now)) (a .paths) (a .t4) (l .inv .0) (a .r) (l .j) (l .rest) (l .figures) (l .changed) (omega (arith, l .inv .1)) (l .inv .2)
 
 pub round-spec : {M : Type 1} → statement M
 round-spec =

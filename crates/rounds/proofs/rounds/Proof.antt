@@ -6,9 +6,7 @@ use mathlib.Core.Path.{_≡_, sym, _∙_}
 use mathlib.Core.Bool.{true, false}
 use native.Mathlib.Nat.{not-suc-le-zero}
 use native.Mathlib.Numerals.{add-one}
-use Rattle.wire.specs.Wire.{at16}
 use Rattle.graph.specs.Graph.{graph-of}
-use Rattle.graph.proofs.Accepted.{accepted}
 use Rattle.rounds.specs.Run.{AllStand}
 use Rattle.rounds.proofs.Joint.{Unquiet, ran-quiet, ran-spent, unquiet-more}
 use Rattle.rounds.proofs.rounds.Statement.{statement}
@@ -16,7 +14,7 @@ use Rattle.rounds.proofs.rounds.Tie as tie
 
 abbrev Inv-loop : tie.InvT-loop
 Inv-loop push graph paths table limit figures₀ rest₀ r₀ figures rest r =
-    (few : at16 graph 5 ≤ 256) × (b : paths ≤ 8) × (r ≤ limit) × AllStand (graph-of graph) paths table r rest figures × Unquiet (graph-of graph) few paths table b r
+    (b : paths ≤ 8) × (r ≤ limit) × AllStand (graph-of graph) paths table r rest figures × Unquiet (graph-of graph) paths table b r
 
 abbrev μ-loop : tie.MeasureT-loop
 μ-loop push graph paths table limit figures₀ rest₀ r₀ figures rest r = limit - r
@@ -24,22 +22,23 @@ abbrev μ-loop : tie.MeasureT-loop
 loop-holds : tie.Need-loop-holds Inv-loop μ-loop
 loop-holds c =
     let s = c .before .before in
-    (accepted _ (s .pre .0) .sizes .few-vertices, s .pre .1, omega arith, s .pre .3, λ q h. absurd (not-suc-le-zero h))
+    (s .pre .1, omega arith, s .pre .3, λ q h. absurd (not-suc-le-zero h))
 
 slice-aggregate-round : tie.Need-slice-aggregate-round Inv-loop μ-loop
-slice-aggregate-round c = sym (c .before .before .loop .inv .3 .flags)
+slice-aggregate-round c = sym (c .before .before .loop .inv .2 .flags)
 
 round-requires : tie.Need-round-requires Inv-loop μ-loop
 round-requires c κs =
     let s = c .before .before .before .before .before .before in
-    (s .pre .0, s .pre .1, s .pre .2, omega arith, c .before .before .before .loop .inv .3)
+    (s .pre .0, s .pre .1, s .pre .2, omega arith, c .before .before .before .loop .inv .2)
 
 add-r : tie.Need-add-r Inv-loop μ-loop
 add-r c = omega arith
 
 same-length : tie.Need-same-length Inv-loop μ-loop
 same-length c =
-    c .before .before .before .before .round .ensures .0 .long ∙ sym (c .before .before .before .before .before .before .before .before .before .before .before .pre .3 .long)
+    c .before .before .before .before .round .ensures .0 .long
+    ∙ sym (c .before .before .before .before .before .before .before .before .before .before .before .pre .3 .long)
 
 returns : tie.Need-returns Inv-loop μ-loop
 returns c =
@@ -47,7 +46,7 @@ returns c =
     let l = c .before .before .before .before .before .before .before .before .loop in
     let t = c .before .before .before .before .round in
     rw (add-one (l .r))
-    (ran-quiet (graph-of (a .graph .now)) (l .inv .0) (a .paths) (a .table) (l .inv .1) (a .limit) (l .r) _ _ (omega arith) (t .ensures .0) (l .inv .4)
+    (ran-quiet (graph-of (a .graph .now)) (a .paths) (a .table) (l .inv .0) (a .limit) (l .r) _ _ (omega arith) (t .ensures .0) (l .inv .3)
     (sym (not-true (t .result) (c .if1 .taken)) ∙ t .ensures .1))
 
 loop-less : tie.Need-loop-less Inv-loop μ-loop
@@ -59,21 +58,21 @@ loop-again c =
     let l = c .before .before .before .before .before .before .before .before .loop in
     let t = c .before .before .before .before .round in (
       l .inv .0,
-      l .inv .1,
       omega arith,
       rw (add-one (l .r)) (t .ensures .0),
       rw (add-one (l .r))
-          (unquiet-more (graph-of (a .graph .now)) (l .inv .0) (a .paths) (a .table) (l .inv .1) (l .r) (l .inv .4) (sym (not-false (t .result) (c .if1 .left)) ∙ t .ensures .1)),
+          (unquiet-more (graph-of (a .graph .now)) (a .paths) (a .table) (l .inv .0) (l .r) (l .inv .3)
+          (sym (not-false (t .result) (c .if1 .left)) ∙ t .ensures .1)),
     )
 
 same-length-2 : tie.Need-same-length-2 Inv-loop μ-loop
-same-length-2 c = c .before .loop .inv .3 .long ∙ sym (c .before .before .before .before .pre .3 .long)
+same-length-2 c = c .before .loop .inv .2 .long ∙ sym (c .before .before .before .before .pre .3 .long)
 
 returns-2 : tie.Need-returns-2 Inv-loop μ-loop
 returns-2 c =
     let a = c .before .before .before .before .args in
     let l = c .before .loop in
-    ran-spent (graph-of (a .graph .now)) (l .inv .0) (a .paths) (a .table) (l .inv .1) (a .limit) (l .r) _ _ (omega (arith, l .inv .2)) (l .inv .3) (l .inv .4)
+    ran-spent (graph-of (a .graph .now)) (a .paths) (a .table) (l .inv .0) (a .limit) (l .r) _ _ (omega (arith, l .inv .1)) (l .inv .2) (l .inv .3)
 
 pub rounds-spec : {M : Type 1} → statement M
 rounds-spec =

@@ -171,7 +171,8 @@ module _ (N : Network) (s : List ℕ) (n m since stamp : ℕ) (old : List ℕ) (
         (brings (leb since (stamp-at old (edge-in s i .from)) && eqb (edge-in s i .to) v) (Keys3 k1 k2 k3) (edge-in s i) (figures-at old))
     unfolding gather
     gathers i h v =
-        ap (λ (e : Edge). best (Keys3 k1 k2 k3) (Gathered v i) (brings (leb since (stamp-at old (e .from)) && eqb (e .to) v) (Keys3 k1 k2 k3) e (figures-at old)))
+        ap
+        (λ (e : Edge). best (Keys3 k1 k2 k3) (Gathered v i) (brings (leb since (stamp-at old (e .from)) && eqb (e .to) v) (Keys3 k1 k2 k3) e (figures-at old)))
         (S .edge-is i h)
 
     not-brought : (i : ℕ) → i < m → (v : ℕ) → (leb since (stamp-at old (edge-in s i .from)) && eqb (edge-in s i .to) v) ≡ false

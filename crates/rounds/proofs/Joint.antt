@@ -1,5 +1,5 @@
 -- All path reductions of a table: their initial values, a round of all in turn, and rounds until one is quiet. Assumes nothing.
-use Prim.Native.Nat.{ℕ, zero, suc, _+_, _≤_, _<_}
+use Prim.Native.Nat.{ℕ, zero, suc, _≤_, _<_}
 use mathlib.Core.Path.{_≡_, refl, sym, ap, ap₂, _∙_, subst}
 use mathlib.Core.Logic.{inl, inr}
 use mathlib.Core.Bool.{Bool, true, false, not, _&&_, _||_}
@@ -9,14 +9,13 @@ use native.Mathlib.Decide.{ℕ-discrete}
 use native.Mathlib.Nat.{not-suc-le-zero}
 use borrow.Author.Tests.{not-false}
 use lib.Dec.{T}
-use lib.ListN.{length, getD, replicate, take, getD-replicate}
+use lib.ListN.{length, getD, replicate, getD-replicate}
 use Rattle.walks.specs.Lists.{All}
 use Rattle.walks.specs.Rounds.{quiet, unchanged}
 use Rattle.walks.specs.Walks.{Graph}
 use Rattle.walks.proofs.Tests.{T-of}
 use Rattle.meaning.specs.Query.{PathReduction}
 use Rattle.meaning.specs.Run.{pull}
-use Rattle.wire.specs.Wire.{at16}
 use Rattle.graph.specs.Graph.{graph-of}
 use Rattle.cells.specs.Table.{path-at, path-of, paths-in}
 use Rattle.cell_laws.proofs.Path.{Given, T-true}

@@ -1,6 +1,6 @@
 -- A round of one path reduction's part of the table, over what the table shows. Assumes nothing.
 use Prim.Native.Nat.{ℕ, suc, _+_, _*_, _≤_, _<_}
-use mathlib.Core.Path.{_≡_, refl, sym, ap, ap₂, _∙_, subst}
+use mathlib.Core.Path.{_≡_, sym, ap, _∙_, subst}
 use mathlib.Core.Bool.{Bool, not}
 use mathlib.Core.List.{List}
 use mathlib.Core.Option.{Option}
@@ -12,9 +12,9 @@ use Rattle.meaning.specs.Query.{PathReduction, network-of}
 use Rattle.wire.specs.Wire.{at16}
 use Rattle.graph.specs.Graph.{graph-of}
 use Rattle.graph.proofs.Accepted.{accepted}
-use Rattle.cells.specs.Table.{Below, Sound, any-vertex, cell-in, changed-in, figures-in, figures-of, padded, path-of}
+use Rattle.cells.specs.Table.{Below, Sound, cell-in, changed-in, figures-in, figures-of, padded, path-of}
 use Rattle.cell_laws.specs.Steps.{figures-at, stamp-at}
-use Rattle.cell_laws.proofs.Initial.{Begins, initial-shows}
+use Rattle.cell_laws.proofs.Initial.{initial-shows}
 use Rattle.cell_laws.proofs.Pad.{Sized, cell-cut, cell-sized, cut, cut-pad, gather-sized, initial-sized}
 use Rattle.cell_laws.proofs.Path.{Given, Shows, Stepped, any-same, path-few, pull-steps-to, push-steps-to}
 use Rattle.rounds.specs.Run.{Begun, Round, pulled, pushed-from}

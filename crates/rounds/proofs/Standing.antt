@@ -9,7 +9,7 @@ use borrow.Author.Tests.{not-false}
 use lib.Dec.{T}
 use lib.ListN.{length, getD, set}
 use lib.Seq.{getD-set-other, getD-set-same}
-use Rattle.walks.specs.Rounds.{Marked, State, initial, marked, reached, same, state, unchanged}
+use Rattle.walks.specs.Rounds.{Marked, State, marked, reached, same, state, unchanged}
 use Rattle.walks.specs.Walks.{Graph, Network}
 use Rattle.walks.proofs.Joint.{state-settles}
 use Rattle.walks.proofs.Push.{fresh, marked-is}
@@ -21,7 +21,6 @@ use Rattle.meaning.specs.Run.{pull}
 use Rattle.wire.specs.Wire.{at16}
 use Rattle.graph.specs.Graph.{graph-of}
 use Rattle.cells.specs.Table.{Sound, any-vertex, cell-in, changed-in, figures-in, figures-of, path-of}
-use Rattle.cells.specs.declared.Cell.{Cell}
 use Rattle.cell_laws.proofs.Path.{Given, T-true, any-same, below-more, path-network, path-ordered}
 use Rattle.rounds.specs.Run.{Begun, Others, Round, Stands, Turned, pulled, pushed-from}
 

@@ -6,7 +6,7 @@ use mathlib.Core.Bool.{Bool, not}
 use mathlib.Core.List.{List, map}
 use lib.Dec.{T}
 use lib.ListN.{length, getD}
-use Rattle.walks.specs.Rounds.{Marked, State, gather, initial, marked, push-round, quiet, reached, same, unchanged}
+use Rattle.walks.specs.Rounds.{State, gather, initial, marked, push-round, quiet, reached, same, unchanged}
 use Rattle.walks.specs.Walks.{Graph, Network}
 use Rattle.meaning.specs.Query.{PathReduction, network-of}
 use Rattle.meaning.specs.Run.{pull}

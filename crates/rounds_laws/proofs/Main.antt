@@ -7,7 +7,6 @@ use native.Mathlib.Omega.{arith}
 use native.Mathlib.Nat.{not-suc-le-zero}
 use lib.Dec.{T}
 use lib.ListN.{length, getD}
-use Rattle.value.specs.declared.Value.{Value}
 use Rattle.value.specs.declared.Value.the-variants.{Absent}
 use Rattle.walks.specs.Lists.{All}
 use Rattle.walks.specs.Meaning.{Figures, value}
@@ -22,8 +21,8 @@ use Rattle.meaning.specs.Query.{PathReduction, network-of}
 use Rattle.meaning.specs.Run.{pull, values-at}
 use Rattle.meaning.proofs.Lists.{all-unmapped}
 use Rattle.meaning.proofs.Rounds.{network-fits, path-in-order, rounds-at-most, rounds-final, rounds-go-on, rounds-smallest, rounds-stop}
-use Rattle.cells.specs.Table.{figures-in, path-at, path-of, paths-in}
-use Rattle.rounds.specs.Run.{Ended, Ran, quiet-after}
+use Rattle.cells.specs.Table.{figures-in, path-at, paths-in}
+use Rattle.rounds.specs.Run.{Ended, Ran}
 use Rattle.rounds.specs.Steps.{value-in}
 use Rattle.rounds.proofs.Joint.{legal-at}
 use Rattle.rounds.proofs.Values.{value-shown}

@@ -7,10 +7,10 @@ use mathlib.Core.List.{List}
 use lib.Dec.{T}
 use Rattle.walks.specs.Keys.{in-order}
 use Rattle.walks.specs.Meaning.{Figures}
-use Rattle.walks.specs.Rounds.{Marked, State, marked, state}
+use Rattle.walks.specs.Rounds.{Marked, marked, state}
 use Rattle.walks.specs.Walks.{Fits, Graph, Network, Within}
 use Rattle.walks.proofs.Optimal.{figures-unique}
-use Rattle.walks.proofs.Push.{fresh, marked-is}
+use Rattle.walks.proofs.Push.{marked-is}
 use Rattle.walks.proofs.Rounds.{state-figures}
 use Rattle.walks.proofs.Steps.{pull-steps, push-steps}
 use Rattle.meaning.specs.Limits.{GraphFits, PathFits}

@@ -30,7 +30,15 @@ narrow-requires-3 c κs = search needs
 
 returns : tie.Need-returns
 unfolding through
-returns c = rw (c .narrow3 .ensures, c .before .extended3 .ensures, c .before .before .narrow2 .ensures, c .before .before .before .extended2 .ensures, c .before .before .before .before .narrow .ensures, c .before .before .before .before .before .extended .ensures)
+returns c =
+    rw (
+      c .narrow3 .ensures,
+      c .before .extended3 .ensures,
+      c .before .before .narrow2 .ensures,
+      c .before .before .before .extended2 .ensures,
+      c .before .before .before .before .narrow .ensures,
+      c .before .before .before .before .before .extended .ensures,
+    )
 
 pub brought-spec : {M : Type 1} → statement M
 brought-spec =

@@ -30,7 +30,14 @@ key-row-requires-3 c κs = search needs
 
 returns : tie.Need-returns
 unfolding keys-of
-returns c = rw (c .key-row3 .ensures, c .before .key-row2 .ensures, c .before .before .key-row .ensures, c .before .before .before .key-or-before2 .ensures, c .before .before .before .before .key-or-before .ensures)
+returns c =
+    rw (
+      c .key-row3 .ensures,
+      c .before .key-row2 .ensures,
+      c .before .before .key-row .ensures,
+      c .before .before .before .key-or-before2 .ensures,
+      c .before .before .before .before .key-or-before .ensures,
+    )
 
 pub path-keys-spec : {M : Type 1} → statement M
 path-keys-spec =

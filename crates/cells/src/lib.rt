@@ -13,7 +13,8 @@ ghost use lib.Seq.{sets};
 ghost use Rattle.walks.specs.Walks.{base};
 ghost use Rattle.wire.specs.Wire.{at16};
 ghost use Rattle.graph.specs.Graph.{graph-code, edge-in};
-ghost use Rattle.cells.specs.Cells.{ahead, key-or-before, keys-of, source-of, starts-here, initial-cell, numbers, initialized, onward, through, displaces, taken, relaxed, relaxed-upto, taken-upto};
+ghost use Rattle.cells.specs.Steps.{ahead, key-or-before, keys-of, source-of, starts-here, initial-cell, numbers, initialized};
+ghost use Rattle.cells.specs.Steps.{onward, through, displaces, taken, relaxed, relaxed-upto, taken-upto};
 
 // The keys of a path reduction by their rows.
 pub struct PathKeys {
@@ -294,8 +295,14 @@ fn relax(
     old: &[u32],
     new: &mut [u32],
 ) -> bool
-    requires { ⌜ (graph-code (now graph) ≡ 0) × (i < at16 (now graph) 7) × (length (now old) ≡ 4 * at16 (now graph) 5) × (length (now new) ≡ 4 * at16 (now graph) 5) ⌝ }
-    ensures { λ r. ⌜ (r ≡ taken keys (edge-in (now (graph .entry)) i) since (now (old .entry)) (now (new .entry))) × (now (new .exit) ≡ relaxed keys (edge-in (now (graph .entry)) i) since stamp (now (old .entry)) (now (new .entry))) ⌝ }
+    requires { ⌜
+        (graph-code (now graph) ≡ 0) × (i < at16 (now graph) 7)
+        × (length (now old) ≡ 4 * at16 (now graph) 5) × (length (now new) ≡ 4 * at16 (now graph) 5)
+        ⌝ }
+    ensures { λ r. ⌜
+        (r ≡ taken keys (edge-in (now (graph .entry)) i) since (now (old .entry)) (now (new .entry)))
+        × (now (new .exit) ≡ relaxed keys (edge-in (now (graph .entry)) i) since stamp (now (old .entry)) (now (new .entry)))
+        ⌝ }
 {
     let f = 4 * from_at(graph, i);
     if old[f + 3] < since {
@@ -322,7 +329,10 @@ fn relax_all(
     new: &mut [u32],
 ) -> bool
     requires { ⌜ (graph-code (now graph) ≡ 0) × (length (now old) ≡ 4 * at16 (now graph) 5) × (now new ≡ now old) ⌝ }
-    ensures { λ r. ⌜ (r ≡ taken-upto keys (now (graph .entry)) since stamp (now (old .entry)) (at16 (now (graph .entry)) 7)) × (now (new .exit) ≡ relaxed-upto keys (now (graph .entry)) since stamp (now (old .entry)) (at16 (now (graph .entry)) 7)) ⌝ }
+    ensures { λ r. ⌜
+        (r ≡ taken-upto keys (now (graph .entry)) since stamp (now (old .entry)) (at16 (now (graph .entry)) 7))
+        × (now (new .exit) ≡ relaxed-upto keys (now (graph .entry)) since stamp (now (old .entry)) (at16 (now (graph .entry)) 7))
+        ⌝ }
 {
     let m = read16(graph, 7);
     let mut changed = false;
@@ -347,19 +357,38 @@ fn copy(src: &[u32], dst: &mut [u32])
     }
 }
 
-// A round of the path reduction of this number, in place; the figures of the round before are kept apart in `work`. Whether a vertex changed.
-pub fn step(
+// A round of the path reduction of this number, in place; `before` keeps the figures of the round before. Whether a vertex changed.
+fn step_from(
     word: u64,
     graph: &[u8],
     since: u32,
     stamp: u32,
     part: &mut [u32],
-    work: &mut [u32],
+    before: &mut [u32],
 ) -> bool
-    requires { ⌜ (graph-code (now graph) ≡ 0) × (length (now part) ≡ 4 * at16 (now graph) 5) × (length (now work) ≡ 4 * at16 (now graph) 5) ⌝ }
-    ensures { λ r. ⌜ (r ≡ taken-upto (keys-of word) (now (graph .entry)) since stamp (now (part .entry)) (at16 (now (graph .entry)) 7)) × (now (part .exit) ≡ relaxed-upto (keys-of word) (now (graph .entry)) since stamp (now (part .entry)) (at16 (now (graph .entry)) 7)) ⌝ }
+    requires { ⌜
+        (graph-code (now graph) ≡ 0) × (length (now part) ≡ 4 * at16 (now graph) 5) × (length (now before) ≡ 4 * at16 (now graph) 5)
+        ⌝ }
+    ensures { λ r. ⌜
+        (r ≡ taken-upto (keys-of word) (now (graph .entry)) since stamp (now (part .entry)) (at16 (now (graph .entry)) 7))
+        × (now (part .exit) ≡ relaxed-upto (keys-of word) (now (graph .entry)) since stamp (now (part .entry)) (at16 (now (graph .entry)) 7))
+        × (now (before .exit) ≡ now (part .entry))
+        ⌝ }
 {
     let keys = path_keys(word);
-    copy(part, work);
-    relax_all(keys, graph, since, stamp, work, part)
+    copy(part, before);
+    relax_all(keys, graph, since, stamp, before, part)
+}
+
+// The same with room of its own for the figures of the round before.
+pub fn step(word: u64, graph: &[u8], since: u32, stamp: u32, part: &mut [u32]) -> bool
+    requires { ⌜ (graph-code (now graph) ≡ 0) × (length (now part) ≡ 4 * at16 (now graph) 5) ⌝ }
+    ensures { λ r. ⌜
+        (r ≡ taken-upto (keys-of word) (now (graph .entry)) since stamp (now (part .entry)) (at16 (now (graph .entry)) 7))
+        × (now (part .exit) ≡ relaxed-upto (keys-of word) (now (graph .entry)) since stamp (now (part .entry)) (at16 (now (graph .entry)) 7))
+        ⌝ }
+{
+    let mut room = [0u32; 1024];
+    let w = part.len();
+    step_from(word, graph, since, stamp, part, &mut room[..w])
 }

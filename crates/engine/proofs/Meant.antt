@@ -37,8 +37,8 @@ use Rattle.wire.proofs.Codes.{then-both}
 use Rattle.wire.specs.Wire.{Bytes, Reply, at16, done, fitted, refused, unless}
 use Rattle.engine.specs.declared.Limit.{Limit}
 use Rattle.engine.specs.declared.Limit.the-variants.{Quiet, Rounds}
-use Rattle.engine.specs.Run.{Sixteen, outcome, run-reply, outside-code, sources-code}
-use Rattle.engine.specs.Steps.{most-of, paths-of, run-code}
+use Rattle.engine.specs.Run.{outcome, run-reply, outside-code, sources-code}
+use Rattle.engine.specs.Steps.{paths-of, run-code}
 use Rattle.engine.proofs.Numbers.{paths-held}
 
 -- ---- starts
@@ -164,11 +164,6 @@ run-answers p legal m graph-ok fits limit room =
     rw (read-complete p legal .accepted, graph-ok, plan-back p legal, sources-accepted (at16 m 5) (p .paths) fits) refl
 
 -- ---- the program's reply, where nothing is refused before 15
-
--- a number of rounds in 16 bits
-pub most-sixteen : (limit : Limit) (n k : ℕ) → k ≡ most-of limit n → k < 65536 → Sixteen limit
-most-sixteen Quiet n k e h = tt
-most-sixteen (Rounds r) n k e h = omega arith
 
 -- the second byte behind the header is the kind
 kind-byte : (p : Plan) → getD (encode p) 5 0 ≡ kind-of (p .body)

@@ -14,7 +14,8 @@ use Rattle.term_text.proofs.Paths.{legal-parts}
 use Rattle.term_text.proofs.Table.{Table}
 use Rattle.progress.specs.declared.Progress.{Progress}
 use Rattle.walks.specs.Lists.{All}
-use Rattle.engine.specs.Steps.{path-of, paths-of}
+use Rattle.cells.specs.Table.{path-of}
+use Rattle.engine.specs.Steps.{paths-of}
 
 -- the first of three bytes, as many as there are keys
 three : (ks : List ℕ) → 1 ≤ length ks → length ks ≤ 3 → take (length ks) (getD ks 0 0 ∷ getD ks 1 0 ∷ getD ks 2 0 ∷ []) ≡ ks

@@ -8,7 +8,7 @@ use lib.ListN.{length, getD, take, drop}
 use lib.Seq.{drop-cons}
 use Rattle.wire.specs.Header.{then}
 use Rattle.engine.specs.Run.{outside-code, sources-code}
-use Rattle.engine.specs.Steps.{path-of}
+use Rattle.cells.specs.Table.{path-of}
 
 -- those from the i-th on, of the first `count`
 abbrev pub left : ℕ → List ℕ → ℕ → ℕ → ℕ

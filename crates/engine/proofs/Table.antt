@@ -1,34 +1,33 @@
--- THE TABLE THAT THE RUN IN CODE LEAVES holds the values after the rounds reported, by pull and by push. Assumes nothing.
+-- THE TABLE THAT THE RUN IN CODE LEAVES holds the values after the rounds reported: from what `rounds::run` ensures (`Ran`). Assumes nothing.
 use Prim.Native.Nat.{ℕ, _*_, _≤_, _<_, min}
-use mathlib.Core.Path.{_≡_, refl, ap, _∙_, subst}
-use mathlib.Core.Bool.{Bool}
-use mathlib.Core.List.{List}
+use mathlib.Core.Path.{_≡_, refl, sym, ap, _∙_, subst}
+use mathlib.Core.List.{List, map}
 use native.Mathlib.Omega.{arith}
-use lib.ListN.{length, getD, take, replicate, length-replicate}
+use lib.ListN.{length, getD}
+use Rattle.cells.specs.Table.{paths-in}
 use Rattle.graph.specs.Graph.{graph-of}
+use Rattle.meaning.specs.Limits.{PathFits}
 use Rattle.meaning.specs.Plan.{Plan}
-use Rattle.meaning.specs.Run.{pull, run, run-rounds, stopped, values-at}
+use Rattle.meaning.specs.Query.{PathReduction}
+use Rattle.meaning.specs.Run.{pull, run, stopped, values-at}
 use Rattle.plan.specs.Plan.{plan-scan}
 use Rattle.plan.specs.Tree.{plan-of}
 use Rattle.progress.specs.declared.Progress.{Progress}
-use Rattle.rounds.specs.Run.{Ran, ran}
-use Rattle.rounds_laws.proofs.Main.{Ready, given-values, quiet-rounds, quiet-values, rounds-way, values-way}
-use Rattle.rounds_laws.specs.Ways.{way}
+use Rattle.rounds.specs.Run.{Ran}
+use Rattle.rounds.specs.Steps.{value-in}
+use Rattle.rounds_laws.proofs.Main.{given-read, quiet-read, quiet-rounds}
 use Rattle.rows.proofs.Exact.{Holds}
-use Rattle.value.specs.declared.Value.{Value}
 use Rattle.value.specs.declared.Value.the-variants.{Absent}
+use Rattle.walks.specs.Lists.{All}
+use Rattle.walks.specs.Rounds.{rounds}
 use Rattle.walks.specs.Walks.{Graph}
 use Rattle.wire.specs.Wire.{Bytes, at16}
 use Rattle.engine.specs.declared.Limit.{Limit}
 use Rattle.engine.specs.declared.Limit.the-variants.{Quiet, Rounds}
-use Rattle.engine.specs.Run.{Sixteen, outcome}
+use Rattle.engine.specs.Run.{outcome}
 use Rattle.engine.specs.Steps.{most-of, reported-of, run-code}
-use Rattle.engine.proofs.Meant.{Accepted, few, held, paths-are, run-means}
-use Rattle.engine.proofs.Numbers.{numbers-held}
-
--- what `rounds::run` leaves
-abbrev pub table-after : Bool → Limit → Progress → List ℕ → Ran
-table-after push limit w m = ran push m (min (w .paths) 8) (w .table) (most-of limit (at16 m 5)) (replicate 8192 0)
+use Rattle.engine.proofs.Meant.{Accepted, held, paths-are, run-means}
+use Rattle.engine.proofs.Numbers.{paths-held}
 
 module _ (s m : List ℕ) (bs : Bytes s) (bm : Bytes m) (z : run-code (plan-scan s) m ≡ 0) where
   abbrev n : ℕ
@@ -43,42 +42,50 @@ module _ (s m : List ℕ) (bs : Bytes s) (bm : Bytes m) (z : run-code (plan-scan
   abbrev w : Progress
   w = plan-scan s
 
+  abbrev k : ℕ
+  k = min (w .paths) 8
+
   a : Accepted s m
   a = run-means s m bs bm z .0
 
-  ready : Ready m p (min (w .paths) 8) (w .table)
-  ready =
-      let t = held s m bs bm z in
-      let same : min (w .paths) 8 ≡ w .paths = omega (arith, paths-are s m bs bm z, t .count) in record {
-        bytes = bm;
-        accepted-graph = a .graph-ok;
-        legal = a .sources;
-        few = omega arith;
-        eight = t .size;
-        named = ap (λ (k : ℕ). take k (w .table)) same ∙ numbers-held w (p .paths) t;
-      }
+  -- the path reductions in the reader's table are the plan's, and legal on the graph
+  paths-there : paths-in k (w .table) ≡ p .paths
+  paths-there =
+      let same : k ≡ w .paths = omega (arith, paths-are s m bs bm z, held s m bs bm z .count) in
+      ap (λ (i : ℕ). paths-in i (w .table)) same ∙ paths-held w (p .paths) (held s m bs bm z)
 
-  zeros : length {A = ℕ} (replicate 8192 0) ≡ 8192
-  zeros = length-replicate {A = ℕ} 8192 0
+  pub sources-there : All (PathFits (at16 m 5)) (paths-in (min (plan-scan s .paths) 8) (plan-scan s .table))
+  sources-there = subst (All (PathFits n)) (sym paths-there) (a .sources)
 
-  n-few : n ≤ 256
-  n-few = few s m bs bm z
+  module _ (limit : Limit) (done : ℕ) (figures : List ℕ)
+      (ran : Ran (graph-of m) (min (plan-scan s .paths) 8) (plan-scan s .table) (most-of limit (at16 m 5)) done figures) where
+    size : length (w .table) ≡ 8
+    size = held s m bs bm z .size
 
-  pub rounds-are : (push : Bool) (limit : Limit) → reported-of limit (table-after push limit (plan-scan s) m .count) ≡ outcome limit (graph-of m) (plan-of s) .rounds
-  unfolding run stopped
-  rounds-are push (Rounds r) = refl
-  rounds-are push Quiet =
-      quiet-rounds m p (min (w .paths) 8) (w .table) ready push (2 * n) (omega (arith, n-few)) (replicate 8192 0) zeros (omega arith)
-      ∙ rounds-way m p (min (w .paths) 8) (w .table) ready push
+    count : length (p .paths) ≡ k
+    count = sym (paths-are s m bs bm z)
 
-  pub table-holds : (push : Bool) (limit : Limit) → Sixteen limit
-      → Holds (at16 m 5) (length (plan-of s .paths)) (table-after push limit (plan-scan s) m .figures)
-      (values-at (pull (graph-of m)) (plan-of s .paths) (outcome limit (graph-of m) (plan-of s) .rounds))
-  unfolding run stopped
-  table-holds push (Rounds r) h v k j i =
-      given-values m p (min (w .paths) 8) (w .table) ready push r h (replicate 8192 0) zeros j i v k
-      ∙ ap (λ (vs : List Value). getD vs j Absent) (values-way m p (min (w .paths) 8) (w .table) ready push r v)
-  table-holds push Quiet h v k j i =
-      quiet-values m p (min (w .paths) 8) (w .table) ready push (2 * n) (omega (arith, n-few)) (replicate 8192 0) zeros (omega arith) j i v k
-      ∙ ap (λ (r : ℕ). getD (values-at (way push g) (p .paths) r v) j Absent) (rounds-way m p (min (w .paths) 8) (w .table) ready push)
-      ∙ ap (λ (vs : List Value). getD vs j Absent) (values-way m p (min (w .paths) 8) (w .table) ready push (run-rounds (pull g) n p) v)
+    pub rounds-are : reported-of limit done ≡ outcome limit (graph-of m) (plan-of s) .rounds
+    unfolding run stopped
+    rounds-are = go limit ran
+      where
+        go : (l : Limit) → Ran g k (w .table) (most-of l n) done figures → reported-of l done ≡ outcome l g p .rounds
+        go (Rounds r) x = refl
+        go Quiet x =
+            quiet-rounds g (a .graph-legal) k (w .table) (omega arith) size sources-there (2 * n) done figures x (omega arith)
+            ∙ ap (λ (cs : List PathReduction). rounds n (map (pull g) cs)) paths-there
+
+    pub table-holds : Holds (at16 m 5) (length (plan-of s .paths)) figures (values-at (pull (graph-of m)) (plan-of s .paths) (outcome limit (graph-of m) (plan-of s) .rounds))
+    unfolding run stopped
+    table-holds v h j i = go limit ran
+      where
+        below : j < k
+        below = omega (arith, count)
+
+        go : (l : Limit) → Ran g k (w .table) (most-of l n) done figures → value-in figures j v ≡ getD (values-at (pull g) (p .paths) (outcome l g p .rounds) v) j Absent
+        go (Rounds r) x =
+            given-read g (a .graph-legal) k (w .table) (omega arith) size sources-there r done figures x j below v h
+            ∙ ap (λ (cs : List PathReduction). getD (values-at (pull g) cs r v) j Absent) paths-there
+        go Quiet x =
+            quiet-read g (a .graph-legal) k (w .table) (omega arith) size sources-there (2 * n) done figures x (omega arith) j below v h
+            ∙ ap (λ (cs : List PathReduction). getD (values-at (pull g) cs (rounds n (map (pull g) cs)) v) j Absent) paths-there

@@ -1,7 +1,7 @@
 -- What a run in code is made of. Nothing to believe: the contracts of runs are equations with `run-reply`, and the laws of proofs/Meant lead there.
-use Prim.Native.Nat.{ℕ, _*_, _/_, _%_}
-use mathlib.Core.List.{List, [], _∷_, map}
-use lib.ListN.{take}
+use Prim.Native.Nat.{ℕ, _*_}
+use mathlib.Core.List.{List}
+use Rattle.cells.specs.Table.{paths-in}
 use Rattle.graph.specs.Graph.{graph-code}
 use Rattle.meaning.specs.Query.{PathReduction}
 use Rattle.progress.specs.declared.Progress.{Progress}
@@ -11,13 +11,9 @@ use Rattle.engine.specs.declared.Limit.{Limit}
 use Rattle.engine.specs.declared.Limit.the-variants.{Quiet, Rounds}
 use Rattle.engine.specs.Run.{sources-code}
 
--- a path reduction by its six bytes as one number (`path-of-number`, proofs/Numbers: it is the one with that number)
-unfoldable pub path-of : ℕ → PathReduction
-path-of w = record { keys = take (w % 256) (w / 256 % 256 ∷ w / 65536 % 256 ∷ w / 16777216 % 256 ∷ []); source = w / 4294967296 }
-
--- those of a plan, as its reader holds them
+-- the path reductions of a plan, as its reader holds them
 abbrev pub paths-of : Progress → List PathReduction
-paths-of w = map path-of (take (w .paths) (w .table))
+paths-of w = paths-in (w .paths) (w .table)
 
 -- the refusal of the worksheet, of the map, of the starts
 unfoldable pub run-code : Progress → List ℕ → ℕ

@@ -1,13 +1,13 @@
 // Runs (document 01): a worksheet on a map, bytes to bytes, by pull and by push, to the first quiet round or for a given number of rounds.
 use progress::Progress;
 ghost use mathlib.Core.Path.{_≡_};
-ghost use mathlib.Core.List.{map};
-ghost use Prim.Native.Nat.{_≤_, _<_};
-ghost use lib.ListN.{length, take};
+ghost use Prim.Native.Nat.{_≤_};
+ghost use lib.ListN.{length};
+ghost use Rattle.cells.specs.Table.{paths-in};
 ghost use Rattle.plan.specs.Plan.{plan-scan};
 ghost use Rattle.wire.specs.Wire.{at16, Returned};
 ghost use Rattle.engine.specs.Run.{outside-code, sources-code, run-reply};
-ghost use Rattle.engine.specs.Steps.{path-of, run-code, most-of, reported-of};
+ghost use Rattle.engine.specs.Steps.{run-code, most-of, reported-of};
 
 // How long a run goes on: to the first quiet round, or for a given number of rounds.
 pub enum Limit {
@@ -37,7 +37,7 @@ fn outside_code(n: u64, source: u64) -> u8
 
 // The first refusal of the sources of so many path reductions, or 0.
 fn sources_code(table: [u64; 8], paths: usize, n: u64) -> u8
-    ensures { λ r. ⌜ r ≡ sources-code n (map path-of (take paths table)) ⌝ }
+    ensures { λ r. ⌜ r ≡ sources-code n (paths-in paths table) ⌝ }
 {
     let count = wire::lesser(paths, 8);
     let mut i: usize = 0;
@@ -72,7 +72,7 @@ fn judge(w: Progress, graph: &[u8]) -> u8
 // At most so many rounds are done: as many as are given, or 2n.
 fn most(limit: Limit, n: u16) -> u16
     requires { ⌜ n ≤ 256 ⌝ }
-    ensures { λ r. ⌜ (r ≡ most-of limit n) × (r < 65536) ⌝ }
+    ensures { λ r. ⌜ r ≡ most-of limit n ⌝ }
 {
     match limit {
         Limit::Quiet => 2 * n,

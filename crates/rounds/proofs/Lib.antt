@@ -1,2 +1,6 @@
 pub mod Parts
-pub mod Counts
+pub mod Tables
+pub mod Shown
+pub mod Standing
+pub mod Joint
+pub mod Values

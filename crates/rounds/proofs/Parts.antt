@@ -7,8 +7,8 @@ use native.Mathlib.Omega.{arith}
 use borrow.Rule.Slice.PartMut.{post-is, putMid}
 use lib.ListN.{take, drop}
 use Rattle.wire.specs.Wire.{at16}
-use Rattle.cells.specs.Cells.{keys-of, relaxed-upto, source-of, initialized, taken-upto}
-use Rattle.rounds.specs.Run.{part, initialized-at, step-takes, stepped, with-part}
+use Rattle.cells.specs.Steps.{keys-of, relaxed-upto, source-of, initialized, taken-upto}
+use Rattle.rounds.specs.Steps.{part, initialized-at, step-takes, stepped, with-part}
 
 size : (a w : ℕ) → a + w - a ≡ w
 size a w = omega arith
@@ -37,7 +37,8 @@ module _ (s xs ys : List ℕ) (j n : ℕ) (e : n ≡ at16 s 5) where
   step-put word since stamp p = put-part ∙ ap (with-part s j xs) (rw mid-part at p)
 
   -- and by what it says
-  pub step-said : (word since stamp : ℕ) (b : Bool) → b ≡ taken-upto (keys-of word) s since stamp (take (1024 * j + 4 * n - 1024 * j) (drop (1024 * j) xs)) (at16 s 7)
+  pub step-said : (word since stamp : ℕ) (b : Bool)
+      → b ≡ taken-upto (keys-of word) s since stamp (take (1024 * j + 4 * n - 1024 * j) (drop (1024 * j) xs)) (at16 s 7)
       → b ≡ step-takes s word j since stamp xs
   unfolding step-takes
   step-said word since stamp b p = rw mid-part at p

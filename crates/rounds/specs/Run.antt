@@ -1,98 +1,80 @@
--- All path reductions of a plan on one table, as the program goes. Nothing to believe: rounds_laws says that it is the theory's.
-use Prim.Native.Nat.{ℕ, zero, suc, _+_, _*_}
-use mathlib.Core.Bool.{Bool, true, false, cond, _||_}
-use mathlib.Core.List.{List, _++_}
-use lib.Dec.{leb, eqb}
-use lib.ListN.{length, getD, set, take, drop, replicate}
-use Rattle.value.specs.declared.Value.{Value}
-use Rattle.value.specs.declared.Value.the-variants.{Absent, Number}
-use Rattle.wire.specs.Wire.{at16}
-use Rattle.cells.specs.Cells.{keys-of, relaxed-upto, source-of, initialized, taken-upto}
+-- ROUNDS AND RUNS ON A TABLE (document 01: pull run, push run), over what the table shows at each vertex before and after (cells/specs/Table).
+use Prim.Native.Nat.{ℕ, suc, _≤_, _<_}
+use mathlib.Core.Path.{_≡_}
+use mathlib.Core.Logic.{_⊎_}
+use mathlib.Core.Bool.{Bool, not}
+use mathlib.Core.List.{List, map}
+use lib.Dec.{T}
+use lib.ListN.{length, getD}
+use Rattle.walks.specs.Rounds.{State, gather, initial, marked, push-round, quiet, reached, same, unchanged}
+use Rattle.walks.specs.Walks.{Graph, Network}
+use Rattle.meaning.specs.Query.{PathReduction, network-of}
+use Rattle.meaning.specs.Run.{pull}
+use Rattle.cells.specs.Table.{Sound, any-vertex, cell-in, changed-in, figures-in, path-at, paths-in}
 
--- how many numbers a path reduction has: four for each of the graph's vertices
-abbrev pub width : List ℕ → ℕ
-width s = 4 * at16 s 5
+-- what each vertex holds after a round, of what it held before. BY PULL, "each round .. over all passages":
+abbrev pub pulled : Network → List ℕ → State → State
+pulled N ks S v = gather N ks (N .usable) S v (N .edges)
 
--- those of path reduction j, from 1,024 * j on
-unfoldable pub part : List ℕ → ℕ → List ℕ → List ℕ
-part s j l = take (width s) (drop (1024 * j) l)
+-- BY PUSH, over those from vertices that the round before changed:
+abbrev pub pushed-from : Network → List ℕ → State → (ℕ → Bool) → State
+pushed-from N ks S changed = push-round N ks (record { holds = S; changed = changed })
 
--- the table with other numbers there
-unfoldable pub with-part : List ℕ → ℕ → List ℕ → List ℕ → List ℕ
-with-part s j l p = take (1024 * j) l ++ (p ++ drop (1024 * j + width s) l)
+-- the other path reductions have what they had
+abbrev pub Others : ℕ → ℕ → List ℕ → List ℕ → Type 0
+Others n j old new = (i : ℕ) → i < 8 → (i ≡ j → ⊥) → (v : ℕ) → v < n → cell-in new i v ≡ cell-in old i v
 
--- the initial values of path reduction j ("start values are round 0"), and of the first j of a table of path reductions
-unfoldable pub initialized-at : List ℕ → ℕ → ℕ → List ℕ → List ℕ
-initialized-at s word j l = with-part s j l (initialized (keys-of word) (source-of word) (part s j l) (at16 s 5))
+-- INITIAL VALUES of the path reduction c with index j: "start values are round 0"
+pub record Begun (g : Graph) (c : PathReduction) (j : ℕ) (old new : List ℕ) : Type 0 where
+  pub figures : (v : ℕ) → v < g .vertices → figures-in c new j v ≡ initial (network-of g c .source v) (c .keys) v
+  pub marks : (v : ℕ) → v < g .vertices → changed-in 0 new j v ≡ reached (figures-in c new j v)
+  pub others : Others (g .vertices) j old new
+  pub sound : Sound (g .vertices) c 0 new j
 
-unfoldable pub initialized-upto : List ℕ → List ℕ → List ℕ → ℕ → List ℕ
-initialized-upto s table l zero = l
-initialized-upto s table l (suc j) = initialized-at s (getD table j 0) j (initialized-upto s table l j)
+-- THE ROUND AFTER r of the path reduction c with index j, alone: each vertex holds what `next` says, those that changed are marked, and the
+-- round says whether any is
+pub record Round (g : Graph) (c : PathReduction) (r j : ℕ) (next : State) (old new : List ℕ) (says : Bool) : Type 0 where
+  pub figures : (v : ℕ) → v < g .vertices → figures-in c new j v ≡ next v
+  pub marks : (v : ℕ) → v < g .vertices → changed-in (suc r) new j v ≡ not (same (figures-in c new j v) (figures-in c old j v))
+  pub moves : says ≡ any-vertex (g .vertices) (changed-in (suc r) new j)
+  pub others : Others (g .vertices) j old new
+  pub sound : Sound (g .vertices) c (suc r) new j
 
--- a round of path reduction j alone: does any vertex change?
-unfoldable pub step-takes : List ℕ → ℕ → ℕ → ℕ → ℕ → List ℕ → Bool
-step-takes s word j since stamp l = taken-upto (keys-of word) s since stamp (part s j l) (at16 s 7)
+-- the path reduction c with index j AFTER r ROUNDS. It may rest (flag 1) where the round after r changes nothing; then it is no longer marked
+pub record Stands (g : Graph) (c : PathReduction) (r j flag : ℕ) (l : List ℕ) : Type 0 where
+  pub figures : (v : ℕ) → v < g .vertices → figures-in c l j v ≡ pull g c r v
+  pub marks : (flag ≡ 1 → ⊥) → (v : ℕ) → v < g .vertices → changed-in r l j v ≡ marked (network-of g c) (c .keys) r .changed v
+  pub rests : flag ≡ 1 → T (unchanged (pull g c) r (g .vertices))
+  pub sound : Sound (g .vertices) c r l j
 
--- the table after it
-unfoldable pub stepped : List ℕ → ℕ → ℕ → ℕ → ℕ → List ℕ → List ℕ
-stepped s word j since stamp l = with-part s j l (relaxed-upto (keys-of word) s since stamp (part s j l) (at16 s 7))
+-- the turn of one in the round after r, among the flags `rest` of all
+pub record Turned (g : Graph) (c : PathReduction) (r j : ℕ) (rest rest′ old new : List ℕ) (says : Bool) : Type 0 where
+  pub stands : Stands g c (suc r) j (getD rest′ j 0) new
+  pub changes : says ≡ not (unchanged (pull g c) r (g .vertices))
+  pub other-flags : (i : ℕ) → (i ≡ j → ⊥) → getD rest′ i 0 ≡ getD rest i 0
+  pub others : Others (g .vertices) j old new
 
--- the table, which path reductions rest (1), and whether any changed
-pub record Turn : Type 0 where
-  pub figures : List ℕ
-  pub rest : List ℕ
-  pub changed : Bool
+-- all path reductions of a table after r rounds
+pub record AllStand (g : Graph) (paths : ℕ) (table : List ℕ) (r : ℕ) (rest l : List ℕ) : Type 0 where
+  pub each : (j : ℕ) → j < paths → Stands g (path-at table j) r j (getD rest j 0) l
+  pub flags : length rest ≡ 8
+  pub long : length l ≡ 8192
 
-abbrev pub turn : List ℕ → List ℕ → Bool → Turn
-turn l rest changed = record { figures = l; rest = rest; changed = changed }
+-- does the round after r change no vertex for any of them?
+abbrev pub quiet-after : Graph → ℕ → List ℕ → ℕ → Bool
+quiet-after g paths table r = quiet (g .vertices) (map (pull g) (paths-in paths table)) r
 
--- a quiet round puts a path reduction to rest; one that rests stays as it is
-unfoldable pub turned : List ℕ → ℕ → ℕ → ℕ → ℕ → List ℕ → List ℕ → Turn
-turned s word j since stamp rest l =
-    cond (eqb (getD rest j 0) 1) (turn l rest false)
-    (cond (step-takes s word j since stamp l)
-    (turn (stepped s word j since stamp l) rest true)
-    (turn (stepped s word j since stamp l) (set rest j 1) false))
+-- "A run stops after the first round, counted from 1, in which no place changes for any chain"; or it has done the rounds given, none of which was such a one
+abbrev pub Ended : Graph → ℕ → List ℕ → ℕ → ℕ → Type 0
+Ended g paths table limit rounds =
+    ((rounds ≡ limit) × ((q : ℕ) → q < limit → T (quiet-after g paths table q) → ⊥))
+    ⊎ ((q : ℕ) × (rounds ≡ suc q) × T (quiet-after g paths table q) × ((i : ℕ) → i < q → T (quiet-after g paths table i) → ⊥))
 
--- one turn after another
-abbrev pub and-then : Turn → Turn → Turn
-and-then a b = turn (b .figures) (b .rest) (a .changed || b .changed)
-
--- the turns of the first j path reductions
-unfoldable pub turned-upto : List ℕ → List ℕ → ℕ → ℕ → List ℕ → List ℕ → ℕ → Turn
-turned-upto s table since stamp rest l zero = turn l rest false
-turned-upto s table since stamp rest l (suc j) =
-    and-then (turned-upto s table since stamp rest l j)
-    (turned s (getD table j 0) j since stamp (turned-upto s table since stamp rest l j .rest) (turned-upto s table since stamp rest l j .figures))
-
--- the least stamp of a cell whose edges are walked in the round after r, by push and by pull
-abbrev pub since-of : Bool → ℕ → ℕ
-since-of true r = r + 1
-since-of false r = 1
-
--- the round after r
-abbrev pub round-after : Bool → List ℕ → ℕ → List ℕ → ℕ → List ℕ → List ℕ → Turn
-round-after push s paths table r rest l = turned-upto s table (since-of push r) (r + 2) rest l paths
-
--- how many rounds were done, and the table
-pub record Ran : Type 0 where
-  pub count : ℕ
-  pub figures : List ℕ
-
--- after r rounds at most d more, up to the first that changes nothing
-unfoldable pub rounds-from : Bool → List ℕ → ℕ → List ℕ → ℕ → ℕ → List ℕ → List ℕ → Ran
-rounds-from push s paths table zero r rest l = record { count = r; figures = l }
-rounds-from push s paths table (suc d) r rest l =
-    cond (round-after push s paths table r rest l .changed)
-    (rounds-from push s paths table d (r + 1) (round-after push s paths table r rest l .rest) (round-after push s paths table r rest l .figures))
-    (record { count = r + 1; figures = round-after push s paths table r rest l .figures })
-
--- a run: initial values, none at rest, rounds
-unfoldable pub ran : Bool → List ℕ → ℕ → List ℕ → ℕ → List ℕ → Ran
-ran push s paths table limit l = rounds-from push s paths table limit 0 (replicate 8 0) (initialized-upto s table l paths)
-
--- the value of path reduction j at vertex v: the last key's figure; absent where the stamp is 0, and outside the table
-unfoldable pub value-in : List ℕ → ℕ → ℕ → Value
-value-in l j v =
-    cond (leb 8 j) Absent (cond (leb 256 v) Absent (cond (leb (length l) (1024 * j + 4 * v + 3)) Absent
-    (cond (eqb (getD l (1024 * j + 4 * v + 3) 0) 0) Absent (Number (getD l (1024 * j + 4 * v + 2) 0)))))
+-- WHAT A RUN OF AT MOST `limit` ROUNDS LEAVES: as many rounds as it says, and a table that shows at each vertex for each path reduction what the
+-- theory's state is after that many
+pub record Ran (g : Graph) (paths : ℕ) (table : List ℕ) (limit rounds : ℕ) (figures : List ℕ) : Type 0 where
+  pub within : rounds ≤ limit
+  pub ended : Ended g paths table limit rounds
+  pub shows : (j : ℕ) → j < paths → (v : ℕ) → v < g .vertices → figures-in (path-at table j) figures j v ≡ pull g (path-at table j) rounds v
+  pub sound : (j : ℕ) → j < paths → Sound (g .vertices) (path-at table j) rounds figures j
+  pub long : length figures ≡ 8192

@@ -1,10 +1,19 @@
-// Rounds of all path reductions of a plan on one flat table (document 01: pull run, push run). Path reduction j has the numbers from 1,024 * j on (crate cells).
+// Rounds of all path reductions of a plan on one flat table (document 01: pull run, push run). Path reduction j has the numbers from
+// 1,024 * j on (crate cells).
 ghost use mathlib.Core.Path.{_≡_};
-ghost use Prim.Native.Nat.{_*_, _<_, _≤_};
-ghost use lib.ListN.{length};
+ghost use mathlib.Core.Bool.{not};
+ghost use Prim.Native.Nat.{suc, _<_, _≤_};
+ghost use lib.ListN.{length, getD, replicate};
+ghost use Rattle.walks.specs.Lists.{All};
+ghost use Rattle.walks.specs.Rounds.{unchanged};
+ghost use Rattle.meaning.specs.Limits.{PathFits};
+ghost use Rattle.meaning.specs.Query.{network-of};
+ghost use Rattle.meaning.specs.Run.{pull};
 ghost use Rattle.wire.specs.Wire.{at16};
-ghost use Rattle.graph.specs.Graph.{graph-code};
-ghost use Rattle.rounds.specs.Run.{initialized-at, initialized-upto, stepped, step-takes, turned, turned-upto, since-of, rounds-from, ran};
+ghost use Rattle.graph.specs.Graph.{graph-code, graph-of};
+ghost use Rattle.cells.specs.Table.{Sound, changed-in, figures-in, path-of, paths-in};
+ghost use Rattle.rounds.specs.Run.{AllStand, Begun, Others, Ran, Round, Stands, Turned, pulled, pushed-from, quiet-after};
+ghost use Rattle.rounds.specs.Steps.{initialized-at, stepped, step-takes};
 
 // How many vertices an accepted graph has.
 fn vertices(graph: &[u8]) -> usize
@@ -14,8 +23,10 @@ fn vertices(graph: &[u8]) -> usize
     wire::half(graph, 5) as usize
 }
 
-// The initial values of path reduction j, which has the numbers from 1,024 * j on, four for each vertex.
-fn initialize_at(word: u64, graph: &[u8], j: usize, figures: &mut [u32])
+// ---- initial values
+
+// Those of path reduction j, in its part of the table.
+fn initialize_part(word: u64, graph: &[u8], j: usize, figures: &mut [u32])
     requires { ⌜ (graph-code (now graph) ≡ 0) × (j < 8) × (length (now figures) ≡ 8192) ⌝ }
     ensures { λ _. ⌜ now (figures .exit) ≡ initialized-at (now (graph .entry)) word j (now (figures .entry)) ⌝ }
 {
@@ -25,10 +36,22 @@ fn initialize_at(word: u64, graph: &[u8], j: usize, figures: &mut [u32])
     cells::initialize(word, n, &mut figures[first..end])
 }
 
+// What the table shows then.
+fn initialize_at(word: u64, graph: &[u8], j: usize, figures: &mut [u32])
+    requires { ⌜
+        (graph-code (now graph) ≡ 0) × (j < 8) × PathFits (at16 (now graph) 5) (path-of word) × (length (now figures) ≡ 8192)
+        ⌝ }
+    ensures { λ _. ⌜ Begun (graph-of (now (graph .entry))) (path-of word) j (now (figures .entry)) (now (figures .exit)) ⌝ }
+{
+    initialize_part(word, graph, j, figures)
+}
+
 // The initial values of all path reductions.
 fn initialize_all(graph: &[u8], paths: usize, table: [u64; 8], figures: &mut [u32])
-    requires { ⌜ (graph-code (now graph) ≡ 0) × (paths ≤ 8) × (length (now figures) ≡ 8192) ⌝ }
-    ensures { λ _. ⌜ now (figures .exit) ≡ initialized-upto (now (graph .entry)) table (now (figures .entry)) paths ⌝ }
+    requires { ⌜
+        (graph-code (now graph) ≡ 0) × (paths ≤ 8) × All (PathFits (at16 (now graph) 5)) (paths-in paths table) × (length (now figures) ≡ 8192)
+        ⌝ }
+    ensures { λ _. ⌜ AllStand (graph-of (now (graph .entry))) paths table 0 (replicate 8 0) (now (figures .exit)) ⌝ }
 {
     let mut j: usize = 0;
     while j < paths {
@@ -38,82 +61,129 @@ fn initialize_all(graph: &[u8], paths: usize, table: [u64; 8], figures: &mut [u3
     }
 }
 
-// A round of path reduction j alone. Whether a vertex changed.
-fn step_at(
-    word: u64,
-    graph: &[u8],
-    j: usize,
-    since: u32,
-    stamp: u32,
-    figures: &mut [u32],
-    work: &mut [u32],
-) -> bool
-    requires { ⌜ (graph-code (now graph) ≡ 0) × (j < 8) × (length (now figures) ≡ 8192) × (length (now work) ≡ 4 * at16 (now graph) 5) ⌝ }
-    ensures { λ r. ⌜ (r ≡ step-takes (now (graph .entry)) word j since stamp (now (figures .entry))) × (now (figures .exit) ≡ stepped (now (graph .entry)) word j since stamp (now (figures .entry))) ⌝ }
+// ---- a round of one path reduction
+
+// Over the edges from vertices stamped since a round, in its part of the table. Whether a vertex changed.
+fn step_at(word: u64, graph: &[u8], j: usize, since: u32, stamp: u32, figures: &mut [u32]) -> bool
+    requires { ⌜ (graph-code (now graph) ≡ 0) × (j < 8) × (length (now figures) ≡ 8192) ⌝ }
+    ensures { λ r. ⌜
+        (r ≡ step-takes (now (graph .entry)) word j since stamp (now (figures .entry)))
+        × (now (figures .exit) ≡ stepped (now (graph .entry)) word j since stamp (now (figures .entry)))
+        ⌝ }
 {
     let n = vertices(graph);
     let from = 1024 * j;
     let end = from + 4 * n;
-    cells::step(word, graph, since, stamp, &mut figures[from..end], work)
+    cells::step(word, graph, since, stamp, &mut figures[from..end])
 }
 
-// The turn of path reduction j in a round: one that is quiet rests, and stays as it is. Whether it changed.
+// BY PULL, the round after r: over all edges. (Those from absent vertices, which have stamp 0, bring nothing.)
+fn pull_round(word: u64, graph: &[u8], j: usize, r: u16, figures: &mut [u32]) -> bool
+    requires { ⌜
+        (graph-code (now graph) ≡ 0) × (j < 8) × PathFits (at16 (now graph) 5) (path-of word) × (r < 65535)
+        × Sound (at16 (now graph) 5) (path-of word) r (now figures) j
+        ⌝ }
+    ensures { λ b. ⌜
+        Round (graph-of (now (graph .entry))) (path-of word) r j
+        (pulled (network-of (graph-of (now (graph .entry))) (path-of word)) (path-of word .keys) (figures-in (path-of word) (now (figures .entry)) j))
+        (now (figures .entry)) (now (figures .exit)) b
+        ⌝ }
+{
+    step_at(word, graph, j, 1, r as u32 + 2, figures)
+}
+
+// BY PUSH: over the edges from vertices that round r changed.
+fn push_round(word: u64, graph: &[u8], j: usize, r: u16, figures: &mut [u32]) -> bool
+    requires { ⌜
+        (graph-code (now graph) ≡ 0) × (j < 8) × PathFits (at16 (now graph) 5) (path-of word) × (r < 65535)
+        × Sound (at16 (now graph) 5) (path-of word) r (now figures) j
+        ⌝ }
+    ensures { λ b. ⌜
+        Round (graph-of (now (graph .entry))) (path-of word) r j
+        (pushed-from (network-of (graph-of (now (graph .entry))) (path-of word)) (path-of word .keys)
+        (figures-in (path-of word) (now (figures .entry)) j) (changed-in r (now (figures .entry)) j))
+        (now (figures .entry)) (now (figures .exit)) b
+        ⌝ }
+{
+    step_at(word, graph, j, r as u32 + 1, r as u32 + 2, figures)
+}
+
+// ---- rounds of all
+
+// The next state of a path reduction that does not rest, by push or by pull. Whether a vertex changed.
+fn advance(push: bool, word: u64, graph: &[u8], j: usize, r: u16, figures: &mut [u32]) -> bool
+    requires { ⌜
+        (graph-code (now graph) ≡ 0) × (j < 8) × PathFits (at16 (now graph) 5) (path-of word) × (r < 65535)
+        × Stands (graph-of (now graph)) (path-of word) r j 0 (now figures)
+        ⌝ }
+    ensures { λ b. ⌜
+        Stands (graph-of (now (graph .entry))) (path-of word) (suc r) j 0 (now (figures .exit))
+        × (b ≡ not (unchanged (pull (graph-of (now (graph .entry))) (path-of word)) r (at16 (now (graph .entry)) 5)))
+        × Others (at16 (now (graph .entry)) 5) j (now (figures .entry)) (now (figures .exit))
+        ⌝ }
+{
+    if push {
+        return push_round(word, graph, j, r, figures);
+    }
+    pull_round(word, graph, j, r, figures)
+}
+
+// The turn of path reduction j in the round after r: one that is quiet rests, and stays as it is. Whether a vertex changed.
 fn turn(
+    push: bool,
     word: u64,
     graph: &[u8],
     j: usize,
-    since: u32,
-    stamp: u32,
+    r: u16,
     rest: &mut [u8],
     figures: &mut [u32],
-    work: &mut [u32],
 ) -> bool
-    requires { ⌜ (graph-code (now graph) ≡ 0) × (j < 8) × (length (now rest) ≡ 8) × (length (now figures) ≡ 8192) × (length (now work) ≡ 4 * at16 (now graph) 5) ⌝ }
-    ensures { λ r. ⌜ (r ≡ turned (now (graph .entry)) word j since stamp (now (rest .entry)) (now (figures .entry)) .changed) × (now (rest .exit) ≡ turned (now (graph .entry)) word j since stamp (now (rest .entry)) (now (figures .entry)) .rest) × (now (figures .exit) ≡ turned (now (graph .entry)) word j since stamp (now (rest .entry)) (now (figures .entry)) .figures) ⌝ }
+    requires { ⌜
+        (graph-code (now graph) ≡ 0) × (j < 8) × PathFits (at16 (now graph) 5) (path-of word) × (r < 65535) × (length (now rest) ≡ 8)
+        × Stands (graph-of (now graph)) (path-of word) r j (getD (now rest) j 0) (now figures)
+        ⌝ }
+    ensures { λ b. ⌜
+        Turned (graph-of (now (graph .entry))) (path-of word) r j (now (rest .entry)) (now (rest .exit)) (now (figures .entry)) (now (figures .exit)) b
+        ⌝ }
 {
     if rest[j] == 1 {
         return false;
     }
-    if step_at(word, graph, j, since, stamp, figures, work) {
+    if advance(push, word, graph, j, r, figures) {
         return true;
     }
     rest[j] = 1;
     false
 }
 
-// A round of all path reductions. Whether any changed.
+// The round after r of all path reductions. Whether any changed.
 fn round(
+    push: bool,
     graph: &[u8],
     paths: usize,
     table: [u64; 8],
-    since: u32,
-    stamp: u32,
+    r: u16,
     rest: &mut [u8],
     figures: &mut [u32],
-    work: &mut [u32],
 ) -> bool
-    requires { ⌜ (graph-code (now graph) ≡ 0) × (paths ≤ 8) × (length (now rest) ≡ 8) × (length (now figures) ≡ 8192) × (length (now work) ≡ 4 * at16 (now graph) 5) ⌝ }
-    ensures { λ r. ⌜ (r ≡ turned-upto (now (graph .entry)) table since stamp (now (rest .entry)) (now (figures .entry)) paths .changed) × (now (rest .exit) ≡ turned-upto (now (graph .entry)) table since stamp (now (rest .entry)) (now (figures .entry)) paths .rest) × (now (figures .exit) ≡ turned-upto (now (graph .entry)) table since stamp (now (rest .entry)) (now (figures .entry)) paths .figures) ⌝ }
+    requires { ⌜
+        (graph-code (now graph) ≡ 0) × (paths ≤ 8) × All (PathFits (at16 (now graph) 5)) (paths-in paths table) × (r < 65535)
+        × AllStand (graph-of (now graph)) paths table r (now rest) (now figures)
+        ⌝ }
+    ensures { λ b. ⌜
+        AllStand (graph-of (now (graph .entry))) paths table (suc r) (now (rest .exit)) (now (figures .exit))
+        × (b ≡ not (quiet-after (graph-of (now (graph .entry))) paths table r))
+        ⌝ }
 {
     let mut changed = false;
     let mut j: usize = 0;
     while j < paths {
         let word = table[j];
-        let moved = turn(word, graph, j, since, stamp, rest, figures, work);
+        let moved = turn(push, word, graph, j, r, rest, figures);
         changed = changed | moved;
         j += 1;
     }
     changed
-}
-
-// The least stamp of a cell whose edges are walked in the round after r: by pull of any that is not absent, by push of one that round r changed.
-fn least_stamp(push: bool, r: u16) -> u32
-    ensures { λ s. ⌜ (s ≡ since-of push r) × (s ≤ 65536) ⌝ }
-{
-    if push {
-        return r as u32 + 1;
-    }
-    1
 }
 
 // Rounds until one changes nothing, at most `limit`. How many.
@@ -123,18 +193,18 @@ fn rounds(
     paths: usize,
     table: [u64; 8],
     limit: u16,
-    rest: &mut [u8],
     figures: &mut [u32],
-    work: &mut [u32],
 ) -> u16
-    requires { ⌜ (graph-code (now graph) ≡ 0) × (paths ≤ 8) × (length (now rest) ≡ 8) × (length (now figures) ≡ 8192) × (length (now work) ≡ 4 * at16 (now graph) 5) ⌝ }
-    ensures { λ r. ⌜ (r ≡ rounds-from push (now (graph .entry)) paths table limit 0 (now (rest .entry)) (now (figures .entry)) .count) × (now (figures .exit) ≡ rounds-from push (now (graph .entry)) paths table limit 0 (now (rest .entry)) (now (figures .entry)) .figures) ⌝ }
+    requires { ⌜
+        (graph-code (now graph) ≡ 0) × (paths ≤ 8) × All (PathFits (at16 (now graph) 5)) (paths-in paths table)
+        × AllStand (graph-of (now graph)) paths table 0 (replicate 8 0) (now figures)
+        ⌝ }
+    ensures { λ r. ⌜ Ran (graph-of (now (graph .entry))) paths table limit r (now (figures .exit)) ⌝ }
 {
+    let mut rest = [0u8; 8];
     let mut r: u16 = 0;
     while r < limit {
-        let since = least_stamp(push, r);
-        let stamp = r as u32 + 2;
-        let changed = round(graph, paths, table, since, stamp, rest, figures, work);
+        let changed = round(push, graph, paths, table, r, &mut rest, figures);
         r += 1;
         if !changed {
             return r;
@@ -153,21 +223,11 @@ pub fn run(
     limit: u16,
     figures: &mut [u32],
 ) -> u16
-    requires { ⌜ (graph-code (now graph) ≡ 0) × (paths ≤ 8) × (length (now figures) ≡ 8192) ⌝ }
-    ensures { λ r. ⌜ (r ≡ ran push (now (graph .entry)) paths table limit (now (figures .entry)) .count) × (now (figures .exit) ≡ ran push (now (graph .entry)) paths table limit (now (figures .entry)) .figures) ⌝ }
+    requires { ⌜
+        (graph-code (now graph) ≡ 0) × (paths ≤ 8) × All (PathFits (at16 (now graph) 5)) (paths-in paths table) × (length (now figures) ≡ 8192)
+        ⌝ }
+    ensures { λ r. ⌜ Ran (graph-of (now (graph .entry))) paths table limit r (now (figures .exit)) ⌝ }
 {
-    let mut rest = [0u8; 8];
-    let mut buffer = [0u32; 1024];
-    let w = 4 * vertices(graph);
     initialize_all(graph, paths, table, figures);
-    rounds(
-        push,
-        graph,
-        paths,
-        table,
-        limit,
-        &mut rest,
-        figures,
-        &mut buffer[..w],
-    )
+    rounds(push, graph, paths, table, limit, figures)
 }

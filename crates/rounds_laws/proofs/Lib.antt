@@ -1,12 +1,2 @@
-pub mod Order
-pub mod Pad
-pub mod Cells
-pub mod Edges
-pub mod Words
-pub mod Path
-pub mod Initial
-pub mod Parts
-pub mod Turn
-pub mod Joint
-pub mod Run
+pub mod Round
 pub mod Main

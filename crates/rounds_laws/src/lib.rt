@@ -1,1 +1,1 @@
-// That the rounds in code (crate rounds) are those of the theory. Laws only: specs/ and proofs/.
+// What the rounds and the runs in code (crate rounds) are worth: figures over walks, the smallest number of rounds. Laws only: proofs/.

@@ -12,7 +12,7 @@ use Rattle.value.specs.declared.Value.the-variants.{Absent}
 use Rattle.value.specs.Value.{reduce, values}
 use Rattle.eval.specs.Steps.{body-found, count-at, eight, entries-end, entry-rows, evaluated, expression-end, final-found, results, row}
 use Rattle.eval.proofs.Fill.{filled, fill-front}
-use Rattle.rounds.specs.Run.{value-in}
+use Rattle.rounds.specs.Steps.{value-in}
 use Rattle.rows.specs.Steps.{many, rows-at}
 
 rows-of : (g : ℕ → Value) (k i : ℕ) → map row (tabulate k i g) ≡ tabulate k i (λ j. row (g j))

@@ -9,7 +9,7 @@ use Rattle.meaning.specs.Run.{tabulate}
 use Rattle.value.specs.declared.Row.{Row}
 use Rattle.value.specs.declared.Value.the-variants.{Absent}
 use Rattle.eval.specs.Steps.{eight, row}
-use Rattle.rounds.specs.Run.{value-in}
+use Rattle.rounds.specs.Steps.{value-in}
 
 -- the values of the path reductions at the vertex v, as eight rows
 unfoldable pub rows-at : List ℕ → ℕ → ℕ → List Row

@@ -8,7 +8,7 @@ ghost use Prim.Native.Nat.{_+_, _≤_, min};
 ghost use lib.ListN.{length, getD};
 ghost use Rattle.value.specs.Value.{reduce, values};
 ghost use Rattle.eval.specs.Steps.{body-found, count-at, eight, entries-end, entry-rows, final-found, results, row};
-ghost use Rattle.rounds.specs.Run.{value-in};
+ghost use Rattle.rounds.specs.Steps.{value-in};
 ghost use Rattle.rows.specs.Steps.{many, rows-at};
 
 // The results of the entries, and where the entries end.

@@ -3,7 +3,7 @@ use Prim.Native.Nat.{_+_}
 use mathlib.Core.Path.{_≡_}
 use lib.ListN.{getD}
 use borrow.Author.Tests.{eq-eqb, ne-eqb}
-use Rattle.cells.specs.Cells.{displaces, onward}
+use Rattle.cells.specs.Steps.{displaces, onward}
 use borrow.Author.Needs.{needs}
 use Rattle.cells.proofs.beats.Statement.{statement}
 use Rattle.cells.proofs.beats.Tie as tie
@@ -34,8 +34,15 @@ returns-2 : tie.Need-returns-2
 unfolding displaces
 returns-2 c =
     let a = c .before .before .before .before .before .before .before .before .before .args in
-    let p : c .before .before .before .extended .result ≡ onward (a .keys .first) (a .weight) (a .capacity) (getD (a .old .now) (a .f) 0) = c .before .before .before .extended .ensures in
-    rw (ne-eqb _ _ (c .before .before .before .before .before .if1 .left), ← (c .before .before .figure-at .ensures .0), ← p, ne-eqb _ _ (c .before .if2 .taken)) (c .is-ahead .ensures)
+    let p : c .before .before .before .extended .result ≡ onward (a .keys .first) (a .weight) (a .capacity) (getD (a .old .now) (a .f) 0) =
+    c .before .before .before .extended .ensures in
+    rw (
+      ne-eqb _ _ (c .before .before .before .before .before .if1 .left),
+      ← (c .before .before .figure-at .ensures .0),
+      ← p,
+      ne-eqb _ _ (c .before .if2 .taken),
+    )
+    (c .is-ahead .ensures)
 
 add-extended : tie.Need-add-extended
 add-extended c = search needs
@@ -56,8 +63,18 @@ returns-3 : tie.Need-returns-3
 unfolding displaces
 returns-3 c =
     let a = c .before .before .before .before .before .before .before .before .before .before .before .before .before .args in
-    let p : c .before .before .before .extended2 .result ≡ onward (a .keys .second) (a .weight) (a .capacity) (getD (a .old .now) (a .f + 1) 0) = c .before .before .before .extended2 .ensures in
-    rw (ne-eqb _ _ (c .before .before .before .before .before .before .before .before .before .if1 .left), ← (c .before .before .before .before .before .before .figure-at .ensures .0), ← (c .before .before .before .before .before .before .before .extended .ensures), eq-eqb _ _ (c .before .before .before .before .before .if2 .left), ← (c .before .before .figure-at2 .ensures .0), ← p, ne-eqb _ _ (c .before .if3 .taken)) (c .is-ahead2 .ensures)
+    let p : c .before .before .before .extended2 .result ≡ onward (a .keys .second) (a .weight) (a .capacity) (getD (a .old .now) (a .f + 1) 0) =
+    c .before .before .before .extended2 .ensures in
+    rw (
+      ne-eqb _ _ (c .before .before .before .before .before .before .before .before .before .if1 .left),
+      ← (c .before .before .before .before .before .before .figure-at .ensures .0),
+      ← (c .before .before .before .before .before .before .before .extended .ensures),
+      eq-eqb _ _ (c .before .before .before .before .before .if2 .left),
+      ← (c .before .before .figure-at2 .ensures .0),
+      ← p,
+      ne-eqb _ _ (c .before .if3 .taken),
+    )
+    (c .is-ahead2 .ensures)
 
 add-extended-2 : tie.Need-add-extended-2
 add-extended-2 c = search needs
@@ -78,8 +95,20 @@ returns-4 : tie.Need-returns-4
 unfolding displaces
 returns-4 c =
     let a = c .before .before .before .before .before .before .before .before .before .before .before .before .before .before .before .before .args in
-    let p : c .before .before .extended3 .result ≡ onward (a .keys .third) (a .weight) (a .capacity) (getD (a .old .now) (a .f + 2) 0) = c .before .before .extended3 .ensures in
-    rw (ne-eqb _ _ (c .before .before .before .before .before .before .before .before .before .before .before .before .if1 .left), ← (c .before .before .before .before .before .before .before .before .before .figure-at .ensures .0), ← (c .before .before .before .before .before .before .before .before .before .before .extended .ensures), eq-eqb _ _ (c .before .before .before .before .before .before .before .before .if2 .left), ← (c .before .before .before .before .before .figure-at2 .ensures .0), ← (c .before .before .before .before .before .before .extended2 .ensures), eq-eqb _ _ (c .before .before .before .before .if3 .left), ← (c .before .figure-at3 .ensures .0), ← p) (c .is-ahead3 .ensures)
+    let p : c .before .before .extended3 .result ≡ onward (a .keys .third) (a .weight) (a .capacity) (getD (a .old .now) (a .f + 2) 0) =
+    c .before .before .extended3 .ensures in
+    rw (
+      ne-eqb _ _ (c .before .before .before .before .before .before .before .before .before .before .before .before .if1 .left),
+      ← (c .before .before .before .before .before .before .before .before .before .figure-at .ensures .0),
+      ← (c .before .before .before .before .before .before .before .before .before .before .extended .ensures),
+      eq-eqb _ _ (c .before .before .before .before .before .before .before .before .if2 .left),
+      ← (c .before .before .before .before .before .figure-at2 .ensures .0),
+      ← (c .before .before .before .before .before .before .extended2 .ensures),
+      eq-eqb _ _ (c .before .before .before .before .if3 .left),
+      ← (c .before .figure-at3 .ensures .0),
+      ← p,
+    )
+    (c .is-ahead3 .ensures)
 
 pub beats-spec : {M : Type 1} → statement M
 beats-spec =

@@ -1,5 +1,5 @@
 -- `cells::brought` meets its contract. Assumes nothing.
-use Rattle.cells.specs.Cells.{through}
+use Rattle.cells.specs.Steps.{through}
 use borrow.Author.Needs.{needs}
 use Rattle.cells.proofs.brought.Statement.{statement}
 use Rattle.cells.proofs.brought.Tie as tie
@@ -30,7 +30,15 @@ narrow-requires-3 c κs = search needs
 
 returns : tie.Need-returns
 unfolding through
-returns c = rw (c .narrow3 .ensures, c .before .extended3 .ensures, c .before .before .narrow2 .ensures, c .before .before .before .extended2 .ensures, c .before .before .before .before .narrow .ensures, c .before .before .before .before .before .extended .ensures)
+returns c =
+    rw (
+      c .narrow3 .ensures,
+      c .before .extended3 .ensures,
+      c .before .before .narrow2 .ensures,
+      c .before .before .before .extended2 .ensures,
+      c .before .before .before .before .narrow .ensures,
+      c .before .before .before .before .before .extended .ensures,
+    )
 
 pub brought-spec : {M : Type 1} → statement M
 brought-spec =

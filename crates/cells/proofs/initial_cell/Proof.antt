@@ -1,6 +1,6 @@
 -- `cells::initial_cell` meets its contract. Assumes nothing.
 use borrow.Author.Tests.{not-true, not-false}
-use Rattle.cells.specs.Cells.{initial-cell, starts-here}
+use Rattle.cells.specs.Steps.{initial-cell, starts-here}
 use mathlib.Core.Path.{_≡_, sym, _∙_}
 use mathlib.Core.Bool.{true, false}
 use borrow.Author.Needs.{needs}
@@ -11,14 +11,18 @@ returns : tie.Need-returns
 unfolding initial-cell
 returns c =
     let s = c .before .before .before in
-    let e : starts-here (s .args .source) (s .args .v) ≡ false = sym (c .before .starts-here .ensures ∙ rw (c .before .before .wide .ensures .0)) ∙ not-true _ (c .if1 .taken) in
+    let e : starts-here (s .args .source) (s .args .v) ≡ false =
+    sym (c .before .starts-here .ensures ∙ rw (c .before .before .wide .ensures .0)) ∙ not-true _ (c .if1 .taken) in
     rw e
 
 returns-2 : tie.Need-returns-2
 unfolding initial-cell
 returns-2 c =
     let s = c .before .before .before .before .before .before .before .before .before in
-    let e : starts-here (s .args .source) (s .args .v) ≡ true = sym (c .before .before .before .before .before .before .before .starts-here .ensures ∙ rw (c .before .before .before .before .before .before .before .before .wide .ensures .0)) ∙ not-false _ (c .before .before .before .before .before .before .if1 .left) in
+    let e : starts-here (s .args .source) (s .args .v) ≡ true =
+    sym (c .before .before .before .before .before .before .before .starts-here .ensures
+    ∙ rw (c .before .before .before .before .before .before .before .before .wide .ensures .0))
+    ∙ not-false _ (c .before .before .before .before .before .before .if1 .left) in
     rw (e, c .base-of3 .ensures, c .before .base-of2 .ensures, c .before .before .base-of .ensures)
 
 pub initial-cell-spec : {M : Type 1} → statement M

@@ -4,7 +4,7 @@ use mathlib.Core.Path.{_≡_, sym, refl, _∙_, ap}
 use native.Mathlib.Numerals.{add-one}
 use lib.ListN.{length}
 use lib.Seq.{length-sets}
-use Rattle.cells.specs.Cells.{keys-of, numbers, source-of, initialized}
+use Rattle.cells.specs.Steps.{keys-of, numbers, source-of, initialized}
 use native.Mathlib.Omega.{arith}
 use Rattle.cells.proofs.initialize.Statement.{statement}
 use Rattle.cells.proofs.initialize.Tie as tie
@@ -47,7 +47,13 @@ loop-again c =
     let e = c .before .before .put-cell .ensures in (
       omega arith,
       ap length e ∙ length-sets (l .part) (4 * l .v) (numbers (c .before .before .before .before .initial-cell .result)) ∙ l .inv .1,
-      e ∙ rw (add-one (l .v), c .before .before .before .before .initial-cell .ensures, c .before .before .before .before .before .before .before .path-keys .ensures, l .inv .2),
+      e
+          ∙ rw (
+            add-one (l .v),
+            c .before .before .before .before .initial-cell .ensures,
+            c .before .before .before .before .before .before .before .path-keys .ensures,
+            l .inv .2,
+          ),
     )
 
 same-length : tie.Need-same-length Inv-loop μ-loop

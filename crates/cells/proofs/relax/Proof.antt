@@ -1,7 +1,7 @@
 -- `cells::relax` meets its contract. Assumes nothing.
 use borrow.Author.Tests.{lt-ltb, le-ltb, not-true, not-false}
 use mathlib.Core.Path.{refl}
-use Rattle.cells.specs.Cells.{taken, relaxed}
+use Rattle.cells.specs.Steps.{taken, relaxed}
 use borrow.Author.Needs.{needs}
 use Rattle.cells.proofs.relax.Statement.{statement}
 use Rattle.cells.proofs.relax.Tie as tie
@@ -45,7 +45,17 @@ same-length c = search needs
 
 returns-2 : tie.Need-returns-2
 unfolding taken relaxed
-returns-2 c = rw (← (c .before .before .before .before .before .before .before .before .from-at .ensures .0), ← (c .before .before .before .before .before .to-at .ensures .0), ← (c .before .before .before .before .field-at .ensures .0), ← (c .before .before .before .field-at2 .ensures .0), le-ltb _ _ (c .before .before .before .before .before .before .if1 .left), ← (c .before .beats .ensures), not-true (c .before .beats .result) (c .if2 .taken)) (refl, refl)
+returns-2 c =
+    rw (
+      ← (c .before .before .before .before .before .before .before .before .from-at .ensures .0),
+      ← (c .before .before .before .before .before .to-at .ensures .0),
+      ← (c .before .before .before .before .field-at .ensures .0),
+      ← (c .before .before .before .field-at2 .ensures .0),
+      le-ltb _ _ (c .before .before .before .before .before .before .if1 .left),
+      ← (c .before .beats .ensures),
+      not-true (c .before .beats .result) (c .if2 .taken),
+    )
+    (refl, refl)
 
 brought-requires : tie.Need-brought-requires
 brought-requires c κs = search needs
@@ -58,7 +68,18 @@ same-length-2 c = search needs
 
 returns-3 : tie.Need-returns-3
 unfolding taken relaxed
-returns-3 c = rw (← (c .before .before .before .before .before .before .before .before .before .before .before .before .before .from-at .ensures .0), ← (c .before .before .before .before .before .before .before .before .before .before .to-at .ensures .0), ← (c .before .before .before .before .before .before .before .before .before .field-at .ensures .0), ← (c .before .before .before .before .before .before .before .before .field-at2 .ensures .0), le-ltb _ _ (c .before .before .before .before .before .before .before .before .before .before .before .if1 .left), ← (c .before .before .before .before .before .before .beats .ensures), not-false (c .before .before .before .before .before .before .beats .result) (c .before .before .before .before .before .if2 .left), ← (c .before .before .before .before .brought .ensures)) (refl, c .before .before .put-cell .ensures)
+returns-3 c =
+    rw (
+      ← (c .before .before .before .before .before .before .before .before .before .before .before .before .before .from-at .ensures .0),
+      ← (c .before .before .before .before .before .before .before .before .before .before .to-at .ensures .0),
+      ← (c .before .before .before .before .before .before .before .before .before .field-at .ensures .0),
+      ← (c .before .before .before .before .before .before .before .before .field-at2 .ensures .0),
+      le-ltb _ _ (c .before .before .before .before .before .before .before .before .before .before .before .if1 .left),
+      ← (c .before .before .before .before .before .before .beats .ensures),
+      not-false (c .before .before .before .before .before .before .beats .result) (c .before .before .before .before .before .if2 .left),
+      ← (c .before .before .before .before .brought .ensures),
+    )
+    (refl, c .before .before .put-cell .ensures)
 
 pub relax-spec : {M : Type 1} → statement M
 relax-spec =

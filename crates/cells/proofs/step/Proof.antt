@@ -1,36 +1,40 @@
 -- `cells::step` meets its contract. Assumes nothing.
+use native.Mathlib.Omega.{arith}
+use Prim.Native.Nat.{ℕ, _≤_}
+use mathlib.Core.Path.{_≡_, sym, _∙_}
+use mathlib.Core.List.{List}
+use lib.ListN.{length, replicate, take}
+use lib.Seq.{length-take-le}
+use Rattle.graph.proofs.Accepted.{accepted}
+use Rattle.graph.specs.Graph.{graph-code}
+use Rattle.wire.specs.Wire.{at16}
+use Prim.Native.Nat.{_*_}
 use borrow.Author.Needs.{needs}
 use Rattle.cells.proofs.step.Statement.{statement}
 use Rattle.cells.proofs.step.Tie as tie
 
-path-keys-requires : tie.Need-path-keys-requires
-path-keys-requires c κs = search needs
+-- a part has 1,024 numbers at most
+few : (s p : List ℕ) → graph-code s ≡ 0 → length p ≡ 4 * at16 s 5 → length p ≤ 1024
+few s p ok e = omega (arith, accepted s ok .sizes .few-vertices)
 
-copy-requires : tie.Need-copy-requires
-copy-requires c κs = search needs
+-- and the room kept for it as many as it has
+size : (s p : List ℕ) → graph-code s ≡ 0 → length p ≡ 4 * at16 s 5 → length {A = ℕ} (take (length p) (replicate 1024 0)) ≡ length p
+size s p ok e = length-take-le (length p) (replicate 1024 0) (few s p ok e)
 
-relax-all-requires : tie.Need-relax-all-requires
-relax-all-requires c κs = search needs
+array-borrow-prefix-room : tie.Need-array-borrow-prefix-room
+array-borrow-prefix-room c = let s = c .before .before .before in few (s .args .graph .now) (s .args .part .now) (s .pre .0) (s .pre .1)
 
-same-length : tie.Need-same-length
-same-length c = search needs
+slice-aggregate-step-from : tie.Need-slice-aggregate-step-from
+slice-aggregate-step-from c =
+    let s = c .before .before .before .before in
+    sym (size (s .args .graph .now) (s .args .part .now) (s .pre .0) (s .pre .1))
 
-same-length-2 : tie.Need-same-length-2
-same-length-2 c = search needs
-
-returns : tie.Need-returns
-returns c =
-    let e = c .before .before .before .before .before .before .before .copy .ensures in
-    let k = c .before .before .before .before .before .before .before .before .before .before .path-keys .ensures in
-    (rw (e, k) at (c .before .before .relax-all .ensures .0), rw (e, k) at (c .before .before .relax-all .ensures .1))
+step-from-requires : tie.Need-step-from-requires
+step-from-requires c κs =
+    let s = c .before .before .before .before in
+    (s .pre .0, s .pre .1, size (s .args .graph .now) (s .args .part .now) (s .pre .0) (s .pre .1) ∙ s .pre .1)
 
 pub step-spec : {M : Type 1} → statement M
 step-spec =
     tie.close
-    (tie.spec
-    path-keys-requires
-    copy-requires
-    relax-all-requires
-    same-length
-    same-length-2
-    returns)
+    (tie.spec array-borrow-prefix-room slice-aggregate-step-from step-from-requires (λ c. search needs) (λ c. search needs))

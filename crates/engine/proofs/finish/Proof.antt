@@ -1,13 +1,21 @@
 -- `engine::finish` meets its contract: 15 by the law that it is known before the rounds, the answer by the law of a table that holds the values. Assumes nothing.
-use mathlib.Core.Path.{_≡_, refl, sym, _∙_}
+use Prim.Native.Nat.{ℕ, min}
+use mathlib.Core.List.{List}
+use mathlib.Core.Path.{_≡_, refl, sym, _∙_, subst}
 use native.Mathlib.Omega.{arith}
 use borrow.Author.Tests.{ne-eqb}
 use lib.ListN.{length}
+use Rattle.cells.specs.Table.{paths-in}
+use Rattle.graph.specs.Graph.{graph-of}
+use Rattle.meaning.specs.Limits.{PathFits}
 use Rattle.plan.specs.Plan.{plan-scan}
-use Rattle.wire.specs.Wire.{Bytes}
-use Rattle.engine.specs.Steps.{reported-of, run-code}
-use Rattle.engine.proofs.Meant.{few, finish-answers, finish-judged, most-sixteen, run-graph}
-use Rattle.engine.proofs.Table.{rounds-are, table-after, table-holds}
+use Rattle.progress.specs.declared.Progress.{Progress}
+use Rattle.rounds.specs.Run.{Ran}
+use Rattle.walks.specs.Lists.{All}
+use Rattle.wire.specs.Wire.{Bytes, at16}
+use Rattle.engine.specs.Steps.{most-of, reported-of, run-code}
+use Rattle.engine.proofs.Meant.{few, finish-answers, finish-judged, run-graph}
+use Rattle.engine.proofs.Table.{rounds-are, sources-there, table-holds}
 use borrow.Author.Needs.{needs}
 use Rattle.engine.proofs.finish.Statement.{statement}
 use Rattle.engine.proofs.finish.Tie as tie
@@ -33,28 +41,36 @@ most-requires c κs =
     omega (arith, few (a .plan .now) (a .graph .now) bs bm (passed (c .before .before .before .before .before .before .before .before .before)), c .before .before .before .before .before .vertices .ensures)
 
 run-requires : tie.Need-run-requires
-run-requires c κs = (run-graph _ _ (passed (c .before .before .before .before .before .before .before .before .before .before .before)), search needs, search needs)
+run-requires c κs =
+    let start = c .before .before .before .before .before .before .before .before .before .before .before in
+    let a = start .args in
+    let bs : Bytes (a .plan .now) = λ i. omega (arith, c .before .before .before .before .before .before .before .before .before .before .shared-slice-known .given i) in
+    let bm : Bytes (a .graph .now) = λ i. omega (arith, c .before .before .before .before .before .before .before .before .before .shared-slice-known2 .given i) in
+    let there : All (PathFits (at16 (a .graph .now) 5)) (paths-in (min (a .w .paths) 8) (a .w .table)) =
+    rw (start .pre .0) (sources-there (a .plan .now) (a .graph .now) bs bm (passed start)) in
+    (run-graph _ _ (passed start), search needs, rw (c .before .before .before .lesser .ensures .0) there, search needs)
 
 returns-2 : tie.Need-returns-2
 returns-2 c =
     let start = c .before .before .before .before .before .before .before .before .before .before .before .before .before .before .before .before .before .before .before .before in
     let a = start .args in
-    let bs : Bytes (a .plan .now) = λ i. omega (arith, c .before .before .before .before .before .before .before .before .before .before .before .before .before .before .before .before .before .before .before .shared-slice-known .given i) in
-    let bm : Bytes (a .graph .now) = λ i. omega (arith, c .before .before .before .before .before .before .before .before .before .before .before .before .before .before .before .before .before .before .shared-slice-known2 .given i) in
+    let s = a .plan .now in
+    let m = a .graph .now in
+    let bs : Bytes s = λ i. omega (arith, c .before .before .before .before .before .before .before .before .before .before .before .before .before .before .before .before .before .before .before .shared-slice-known .given i) in
+    let bm : Bytes m = λ i. omega (arith, c .before .before .before .before .before .before .before .before .before .before .before .before .before .before .before .before .before .before .shared-slice-known2 .given i) in
     let z = passed start in
-    let h = most-sixteen (a .limit) _ _ (c .before .before .before .before .before .before .before .before .before .before .most .ensures .0) (c .before .before .before .before .before .before .before .before .before .before .most .ensures .1) in
     let told : c .before .before .before .before .reported .result ≡ reported-of (a .limit) (c .before .before .before .before .before .before .before .before .run .result) = c .before .before .before .before .reported .ensures in
-    let t = table-after (a .push) (a .limit) (plan-scan (a .plan .now)) (a .graph .now) in
-    let e = finish-answers (a .plan .now) (a .graph .now) bs bm z (a .limit) (length (a .out .now)) (reported-of (a .limit) (t .count)) (t .figures)
-    (rounds-are (a .plan .now) (a .graph .now) bs bm z (a .push) (a .limit)) (table-holds (a .plan .now) (a .graph .now) bs bm z (a .push) (a .limit) h) in
+    let left = rw (c .before .before .before .before .before .before .before .before .before .before .before .before .lesser .ensures .0, c .before .before .before .before .before .before .before .before .before .before .most .ensures, c .before .before .before .before .before .before .before .before .before .before .before .before .before .before .before .before .vertices .ensures) at (c .before .before .before .before .before .before .before .before .run .ensures) in
+    let done = c .before .before .before .before .before .before .before .before .run .result in
+    let figures : List ℕ = c .before .before .before .before .before .before .before .before .run .last .1 .1 .1 .1 .1 .0 in
+    let ran = subst (λ (w : Progress). Ran (graph-of m) (min (w .paths) 8) (w .table) (most-of (a .limit) (at16 m 5)) done figures) (start .pre .0) left in
+    let e = finish-answers s m bs bm z (a .limit) (length (a .out .now)) (reported-of (a .limit) done) figures
+    (rounds-are s m bs bm z (a .limit) done figures ran) (table-holds s m bs bm z (a .limit) done figures ran) in
     rw (
       e,
       ← start .pre .0,
       ← c .before .before .before .before .before .before .before .before .before .before .before .before .before .before .before .before .vertices .ensures,
       ← c .before .before .before .before .before .before .before .before .before .before .before .before .lesser .ensures .0,
-      ← c .before .before .before .before .before .before .before .before .before .before .most .ensures .0,
-      ← c .before .before .before .before .before .before .before .before .run .ensures .0,
-      ← c .before .before .before .before .before .before .before .before .run .ensures .1,
       ← c .before .before .before .before .before .before .before .before .before .before .before .before .before .before .before .byte .ensures,
       ← told,
       ← c .before .before .before .before .before .body-rows .ensures,

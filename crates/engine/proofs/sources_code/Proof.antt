@@ -9,7 +9,7 @@ use borrow.Author.Tests.{eq-eqb, ne-eqb}
 use lib.ListN.{take}
 use Rattle.draft.proofs.Texts.{take-least}
 use Rattle.engine.specs.Run.{sources-code}
-use Rattle.engine.specs.Steps.{path-of}
+use Rattle.cells.specs.Table.{path-of}
 use Rattle.engine.proofs.Sources.{left, source-next, source-none}
 use Rattle.engine.proofs.sources_code.Statement.{statement}
 use Rattle.engine.proofs.sources_code.Tie as tie

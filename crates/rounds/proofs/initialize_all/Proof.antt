@@ -1,31 +1,47 @@
 -- `rounds::initialize_all` meets its contract: the first j path reductions have their initial values. Assumes nothing.
 use native.Mathlib.Omega.{arith}
-use Prim.Native.Nat.{_≤_, _-_}
-use mathlib.Core.Path.{_≡_, sym, refl, _∙_}
+use Prim.Native.Nat.{ℕ, _≤_, _<_, _-_}
+use mathlib.Core.Path.{_≡_, sym, _∙_}
+use native.Mathlib.Nat.{not-suc-le-zero}
 use native.Mathlib.Numerals.{add-one}
 use lib.ListN.{length}
-use Rattle.rounds.specs.Run.{initialized-upto}
+use Rattle.meaning.specs.Limits.{PathFits}
+use Rattle.wire.specs.Wire.{at16}
+use Rattle.graph.specs.Graph.{graph-of}
+use Rattle.rounds.proofs.Joint.{Started, legal-at, started-all, started-more}
 use Rattle.rounds.proofs.initialize_all.Statement.{statement}
 use Rattle.rounds.proofs.initialize_all.Tie as tie
 
 abbrev Inv-loop : tie.InvT-loop
-Inv-loop graph paths figures₀ table j₀ figures j = (j ≤ paths) × (length figures ≡ 8192) × (figures ≡ initialized-upto graph table figures₀ j)
+Inv-loop graph paths figures₀ table j₀ figures j =
+    (b : paths ≤ 8) × (j ≤ paths) × Started (graph-of graph) paths table b j figures
 
 abbrev μ-loop : tie.MeasureT-loop
 μ-loop graph paths figures₀ table j₀ figures j = paths - j
 
 loop-holds : tie.Need-loop-holds Inv-loop μ-loop
-unfolding initialized-upto
-loop-holds c = (omega arith, c .before .before .pre .2, refl)
+loop-holds c =
+    let s = c .before .before in
+    (s .pre .1, omega arith, record { shown = λ j h. absurd (not-suc-le-zero h); long = s .pre .3 })
 
 mul-word : tie.Need-mul-word Inv-loop μ-loop
-mul-word c = omega arith
+mul-word c = omega (arith, c .before .loop .inv .0)
 
 array-read-word : tie.Need-array-read-word Inv-loop μ-loop
-array-read-word c = omega arith
+array-read-word c = omega (arith, c .before .loop .inv .0)
 
 initialize-at-requires : tie.Need-initialize-at-requires Inv-loop μ-loop
-initialize-at-requires c κs = (c .before .before .before .before .before .pre .0, omega arith, c .before .before .loop .inv .1)
+initialize-at-requires c κs =
+    let s = c .before .before .before .before .before in
+    let a = s .args in
+    let l = c .before .before .loop in
+    let e : length {A = ℕ} (a .t3) ≡ 8 = s .good .1 .1 .0 .1 .0 .1 in
+    let h : l .j < a .paths = omega arith in (
+      s .pre .0,
+      omega (arith, s .pre .1),
+      legal-at (PathFits (at16 (a .graph .now) 5)) (a .t3) (a .paths) (s .pre .2) (l .j) h (omega (arith, s .pre .1)),
+      l .inv .2 .long,
+    )
 
 add-j : tie.Need-add-j Inv-loop μ-loop
 add-j c = omega arith
@@ -34,17 +50,30 @@ loop-less : tie.Need-loop-less Inv-loop μ-loop
 loop-less c = omega arith
 
 loop-again : tie.Need-loop-again Inv-loop μ-loop
-unfolding initialized-upto
 loop-again c =
+    let s = c .before .before .before .before .before .before .before .before in
+    let a = s .args in
+    let known = c .before .before .before .before .before .before .before .shared-slice-known in
     let l = c .before .before .before .before .before .loop in
-    let e = c .before .before .initialize-at in
-    (omega arith, e .kept .1 .1 .1 .0 ∙ l .inv .1, e .ensures ∙ rw (add-one (l .j), l .inv .2))
+    let e : length {A = ℕ} (a .t3) ≡ 8 = s .good .1 .1 .0 .1 .0 .1 in
+    let h : l .j < a .paths = omega arith in
+    let fits = legal-at (PathFits (at16 (a .graph .now) 5)) (a .t3) (a .paths) (s .pre .2) (l .j) h (omega (arith, s .pre .1)) in (
+      l .inv .0,
+      omega arith,
+      rw (add-one (l .j))
+          (started-more (a .graph .now) (a .paths) (a .t3) (l .inv .0) (l .j) h
+          (record { bytes = λ i. omega (arith, known .given i); accepted = s .pre .0; fits = fits })
+          (l .figures) _ (l .inv .2) (c .before .before .initialize-at .ensures)),
+    )
 
 same-length : tie.Need-same-length Inv-loop μ-loop
-same-length c = c .before .loop .inv .1 ∙ sym (c .before .before .before .before .pre .2)
+same-length c = c .before .loop .inv .2 .long ∙ sym (c .before .before .before .before .pre .3)
 
 returns : tie.Need-returns Inv-loop μ-loop
-returns c = let e : c .before .loop .j ≡ c .before .before .before .before .args .paths = omega arith in rw (← e) (c .before .loop .inv .2)
+returns c =
+    let a = c .before .before .before .before .args in
+    let l = c .before .loop in
+    started-all (graph-of (a .graph .now)) (a .paths) (a .t3) (l .inv .0) (l .j) (l .figures) (l .inv .2) (omega (arith, l .inv .1))
 
 pub initialize-all-spec : {M : Type 1} → statement M
 initialize-all-spec =

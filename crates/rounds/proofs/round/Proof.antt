@@ -1,36 +1,49 @@
 -- `rounds::round` meets its contract: the first j path reductions had their turn. Assumes nothing.
 use native.Mathlib.Omega.{arith}
-use Prim.Native.Nat.{_≤_, _-_, _*_}
-use mathlib.Core.Path.{_≡_, sym, refl, _∙_}
+use Prim.Native.Nat.{ℕ, _≤_, _<_, _-_}
+use mathlib.Core.Path.{_≡_, sym, _∙_}
 use native.Mathlib.Numerals.{add-one}
 use lib.ListN.{length}
+use Rattle.meaning.specs.Limits.{PathFits}
 use Rattle.wire.specs.Wire.{at16}
-use Rattle.rounds.specs.Run.{turned-upto}
+use Rattle.graph.specs.Graph.{graph-of}
+use Rattle.rounds.proofs.Joint.{Upto, legal-at, upto-all, upto-more, upto-none}
 use Rattle.rounds.proofs.round.Statement.{statement}
 use Rattle.rounds.proofs.round.Tie as tie
 
 abbrev Inv-loop : tie.InvT-loop
-Inv-loop graph paths since stamp rest₀ figures₀ work₀ table changed₀ j₀ rest figures work changed j =
-    (j ≤ paths) × (length rest ≡ 8) × (length figures ≡ 8192) × (length work ≡ 4 * at16 graph 5)
-    × (rest ≡ turned-upto graph table since stamp rest₀ figures₀ j .rest)
-    × (figures ≡ turned-upto graph table since stamp rest₀ figures₀ j .figures)
-    × (changed ≡ turned-upto graph table since stamp rest₀ figures₀ j .changed)
+Inv-loop push graph paths r rest₀ figures₀ table changed₀ j₀ rest figures changed j =
+    (b : paths ≤ 8) × (j ≤ paths) × Upto (graph-of graph) paths table b r j rest figures changed
 
 abbrev μ-loop : tie.MeasureT-loop
-μ-loop graph paths since stamp rest₀ figures₀ work₀ table changed₀ j₀ rest figures work changed j = paths - j
+μ-loop push graph paths r rest₀ figures₀ table changed₀ j₀ rest figures changed j = paths - j
 
 loop-holds : tie.Need-loop-holds Inv-loop μ-loop
-unfolding turned-upto
-loop-holds c = let s = c .before .before .before .before in (omega arith, s .pre .2, s .pre .3, s .pre .4, refl, refl, refl)
+loop-holds c =
+    let s = c .before .before .before in
+    let a = s .args in
+    (s .pre .1, omega arith, upto-none (graph-of (a .graph .now)) (a .paths) (a .t4) (s .pre .1) (a .r) (a .rest .now) (a .figures .now) (s .pre .4))
 
 mul-word : tie.Need-mul-word Inv-loop μ-loop
-mul-word c = omega arith
+mul-word c = omega (arith, c .before .loop .inv .0)
 
 array-read-word : tie.Need-array-read-word Inv-loop μ-loop
-array-read-word c = omega arith
+array-read-word c = omega (arith, c .before .loop .inv .0)
 
 turn-requires : tie.Need-turn-requires Inv-loop μ-loop
-turn-requires c κs = let s = c .before .before .before .before .before .before .before .before .before in let l = c .before .before .before .before .loop in (s .pre .0, omega arith, l .inv .1, l .inv .2, l .inv .3)
+turn-requires c κs =
+    let s = c .before .before .before .before .before .before .before in
+    let a = s .args in
+    let l = c .before .before .before .loop in
+    let e : length {A = ℕ} (a .t4) ≡ 8 = s .good .1 .1 .1 .0 .1 .0 .1 in
+    let h : l .j < a .paths = omega arith in (
+      s .pre .0,
+      omega (arith, s .pre .1),
+      legal-at (PathFits (at16 (a .graph .now) 5)) (a .t4) (a .paths) (s .pre .2) (l .j) h (omega (arith, s .pre .1)),
+      s .pre .3,
+      l .inv .2 .flags,
+      l .inv .2 .waits (l .j) (omega arith) h,
+    )
 
 add-j : tie.Need-add-j Inv-loop μ-loop
 add-j c = omega arith
@@ -39,33 +52,31 @@ loop-less : tie.Need-loop-less Inv-loop μ-loop
 loop-less c = omega arith
 
 loop-again : tie.Need-loop-again Inv-loop μ-loop
-unfolding turned-upto
 loop-again c =
-    let l = c .before .before .before .before .before .before .before .before .before .before .before .loop in
-    let t = c .before .before .before .before .before .before .turn in (
+    let s = c .before .before .before .before .before .before .before .before .before .before .before .before in
+    let a = s .args in
+    let l = c .before .before .before .before .before .before .before .before .loop in
+    let t = c .before .before .before .before .turn in
+    let e : length {A = ℕ} (a .t4) ≡ 8 = s .good .1 .1 .1 .0 .1 .0 .1 in
+    let h : l .j < a .paths = omega arith in (
+      l .inv .0,
       omega arith,
-      t .kept .1 .1 .1 .1 .1 .0 ∙ l .inv .1,
-      t .kept .1 .1 .1 .1 .1 .1 .0 ∙ l .inv .2,
-      t .kept .1 .1 .1 .1 .1 .1 .1 .0 ∙ l .inv .3,
-      t .ensures .1 ∙ rw (add-one (l .j), l .inv .4, l .inv .5),
-      t .ensures .2 ∙ rw (add-one (l .j), l .inv .4, l .inv .5),
-      rw (add-one (l .j), t .ensures .0, l .inv .4, l .inv .5, l .inv .6),
+      rw (add-one (l .j))
+          (upto-more (graph-of (a .graph .now)) (a .paths) (a .t4) (l .inv .0) (a .r) (l .j) h (omega (arith, s .pre .1)) (l .rest) _ (l .figures) _
+          (l .changed) (t .result) (l .inv .2) (t .kept .1 .1 .1 .1 .1 .0 ∙ l .inv .2 .flags) (t .ensures)),
     )
 
 same-length : tie.Need-same-length Inv-loop μ-loop
-same-length c = c .before .loop .inv .1 ∙ sym (c .before .before .before .before .before .before .pre .2)
+same-length c = c .before .loop .inv .2 .flags ∙ sym (c .before .before .before .before .before .pre .4 .flags)
 
 same-length-2 : tie.Need-same-length-2 Inv-loop μ-loop
-same-length-2 c = c .before .loop .inv .2 ∙ sym (c .before .before .before .before .before .before .pre .3)
-
-same-length-3 : tie.Need-same-length-3 Inv-loop μ-loop
-same-length-3 c = c .before .loop .inv .3 ∙ sym (c .before .before .before .before .before .before .pre .4)
+same-length-2 c = c .before .loop .inv .2 .long ∙ sym (c .before .before .before .before .before .pre .4 .long)
 
 returns : tie.Need-returns Inv-loop μ-loop
 returns c =
+    let a = c .before .before .before .before .before .args in
     let l = c .before .loop in
-    let e : l .j ≡ c .before .before .before .before .before .before .args .paths = omega arith in
-    (rw (← e) (l .inv .6), rw (← e) (l .inv .4), rw (← e) (l .inv .5))
+    upto-all (graph-of (a .graph .now)) (a .paths) (a .t4) (l .inv .0) (a .r) (l .j) (l .rest) (l .figures) (l .changed) (omega (arith, l .inv .1)) (l .inv .2)
 
 pub round-spec : {M : Type 1} → statement M
 round-spec =
@@ -82,5 +93,4 @@ round-spec =
     loop-again
     same-length
     same-length-2
-    same-length-3
     returns)

@@ -34,15 +34,13 @@ step-requires c κs = search needs
 same-length : tie.Need-same-length
 same-length c = search needs
 
-same-length-2 : tie.Need-same-length-2
-same-length-2 c = search needs
-
 returns : tie.Need-returns
 returns c =
-    let a = c .before .before .before .before .before .before .before .before .before .before .before .args in
-    let n = c .before .before .before .before .before .before .before .vertices in
-    let t = c .before .before .before .before .step in (
-      step-said (a .graph .now) (a .figures .now) (a .figures .now) (a .j) (n .result) (n .ensures .0) (a .word) (a .since) (a .stamp) (t .result) (t .ensures .0),
+    let a = c .before .before .before .before .before .before .before .args in
+    let n = c .before .before .before .before .vertices in
+    let t = c .before .before .step in (
+      step-said (a .graph .now) (a .figures .now) (a .figures .now) (a .j) (n .result) (n .ensures .0) (a .word) (a .since) (a .stamp) (t .result)
+          (t .ensures .0),
       step-put (a .graph .now) (a .figures .now) _ (a .j) (n .result) (n .ensures .0) (a .word) (a .since) (a .stamp) (t .ensures .1),
     )
 
@@ -60,5 +58,4 @@ step-at-spec =
     part-step-end
     step-requires
     same-length
-    same-length-2
     returns)

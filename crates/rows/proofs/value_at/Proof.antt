@@ -1,6 +1,6 @@
 -- `rows::value_at` meets its contract. Assumes nothing.
 use borrow.Author.Tests.{eq-eqb, ne-eqb, le-leb, lt-leb}
-use Rattle.rounds.specs.Run.{value-in}
+use Rattle.rounds.specs.Steps.{value-in}
 use borrow.Author.Needs.{needs}
 use Rattle.rows.proofs.value_at.Statement.{statement}
 use Rattle.rows.proofs.value_at.Tie as tie

@@ -1,4 +1,5 @@
--- A path reduction of fewer than three keys with its last key again: every figure of the added keys is that of the last, and nothing is decided otherwise. Assumes nothing.
+-- A path reduction of fewer than three keys with its last key again: every figure of the added keys is that of the last, and nothing is decided
+-- otherwise. Assumes nothing.
 use Prim.Native.Nat.{ℕ, zero, suc}
 use mathlib.Core.Path.{_≡_, refl, sym, ap, ap₂, _∙_}
 use mathlib.Core.Bool.{Bool, true, false, cond, _&&_}
@@ -6,22 +7,13 @@ use mathlib.Core.List.{List, [], _∷_}
 use mathlib.Core.Option.{Option, none, some}
 use native.Mathlib.Omega.{arith}
 use lib.Dec.{eqb}
-use lib.ListN.{length, getD}
+use lib.ListN.{length, getD, take}
 use Rattle.walks.specs.Keys.{good?, kept}
 use Rattle.walks.specs.Meaning.{value}
-use Rattle.walks.specs.Rounds.{State, best, brings, extend-all, gather, initial, precedes, through}
+use Rattle.walks.specs.Rounds.{State, bases, best, brings, extend-all, gather, initial, precedes, through}
 use Rattle.walks.specs.Walks.{Edge, Network}
-
--- keys or figures with the last one again, up to three; of figures, where there are any
-abbrev pub pad : List ℕ → List ℕ
-pad [] = []
-pad (x ∷ []) = x ∷ x ∷ x ∷ []
-pad (x ∷ (y ∷ [])) = x ∷ y ∷ y ∷ []
-pad (x ∷ (y ∷ (z ∷ l))) = x ∷ y ∷ z ∷ []
-
-abbrev pub padded : Option (List ℕ) → Option (List ℕ)
-padded none = none
-padded (some xs) = some (pad xs)
+use Rattle.cells.specs.Table.{figures-of, pad, padded}
+use Rattle.cells.specs.declared.Cell.{Cell}
 
 -- one to three keys
 abbrev pub Few : List ℕ → Type 0
@@ -123,6 +115,50 @@ initial-pad true (k ∷ (j ∷ [])) f v = refl
 initial-pad true (k ∷ (j ∷ (i ∷ []))) f v = refl
 initial-pad true (k ∷ (j ∷ (i ∷ (h ∷ ks)))) f v = absurd f
 
+bases-length : (ks : List ℕ) (v : ℕ) → length (bases ks v) ≡ length ks
+bases-length [] v = refl
+bases-length (k ∷ ks) v = ap suc (bases-length ks v)
+
+pub initial-sized : (b : Bool) (ks : List ℕ) (v : ℕ) → Sized ks (initial b ks v)
+initial-sized true ks v = bases-length ks v
+initial-sized false ks v = tt
+
+-- what a cell of three figures shows: one for each key
+abbrev pub cut : ℕ → Option (List ℕ) → Option (List ℕ)
+cut k none = none
+cut k (some xs) = some (take k xs)
+
+pub cut-pad : (ks : List ℕ) → Few ks → (o : Option (List ℕ)) → Sized ks o → cut (length ks) (padded o) ≡ o
+cut-pad ks f none s = refl
+cut-pad [] f (some xs) s = absurd f
+cut-pad (k ∷ []) f (some xs) s = rw (one xs s)
+cut-pad (k ∷ (j ∷ [])) f (some xs) s = rw (two xs s)
+cut-pad (k ∷ (j ∷ (i ∷ []))) f (some xs) s = rw (three xs s)
+cut-pad (k ∷ (j ∷ (i ∷ (h ∷ ks)))) f (some xs) s = absurd f
+
+-- as many figures as there are keys
+cut-length : (ks : List ℕ) → Few ks → (a b d : ℕ) → length (take (length ks) (a ∷ b ∷ d ∷ [])) ≡ length ks
+cut-length [] f a b d = absurd f
+cut-length (k ∷ []) f a b d = refl
+cut-length (k ∷ (j ∷ [])) f a b d = refl
+cut-length (k ∷ (j ∷ (i ∷ []))) f a b d = refl
+cut-length (k ∷ (j ∷ (i ∷ (h ∷ ks)))) f a b d = absurd f
+
+pub cell-sized : (ks : List ℕ) → Few ks → (x : Cell) → Sized ks (figures-of (length ks) x)
+cell-sized ks f x = go (eqb (x .stamp) 0)
+  where
+    go : (b : Bool) → Sized ks (cond b none (some (take (length ks) (x .first ∷ x .second ∷ x .third ∷ []))))
+    go true = tt
+    go false = cut-length ks f (x .first) (x .second) (x .third)
+
+pub cell-cut : (k : ℕ) (x : Cell) → figures-of k x ≡ cut k (figures-of 3 x)
+cell-cut k x = go (eqb (x .stamp) 0)
+  where
+    go : (b : Bool) → cond b none (some (take k (x .first ∷ x .second ∷ x .third ∷ [])))
+        ≡ cut k (cond b none (some (x .first ∷ x .second ∷ x .third ∷ [])))
+    go true = refl
+    go false = refl
+
 -- equal padded figures are equal
 pad-same : (ks xs ys : List ℕ) → Few ks → length xs ≡ length ks → length ys ≡ length ks → pad xs ≡ pad ys → xs ≡ ys
 pad-same [] xs ys f e g p = absurd f
@@ -163,7 +199,8 @@ module _ (N : Network) (ks : List ℕ) (f : Few ks) (live : ℕ → Bool) (S : S
   brings-sized true e = through-sized ks e (S (e .from)) (sized (e .from))
   brings-sized false e = tt
 
-  gather-sized : (v i : ℕ) → Sized ks (gather N ks live S v i)
+  -- what is gathered has a figure for each key
+  pub gather-sized : (v i : ℕ) → Sized ks (gather N ks live S v i)
   unfolding gather
   gather-sized v zero = sized v
   gather-sized v (suc i) = best-sized ks (gather N ks live S v i) _ (gather-sized v i) (brings-sized (live i && eqb (N .edge i .to) v) (N .edge i))

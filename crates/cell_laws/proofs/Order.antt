@@ -10,7 +10,7 @@ use Rattle.walks.specs.Keys.{good?, kept}
 use Rattle.walks.specs.Rounds.{precedes}
 use Rattle.walks.specs.declared.Extreme.{Extreme}
 use Rattle.walks.specs.declared.Extreme.the-variants.{Greatest, Least}
-use Rattle.cells.specs.Cells.{ahead}
+use Rattle.cells.specs.Steps.{ahead}
 
 -- anything, of tests that contradict each other
 pub never : {A : Type 0} → _≡_ {A = Bool} false true → A
@@ -58,7 +58,8 @@ overtakes (k ∷ ks) (x ∷ xs) [] ys e f = refl
 overtakes (k ∷ ks) (x ∷ xs) (z ∷ zs) [] e f = refl
 overtakes (k ∷ ks) (x ∷ xs) (z ∷ zs) (y ∷ ys) e f = go (overtakes ks xs zs ys) (eqb x z) (eqb x y) refl refl e f
   where
-    go : (precedes ks xs zs ≡ false → precedes ks xs ys ≡ true → precedes ks zs ys ≡ true) → (a b : Bool) → eqb x z ≡ a → eqb x y ≡ b → cond a (precedes ks xs zs) (good? (kept k) x z) ≡ false → cond b (precedes ks xs ys) (good? (kept k) x y) ≡ true
+    go : (precedes ks xs zs ≡ false → precedes ks xs ys ≡ true → precedes ks zs ys ≡ true) → (a b : Bool) → eqb x z ≡ a → eqb x y ≡ b
+        → cond a (precedes ks xs zs) (good? (kept k) x z) ≡ false → cond b (precedes ks xs ys) (good? (kept k) x y) ≡ true
         → cond (eqb z y) (precedes ks zs ys) (good? (kept k) z y) ≡ true
     go h true true p q e f = rw (eq-eqb z y (sym (eqb-true x z p) ∙ eqb-true x y q)) (h e f)
     go h true false p q e f = rw (← (eqb-true x z p), q) f

@@ -18,10 +18,10 @@ use Rattle.walks.specs.declared.Measure.{Measure}
 use Rattle.walks.specs.declared.Measure.the-variants.{Bottleneck, Edges, Source, Weight}
 use Rattle.graph.specs.Graph.{edge-in}
 use Rattle.cells.specs.declared.Cell.{Cell}
-use Rattle.cells.specs.Cells.{numbers, relaxed, relaxed-upto, taken, taken-upto, through}
-use Rattle.rounds_laws.specs.Cells.{figures-at, numbers-at, stamp-at}
-use Rattle.rounds_laws.proofs.Cells.{Keys3, beaten, figures-here, figures-other, onward-is, present, put-other, rows3, stamp-here, taken-is}
-use Rattle.rounds_laws.proofs.Order.{never, overtakes}
+use Rattle.cells.specs.Steps.{numbers, relaxed, relaxed-upto, taken, taken-upto, through}
+use Rattle.cell_laws.specs.Steps.{figures-at, numbers-at, stamp-at}
+use Rattle.cell_laws.proofs.Cells.{Keys3, beaten, figures-here, figures-other, onward-is, present, put-other, rows3, stamp-here, taken-is}
+use Rattle.cell_laws.proofs.Order.{never, overtakes}
 
 -- ---- the better of two
 
@@ -138,7 +138,9 @@ module _ (N : Network) (s : List ℕ) (n m since stamp : ℕ) (old : List ℕ) (
 
   -- what one edge does to one vertex
   abbrev Kept : ℕ → ℕ → Type 0
-  Kept i v = (figures-at (Relaxed (suc i)) v ≡ figures-at (Relaxed i) v) × (stamp-at (Relaxed (suc i)) v ≡ stamp-at (Relaxed i) v) × (Gathered v (suc i) ≡ Gathered v i)
+  Kept i v =
+      (figures-at (Relaxed (suc i)) v ≡ figures-at (Relaxed i) v) × (stamp-at (Relaxed (suc i)) v ≡ stamp-at (Relaxed i) v)
+      × (Gathered v (suc i) ≡ Gathered v i)
 
   abbrev Took : ℕ → ℕ → Type 0
   Took i v =
@@ -164,12 +166,17 @@ module _ (N : Network) (s : List ℕ) (n m since stamp : ℕ) (old : List ℕ) (
 
     -- gather, at the bytes' edge
     gathers : (i : ℕ) → i < m → (v : ℕ) →
-        Gathered v (suc i) ≡ best (Keys3 k1 k2 k3) (Gathered v i) (brings (leb since (stamp-at old (edge-in s i .from)) && eqb (edge-in s i .to) v) (Keys3 k1 k2 k3) (edge-in s i) (figures-at old))
+        Gathered v (suc i)
+        ≡ best (Keys3 k1 k2 k3) (Gathered v i)
+        (brings (leb since (stamp-at old (edge-in s i .from)) && eqb (edge-in s i .to) v) (Keys3 k1 k2 k3) (edge-in s i) (figures-at old))
     unfolding gather
     gathers i h v =
-        ap (λ (e : Edge). best (Keys3 k1 k2 k3) (Gathered v i) (brings (leb since (stamp-at old (e .from)) && eqb (e .to) v) (Keys3 k1 k2 k3) e (figures-at old))) (S .edge-is i h)
+        ap
+        (λ (e : Edge). best (Keys3 k1 k2 k3) (Gathered v i) (brings (leb since (stamp-at old (e .from)) && eqb (e .to) v) (Keys3 k1 k2 k3) e (figures-at old)))
+        (S .edge-is i h)
 
-    not-brought : (i : ℕ) → i < m → (v : ℕ) → (leb since (stamp-at old (edge-in s i .from)) && eqb (edge-in s i .to) v) ≡ false → Gathered v (suc i) ≡ Gathered v i
+    not-brought : (i : ℕ) → i < m → (v : ℕ) → (leb since (stamp-at old (edge-in s i .from)) && eqb (edge-in s i .to) v) ≡ false
+        → Gathered v (suc i) ≡ Gathered v i
     not-brought i h v e =
         gathers i h v
         ∙ ap (λ (b : Bool). best (Keys3 k1 k2 k3) (Gathered v i) (brings b (Keys3 k1 k2 k3) (edge-in s i) (figures-at old))) e
@@ -188,7 +195,8 @@ module _ (N : Network) (s : List ℕ) (n m since stamp : ℕ) (old : List ℕ) (
         )
 
     -- at the end of an edge that is walked
-    module _ (i : ℕ) (h : i < m) (live : leb since (stamp-at old (edge-in s i .from)) ≡ true) (IH : figures-at (Relaxed i) (edge-in s i .to) ≡ Gathered (edge-in s i .to) i) where
+    module _ (i : ℕ) (h : i < m) (live : leb since (stamp-at old (edge-in s i .from)) ≡ true)
+        (IH : figures-at (Relaxed i) (edge-in s i .to) ≡ Gathered (edge-in s i .to) i) where
       from-there : 1 ≤ stamp-at old (edge-in s i .from)
       from-there = omega (arith, leb-true since (stamp-at old (edge-in s i .from)) live, S .some-since)
 
@@ -265,7 +273,8 @@ module _ (N : Network) (s : List ℕ) (n m since stamp : ℕ) (old : List ℕ) (
     no-worse-upto zero h v l = no-worse-refl (Keys3 k1 k2 k3) (figures-at old v)
     no-worse-upto (suc i) h v l = go (effect i h v (holds i (omega arith) v l)) (no-worse-upto i (omega arith) v l)
       where
-        go : Kept i v ⊎ Took i v → no-worse (Keys3 k1 k2 k3) (Gathered v i) (figures-at old v) ≡ true → no-worse (Keys3 k1 k2 k3) (Gathered v (suc i)) (figures-at old v) ≡ true
+        go : Kept i v ⊎ Took i v → no-worse (Keys3 k1 k2 k3) (Gathered v i) (figures-at old v) ≡ true
+            → no-worse (Keys3 k1 k2 k3) (Gathered v (suc i)) (figures-at old v) ≡ true
         go (inl k) e = rw (k .2) e
         go (inr t) e = rw (t .3) (taken-no-worse (Keys3 k1 k2 k3) (Gathered v i) (figures-at old v) (t .0) (t .4) e)
 

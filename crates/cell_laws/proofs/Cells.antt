@@ -15,11 +15,11 @@ use Rattle.walks.specs.Walks.{Edge, edge, extend}
 use Rattle.walks.specs.declared.Extreme.{Extreme}
 use Rattle.walks.specs.declared.Measure.{Measure}
 use Rattle.walks.specs.declared.Measure.the-variants.{Bottleneck, Edges, Source, Weight}
-use Rattle.cells.specs.Cells.{ahead, displaces, numbers, taken}
+use Rattle.cells.specs.Steps.{ahead, displaces, numbers, taken}
 use Rattle.cells.specs.declared.Cell.{Cell}
 use Rattle.cells.specs.declared.PathKeys.{PathKeys}
-use Rattle.rounds_laws.specs.Cells.{figures-at, numbers-at, stamp-at}
-use Rattle.rounds_laws.proofs.Order.{ahead-is, ahead-self, eqb-swap, less-is}
+use Rattle.cell_laws.specs.Steps.{figures-at, numbers-at, stamp-at}
+use Rattle.cell_laws.proofs.Order.{ahead-is, ahead-self, eqb-swap, less-is}
 
 -- ---- four numbers stored at i
 
@@ -159,10 +159,15 @@ module _ (k1 k2 k3 : ℕ) where
 
   -- what the code compares is the theory's order
   displaces-is : (e : Edge) (old new : List ℕ) →
-      displaces rows3 (e .weight) (e .capacity) old (4 * e .from) new (4 * e .to) ≡ beaten Keys3 (figures-at new (e .to)) (extend-all Keys3 e (numbers-at old (e .from)))
+      displaces rows3 (e .weight) (e .capacity) old (4 * e .from) new (4 * e .to)
+      ≡ beaten Keys3 (figures-at new (e .to)) (extend-all Keys3 e (numbers-at old (e .from)))
   unfolding displaces figures-at
   displaces-is e old new =
-      rw (onward-is (measure k1) e (getD old (4 * e .from) 0), onward-is (measure k2) e (getD old (4 * e .from + 1) 0), onward-is (measure k3) e (getD old (4 * e .from + 2) 0))
+      rw (
+        onward-is (measure k1) e (getD old (4 * e .from) 0),
+        onward-is (measure k2) e (getD old (4 * e .from + 1) 0),
+        onward-is (measure k3) e (getD old (4 * e .from + 2) 0),
+      )
       (go (eqb (stamp-at new (e .to)) 0))
     where
       go : (t : Bool) →
@@ -180,7 +185,8 @@ module _ (k1 k2 k3 : ℕ) where
 
   -- AN EDGE IS TAKEN where it is walked and what it brings is better
   pub taken-is : (e : Edge) (since : ℕ) (old new : List ℕ) →
-      taken rows3 e since old new ≡ (leb since (stamp-at old (e .from)) && beaten Keys3 (figures-at new (e .to)) (extend-all Keys3 e (numbers-at old (e .from))))
+      taken rows3 e since old new
+      ≡ (leb since (stamp-at old (e .from)) && beaten Keys3 (figures-at new (e .to)) (extend-all Keys3 e (numbers-at old (e .from))))
   unfolding taken
   taken-is e since old new = rw (less-is (stamp-at old (e .from)) since, displaces-is e old new) (go (leb since (stamp-at old (e .from))))
     where

@@ -1,0 +1,7 @@
+pub mod Order
+pub mod Pad
+pub mod Cells
+pub mod Edges
+pub mod Words
+pub mod Path
+pub mod Initial

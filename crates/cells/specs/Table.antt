@@ -1,0 +1,78 @@
+-- WHAT THE TABLE OF FIGURES SHOWS at each vertex for each path reduction (document 01: chain). These definitions know how the table is laid out; contracts and
+-- theorems use their names alone.
+use Prim.Native.Nat.{ℕ, zero, suc, _+_, _*_, _/_, _%_, _≤_, _<_}
+use mathlib.Core.Path.{_≡_}
+use mathlib.Core.Bool.{Bool, false, cond, _||_}
+use mathlib.Core.List.{List, [], _∷_, map}
+use mathlib.Core.Option.{Option, none, some}
+use lib.Dec.{eqb}
+use lib.ListN.{length, getD, take}
+use Rattle.walks.specs.Lists.{All}
+use Rattle.walks.specs.Rounds.{State}
+use Rattle.meaning.specs.Query.{PathReduction}
+use Rattle.cells.specs.declared.Cell.{Cell}
+
+-- a path reduction by its six worksheet bytes as one number ("key count, three key bytes with unused ones 0, 16-bit start")
+unfoldable pub path-of : ℕ → PathReduction
+path-of w = record { keys = take (w % 256) (w / 256 % 256 ∷ w / 65536 % 256 ∷ w / 16777216 % 256 ∷ []); source = w / 4294967296 }
+
+-- the first `count` of a table of such numbers; the one with index j
+abbrev pub paths-in : ℕ → List ℕ → List PathReduction
+paths-in count table = map path-of (take count table)
+
+abbrev pub path-at : List ℕ → ℕ → PathReduction
+path-at table j = path-of (getD table j 0)
+
+-- what the table has at vertex v for the path reduction with index j: three figures, and a stamp that is 0 where the vertex is absent, else one
+-- more than the last round that changed it
+unfoldable pub cell-in : List ℕ → ℕ → ℕ → Cell
+cell-in l j v = record {
+  first = getD l (1024 * j + 4 * v) 0;
+  second = getD l (1024 * j + 4 * v + 1) 0;
+  third = getD l (1024 * j + 4 * v + 2) 0;
+  stamp = getD l (1024 * j + 4 * v + 3) 0;
+}
+
+-- "A key's figure is the value, in that key, of the walks kept by it and the keys before it, and absent with no walk": one for each of 1 to 3 keys
+abbrev pub figures-of : ℕ → Cell → Option (List ℕ)
+figures-of keys x = cond (eqb (x .stamp) 0) none (some (take keys (x .first ∷ x .second ∷ x .third ∷ [])))
+
+-- THE FIGURES of the path reduction c, which has index j
+unfoldable pub figures-in : PathReduction → List ℕ → ℕ → State
+figures-in c l j v = figures-of (length (c .keys)) (cell-in l j v)
+
+-- DID ROUND r CHANGE the vertex for it? (round 0: is it not absent?)
+unfoldable pub changed-in : ℕ → List ℕ → ℕ → ℕ → Bool
+changed-in r l j v = eqb (cell-in l j v .stamp) (suc r)
+
+-- does a test hold at any of n vertices?
+abbrev pub any-vertex : ℕ → (ℕ → Bool) → Bool
+any-vertex zero f = false
+any-vertex (suc n) f = f n || any-vertex n f
+
+-- what the rounds need of a table besides what it shows. The last of one or two figures stands again in the places of the others:
+abbrev pub pad : List ℕ → List ℕ
+pad [] = []
+pad (x ∷ []) = x ∷ x ∷ x ∷ []
+pad (x ∷ (y ∷ [])) = x ∷ y ∷ y ∷ []
+pad (x ∷ (y ∷ (z ∷ l))) = x ∷ y ∷ z ∷ []
+
+abbrev pub padded : Option (List ℕ) → Option (List ℕ)
+padded none = none
+padded (some xs) = some (pad xs)
+
+-- figures of at most b
+abbrev pub Below : ℕ → Option (List ℕ) → Type 0
+Below b none = Unit {0}
+Below b (some xs) = All (λ x. x ≤ b) xs
+
+-- after r rounds no later one is stamped, and each edge of a walk has added 65,535 at most, so that 32 bits are enough for 65,535 rounds
+pub record SoundCell (keys r : ℕ) (x : Cell) : Type 0 where
+  pub early : x .stamp ≤ suc r
+  pub small : Below (65535 * suc r) (figures-of keys x)
+  pub again : figures-of 3 x ≡ padded (figures-of keys x)
+
+-- the cells of the path reduction c with index j, on n vertices
+pub record Sound (n : ℕ) (c : PathReduction) (r : ℕ) (l : List ℕ) (j : ℕ) : Type 0 where
+  pub long : length l ≡ 8192
+  pub cells : (v : ℕ) → v < n → SoundCell (length (c .keys)) r (cell-in l j v)

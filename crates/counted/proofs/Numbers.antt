@@ -6,20 +6,20 @@ use mathlib.Core.List.{List}
 use native.Mathlib.Omega.{arith}
 use borrow.Author.Tests.{eqb-true, le-ltb, lt-ltb}
 use lib.Dec.{ltb, eqb}
-use lib.ListN.{length, getD, length-take}
-use Rattle.answer.specs.Answer.{answer-bytes, answer-reply, answer-rows, fields-code, row-count}
+use lib.ListN.{length}
+use Rattle.answer.specs.Answer.{encode}
 use Rattle.answer.proofs.Bytes.{count-most, encode-length}
-use Rattle.answer.proofs.Reply.{fields}
 use Rattle.counters.specs.Counted.{counted-by}
 use Rattle.counters.specs.declared.Counters.{Counters}
 use Rattle.engine.specs.declared.Limit.{Limit}
-use Rattle.engine.specs.Run.{answered, paths-of, rounds-done, rows-after, run-reply}
-use Rattle.engine.specs.Steps.{run-code}
-use Rattle.engine.proofs.Meant.{run-judged}
-use Rattle.graph.specs.Graph.{graph-of}
-use Rattle.plan.specs.Plan.{plan-scan}
-use Rattle.value.specs.declared.Value.{Value}
-use Rattle.wire.specs.Wire.{Reply, Returned, done, fitted, refused, reply-number, unless}
+use Rattle.engine.specs.Run.{outcome, run-reply, sources-code}
+use Rattle.engine.proofs.Every.{outcome-rows}
+use Rattle.graph.specs.Graph.{graph-code, graph-of}
+use Rattle.graph.proofs.Accepted.{accepted}
+use Rattle.plan.specs.Plan.{plan-code}
+use Rattle.plan.specs.Text.{kind-of}
+use Rattle.plan.specs.Tree.{plan-of}
+use Rattle.wire.specs.Wire.{Reply, Returned, at16, done, fitted, refused, reply-number, unless}
 use Rattle.counted.specs.Counted.{Counted, counters-after, is-done}
 
 -- a reply whose number tells
@@ -43,25 +43,22 @@ told-fitted bs room h = go (ltb room (length bs))
     go true = told-refused 15
     go false = lt-ltb _ _ h
 
-told-answer : (n rounds kind : ℕ) (vs : List Value) (room : ℕ) → Told (answer-reply n rounds kind vs room)
-unfolding answer-reply answer-bytes
-told-answer n rounds kind vs room =
-    told-unless (fields-code n kind) _ (λ z. told-fitted (answer-bytes n rounds kind vs) room
-    (omega (
-      arith,
-      encode-length n kind (record { count = rounds; rows = answer-rows n kind vs }),
-      length-take (row-count n kind) vs,
-      count-most n kind 256 (fields n kind z .few-vertices) (omega arith),
-    )))
-
 told-run : (limit : Limit) (s m : List ℕ) (room : ℕ) → Told (run-reply limit s m room)
-unfolding answered
+unfolding run-reply
 told-run limit s m room =
     let g = graph-of m in
-    let cs = paths-of (plan-scan s) in
-    rw (run-judged limit s m room)
-    (told-unless (run-code (plan-scan s) m) (answered limit s g cs room)
-    (λ _. told-answer (g .vertices) (rounds-done limit g cs) (getD s 5 0) (rows-after s g cs (rounds-done limit g cs)) room))
+    let p = plan-of s in
+    let bs = encode (at16 m 5) (kind-of (p .body)) (outcome limit g p) in
+    told-unless (plan-code s) _ (λ _.
+    told-unless (graph-code m) (unless (sources-code (at16 m 5) (p .paths)) (fitted bs room)) (λ z.
+    told-unless (sources-code (at16 m 5) (p .paths)) (fitted bs room) (λ _.
+    told-fitted bs room
+    (omega (
+      arith,
+      encode-length (at16 m 5) (kind-of (p .body)) (outcome limit g p),
+      outcome-rows limit g p,
+      count-most (at16 m 5) (kind-of (p .body)) 256 (accepted m z .sizes .few-vertices) (omega arith),
+    )))))
 
 -- THE COUNTERS BY THE NUMBER ARE THOSE BY THE REPLY
 pub counted-told : (limit : Limit) (s m : List ℕ) (room : ℕ) (c : Counters) (n : ℕ) → n ≡ reply-number (run-reply limit s m room)

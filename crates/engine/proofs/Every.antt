@@ -47,7 +47,22 @@ fitted-answered bs before after number returned answered = go (ltb (length befor
 pub not-refused : (r : Reply) (number : ℕ) (before after : List ℕ) → Returned r number before after → number < 65536 → (k : ℕ) → r ≡ refused k → ⊥
 not-refused r number before after returned answered k e = omega (arith, returned .0 ∙ ap reply-number e)
 
--- ---- the answer of a legal plan's outcome
+-- ---- the answer of an outcome
+
+-- its rows are as many as the kind has
+pub outcome-rows : (limit : Limit) (g : Graph) (p : Plan) → length (outcome limit g p .rows) ≡ row-count (g .vertices) (kind-of (p .body))
+unfolding run stopped
+outcome-rows limit g p = go limit
+  where
+    counted : (b : Body) (r : ℕ) → length (stopped (pull g) (g .vertices) (record { paths = p .paths; body = b }) r .rows) ≡ row-count (g .vertices) (kind-of b)
+    counted (each-vertex t) r = tabulate-length (g .vertices) 0 _
+    counted (one-result es t) r = refl
+
+    go : (l : Limit) → length (outcome l g p .rows) ≡ row-count (g .vertices) (kind-of (p .body))
+    go Quiet = counted (p .body) (run-rounds (pull g) (g .vertices) p)
+    go (Rounds r) = counted (p .body) r
+
+-- that of a legal plan
 
 module _ (g : Graph) (legal : GraphLegal g) (p : Plan) (plan-legal : PlanLegal (g .vertices) p) (limit : Limit) (sixteen : Sixteen limit) where
   abbrev o : Outcome
@@ -72,21 +87,9 @@ module _ (g : Graph) (legal : GraphLegal g) (p : Plan) (plan-legal : PlanLegal (
       go Quiet h k = rows-held g legal p plan-legal (run-rounds (pull g) n p) k
       go (Rounds r) h k = rows-held g legal p plan-legal r h
 
-  rows-counted : length (outcome limit g p .rows) ≡ row-count (g .vertices) (kind-of (p .body))
-  unfolding run stopped
-  rows-counted = go limit
-    where
-      counted : (b : Body) (r : ℕ) → length (stopped (pull g) n (record { paths = p .paths; body = b }) r .rows) ≡ row-count n (kind-of b)
-      counted (each-vertex t) r = tabulate-length n 0 _
-      counted (one-result es t) r = refl
-
-      go : (l : Limit) → length (outcome l g p .rows) ≡ row-count n (kind-of (p .body))
-      go Quiet = counted (p .body) (run-rounds (pull g) n p)
-      go (Rounds r) = counted (p .body) r
-
   -- read back, its bytes say it
   pub encode-size : length (encode (g .vertices) (kind-of (p .body)) (outcome limit g p)) ≡ answer-size (g .vertices) (kind-of (p .body))
-  encode-size = encode-length n (kind-of (p .body)) o ∙ ap (λ (k : ℕ). 10 + 9 * k) rows-counted
+  encode-size = encode-length n (kind-of (p .body)) o ∙ ap (λ (k : ℕ). 10 + 9 * k) (outcome-rows limit g p)
 
   pub answer-in : (before after : List ℕ) (number : ℕ) → Returned (fitted (encode (g .vertices) (kind-of (p .body)) (outcome limit g p)) (length before)) number before after
       → number < 65536 → AnswerIn (g .vertices) (kind-of (p .body)) (outcome limit g p) number before after
@@ -95,7 +98,7 @@ module _ (g : Graph) (legal : GraphLegal g) (p : Plan) (plan-legal : PlanLegal (
       let f = fitted-answered bs before after number returned answered in record {
         bytes = f .1;
         size = f .0 ∙ encode-size;
-        says = rw (f .1, take-at bs (drop number before) number (sym (f .0))) (decode-back n (kind-of (p .body)) o (legal .few-vertices) rounds-fit rows-counted rows-fit);
+        says = rw (f .1, take-at bs (drop number before) number (sym (f .0))) (decode-back n (kind-of (p .body)) o (legal .few-vertices) rounds-fit (outcome-rows limit g p) rows-fit);
       }
 
   pub plan-correct : PlanCorrect limit g p (outcome limit g p)

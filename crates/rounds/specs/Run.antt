@@ -12,11 +12,11 @@ use Rattle.meaning.specs.Query.{PathReduction, network-of}
 use Rattle.meaning.specs.Run.{pull}
 use Rattle.cells.specs.Table.{Sound, any-vertex, cell-in, changed-in, figures-in, path-at, paths-in}
 
--- what each vertex holds after a round, of what it held before. BY PULL, "each round .. over all passages":
+-- what each vertex holds after a round, of what it held before. BY PULL: over all edges that may be taken
 abbrev pub pulled : Network → List ℕ → State → State
 pulled N ks S v = gather N ks (N .usable) S v (N .edges)
 
--- BY PUSH, over those from vertices that the round before changed:
+-- BY PUSH: over those from vertices that the round before changed
 abbrev pub pushed-from : Network → List ℕ → State → (ℕ → Bool) → State
 pushed-from N ks S changed = push-round N ks (record { holds = S; changed = changed })
 

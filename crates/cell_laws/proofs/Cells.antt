@@ -9,7 +9,7 @@ use borrow.Author.Tests.{eqb-true, eq-eqb, ne-eqb}
 use lib.Dec.{leb, eqb}
 use lib.ListN.{length, getD, set, length-set}
 use lib.Seq.{getD-set-other, getD-set-same, sets}
-use Rattle.walks.specs.Keys.{good?, kept, measure, row}
+use Rattle.walks.specs.Keys.{good?, kept, measure, key-row}
 use Rattle.walks.specs.Rounds.{extend-all, precedes}
 use Rattle.walks.specs.Walks.{Edge, edge, extend}
 use Rattle.walks.specs.declared.Extreme.{Extreme}
@@ -155,7 +155,7 @@ module _ (k1 k2 k3 : ℕ) where
   Keys3 = k1 ∷ k2 ∷ k3 ∷ []
 
   abbrev pub rows3 : PathKeys
-  rows3 = record { first = row k1; second = row k2; third = row k3 }
+  rows3 = record { first = key-row k1; second = key-row k2; third = key-row k3 }
 
   -- what the code compares is the theory's order
   displaces-is : (e : Edge) (old new : List ℕ) →

@@ -59,7 +59,8 @@ no-worse-refl : (ks : List ℕ) (o : Option (List ℕ)) → no-worse ks o o ≡ 
 no-worse-refl ks none = refl
 no-worse-refl ks (some xs) = precedes-refl ks xs
 
-taken-no-worse : (ks : List ℕ) (o p : Option (List ℕ)) (zs : List ℕ) → beaten ks o zs ≡ true → no-worse ks o p ≡ true → no-worse ks (some zs) p ≡ true
+taken-no-worse : (ks : List ℕ) (o p : Option (List ℕ)) (zs : List ℕ) → beaten ks o zs ≡ true → no-worse ks o p ≡ true
+    → no-worse ks (some zs) p ≡ true
 taken-no-worse ks o none zs e f = refl
 taken-no-worse ks none (some ys) zs e f = never f
 taken-no-worse ks (some xs) (some ys) zs e f = overtakes ks xs zs ys (not-true (precedes ks xs zs) e) f
@@ -182,7 +183,8 @@ module _ (N : Network) (s : List ℕ) (n m since stamp : ℕ) (old : List ℕ) (
         ∙ ap (λ (b : Bool). best (Keys3 k1 k2 k3) (Gathered v i) (brings b (Keys3 k1 k2 k3) (edge-in s i) (figures-at old))) e
         ∙ best-none (Keys3 k1 k2 k3) (Gathered v i)
 
-    stays : (i : ℕ) → i < m → (v : ℕ) → Taken i ≡ false → (leb since (stamp-at old (edge-in s i .from)) && eqb (edge-in s i .to) v) ≡ false → Kept i v
+    stays : (i : ℕ) → i < m → (v : ℕ) → Taken i ≡ false → (leb since (stamp-at old (edge-in s i .from)) && eqb (edge-in s i .to) v) ≡ false
+        → Kept i v
     stays i h v t e = (ap (λ (l : List ℕ). figures-at l v) (after-kept i t), ap (λ (l : List ℕ). stamp-at l v) (after-kept i t), not-brought i h v e)
 
     passes : (i : ℕ) → i < m → (v : ℕ) → Taken i ≡ true → eqb (edge-in s i .to) v ≡ false
@@ -302,7 +304,8 @@ module _ (N : Network) (s : List ℕ) (n m since stamp : ℕ) (old : List ℕ) (
         after-kept i (b .1) ∙ still i (b .0)
 
     -- one was: a vertex has this round's stamp
-    pub moved : (i : ℕ) → i ≤ m → taken-upto (rows3 k1 k2 k3) s since stamp old i ≡ true → (v : ℕ) × (v < n) × (stamp-at (Relaxed i) v ≡ stamp)
+    pub moved : (i : ℕ) → i ≤ m → taken-upto (rows3 k1 k2 k3) s since stamp old i ≡ true → (v : ℕ) × (v < n)
+        × (stamp-at (Relaxed i) v ≡ stamp)
     unfolding relaxed-upto taken-upto
     moved zero h e = never e
     moved (suc i) h e = go (Taken i) refl e (moved i (omega arith))

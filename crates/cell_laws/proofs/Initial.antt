@@ -22,7 +22,7 @@ use Rattle.wire.specs.Wire.{at16}
 use Rattle.graph.specs.Graph.{graph-of}
 use Rattle.graph.proofs.Accepted.{accepted}
 use Rattle.cells.specs.Steps.{key1, key2, key3, keys-of, numbers, source-of, initial-cell, initialized, starts-here}
-use Rattle.cells.specs.Table.{Below, padded, path-of}
+use Rattle.cells.specs.Table.{Below, tripled, path-of}
 use Rattle.cells.specs.declared.Cell.{Cell}
 use Rattle.cells.specs.declared.PathKeys.{PathKeys}
 use Rattle.cell_laws.specs.Steps.{figures-at, stamp-at}
@@ -138,7 +138,7 @@ module _ (s : List ℕ) (w : ℕ) (g : Given s w) (l : List ℕ) (long : length 
   right : (v : ℕ) → v < n → Right (rows3 (key1 w) (key2 w) (key3 w)) (c .source) l n long n v
   right v h = initialized-right (rows3 (key1 w) (key2 w) (key3 w)) (c .source) l n long n (omega arith) v h
 
-  initial-figures : (v : ℕ) → v < n → figures-at Cells v ≡ padded (initial (begins v) (c .keys) v)
+  initial-figures : (v : ℕ) → v < n → figures-at Cells v ≡ tripled (initial (begins v) (c .keys) v)
   initial-figures v h =
       right v h .0
       ∙ cell-initial (key1 w) (key2 w) (key3 w) (c .source) v

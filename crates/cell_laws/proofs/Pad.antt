@@ -12,7 +12,7 @@ use Rattle.walks.specs.Keys.{good?, kept}
 use Rattle.walks.specs.Meaning.{value}
 use Rattle.walks.specs.Rounds.{State, bases, best, brings, extend-all, gather, initial, precedes, through}
 use Rattle.walks.specs.Walks.{Edge, Network}
-use Rattle.cells.specs.Table.{figures-of, pad, padded}
+use Rattle.cells.specs.Table.{figures-of, triple, tripled}
 use Rattle.cells.specs.declared.Cell.{Cell}
 
 -- one to three keys
@@ -54,7 +54,8 @@ thrice : (b g : Bool) → cond b (cond b (cond b true g) g) g ≡ cond b true g
 thrice true g = refl
 thrice false g = refl
 
-precedes-pad : (ks xs ys : List ℕ) → Few ks → length xs ≡ length ks → length ys ≡ length ks → precedes (pad ks) (pad xs) (pad ys) ≡ precedes ks xs ys
+precedes-pad : (ks xs ys : List ℕ) → Few ks → length xs ≡ length ks → length ys ≡ length ks → precedes (triple ks) (triple xs) (triple ys)
+    ≡ precedes ks xs ys
 precedes-pad [] xs ys f e g = absurd f
 precedes-pad (k ∷ []) xs ys f e g = rw (one xs e, one ys g) (thrice (eqb (getD xs 0 0) (getD ys 0 0)) (good? (kept k) (getD xs 0 0) (getD ys 0 0)))
 precedes-pad (k ∷ (j ∷ [])) xs ys f e g =
@@ -65,13 +66,14 @@ precedes-pad (k ∷ (j ∷ (i ∷ []))) xs ys f e g = rw (three xs e, three ys g
 precedes-pad (k ∷ (j ∷ (i ∷ (h ∷ ks)))) xs ys f e g = absurd f
 
 -- and so is the better of two
-best-pad : (ks : List ℕ) → Few ks → (a b : Option (List ℕ)) → Sized ks a → Sized ks b → padded (best ks a b) ≡ best (pad ks) (padded a) (padded b)
+best-pad : (ks : List ℕ) → Few ks → (a b : Option (List ℕ)) → Sized ks a → Sized ks b → tripled (best ks a b)
+    ≡ best (triple ks) (tripled a) (tripled b)
 unfolding best
 best-pad ks f none b s t = refl
 best-pad ks f (some xs) none s t = refl
 best-pad ks f (some xs) (some ys) s t = rw (precedes-pad ks xs ys f s t) (go (precedes ks xs ys))
   where
-    go : (c : Bool) → padded (cond c (some xs) (some ys)) ≡ cond c (some (pad xs)) (some (pad ys))
+    go : (c : Bool) → tripled (cond c (some xs) (some ys)) ≡ cond c (some (triple xs)) (some (triple ys))
     go true = refl
     go false = refl
 
@@ -86,7 +88,8 @@ best-sized ks (some xs) (some ys) s t = go (precedes ks xs ys)
     go false = t
 
 -- extension by an edge
-extend-pad : (ks : List ℕ) (e : Edge) (xs : List ℕ) → Few ks → length xs ≡ length ks → pad (extend-all ks e xs) ≡ extend-all (pad ks) e (pad xs)
+extend-pad : (ks : List ℕ) (e : Edge) (xs : List ℕ) → Few ks → length xs ≡ length ks → triple (extend-all ks e xs)
+    ≡ extend-all (triple ks) e (triple xs)
 extend-pad [] e xs f s = absurd f
 extend-pad (k ∷ []) e xs f s = rw (one xs s)
 extend-pad (k ∷ (j ∷ [])) e xs f s = rw (two xs s)
@@ -98,7 +101,8 @@ extend-length [] e xs s = refl
 extend-length (k ∷ ks) e [] s = absurd (omega arith)
 extend-length (k ∷ ks) e (x ∷ xs) s = ap suc (extend-length ks e xs (omega arith))
 
-through-pad : (ks : List ℕ) → Few ks → (e : Edge) (o : Option (List ℕ)) → Sized ks o → padded (through ks e o) ≡ through (pad ks) e (padded o)
+through-pad : (ks : List ℕ) → Few ks → (e : Edge) (o : Option (List ℕ)) → Sized ks o → tripled (through ks e o)
+    ≡ through (triple ks) e (tripled o)
 through-pad ks f e none s = refl
 through-pad ks f e (some xs) s = ap some (extend-pad ks e xs f s)
 
@@ -107,7 +111,7 @@ through-sized ks e none s = tt
 through-sized ks e (some xs) s = extend-length ks e xs s
 
 -- initial values
-pub initial-pad : (b : Bool) (ks : List ℕ) → Few ks → (v : ℕ) → padded (initial b ks v) ≡ initial b (pad ks) v
+pub initial-pad : (b : Bool) (ks : List ℕ) → Few ks → (v : ℕ) → tripled (initial b ks v) ≡ initial b (triple ks) v
 initial-pad false ks f v = refl
 initial-pad true [] f v = absurd f
 initial-pad true (k ∷ []) f v = refl
@@ -128,7 +132,7 @@ abbrev pub cut : ℕ → Option (List ℕ) → Option (List ℕ)
 cut k none = none
 cut k (some xs) = some (take k xs)
 
-pub cut-pad : (ks : List ℕ) → Few ks → (o : Option (List ℕ)) → Sized ks o → cut (length ks) (padded o) ≡ o
+pub cut-pad : (ks : List ℕ) → Few ks → (o : Option (List ℕ)) → Sized ks o → cut (length ks) (tripled o) ≡ o
 cut-pad ks f none s = refl
 cut-pad [] f (some xs) s = absurd f
 cut-pad (k ∷ []) f (some xs) s = rw (one xs s)
@@ -160,7 +164,7 @@ cell-cut k x = go (eqb (x .stamp) 0)
     go false = refl
 
 -- equal padded figures are equal
-pad-same : (ks xs ys : List ℕ) → Few ks → length xs ≡ length ks → length ys ≡ length ks → pad xs ≡ pad ys → xs ≡ ys
+pad-same : (ks xs ys : List ℕ) → Few ks → length xs ≡ length ks → length ys ≡ length ks → triple xs ≡ triple ys → xs ≡ ys
 pad-same [] xs ys f e g p = absurd f
 pad-same (k ∷ []) xs ys f e g p = one xs e ∙ heads (rw (one xs e, one ys g) at p) ∙ sym (one ys g)
   where
@@ -174,14 +178,14 @@ pad-same (k ∷ (j ∷ (i ∷ []))) xs ys f e g p = three xs e ∙ (rw (three xs
 pad-same (k ∷ (j ∷ (i ∷ (h ∷ ks)))) xs ys f e g p = absurd f
 
 -- THE SAME PADDED, THE SAME
-pub padded-same : (ks : List ℕ) → Few ks → (a b : Option (List ℕ)) → Sized ks a → Sized ks b → padded a ≡ padded b → a ≡ b
+pub padded-same : (ks : List ℕ) → Few ks → (a b : Option (List ℕ)) → Sized ks a → Sized ks b → tripled a ≡ tripled b → a ≡ b
 padded-same ks f none none s t p = refl
 padded-same ks f none (some ys) s t p = absurd (let z : _≡_ {A = ℕ} 0 1 = cc in omega arith)
 padded-same ks f (some xs) none s t p = absurd (let z : _≡_ {A = ℕ} 0 1 = cc in omega arith)
 padded-same ks f (some xs) (some ys) s t p = ap some (pad-same ks xs ys f s t (cc))
 
 -- the last figure is the value
-pub value-pad : (ks : List ℕ) → Few ks → (o : Option (List ℕ)) → Sized ks o → value (padded o) ≡ value o
+pub value-pad : (ks : List ℕ) → Few ks → (o : Option (List ℕ)) → Sized ks o → value (tripled o) ≡ value o
 value-pad ks f none s = refl
 value-pad [] f (some xs) s = absurd f
 value-pad (k ∷ []) f (some xs) s = rw (one xs s)
@@ -191,7 +195,7 @@ value-pad (k ∷ (j ∷ (i ∷ (h ∷ ks)))) f (some xs) s = absurd f
 
 -- a round edge by edge
 module _ (N : Network) (ks : List ℕ) (f : Few ks) (live : ℕ → Bool) (S : State) (sized : (u : ℕ) → Sized ks (S u)) where
-  brings-pad : (b : Bool) (e : Edge) → padded (brings b ks e S) ≡ brings b (pad ks) e (λ u. padded (S u))
+  brings-pad : (b : Bool) (e : Edge) → tripled (brings b ks e S) ≡ brings b (triple ks) e (λ u. tripled (S u))
   brings-pad true e = through-pad ks f e (S (e .from)) (sized (e .from))
   brings-pad false e = refl
 
@@ -206,9 +210,9 @@ module _ (N : Network) (ks : List ℕ) (f : Few ks) (live : ℕ → Bool) (S : S
   gather-sized v (suc i) = best-sized ks (gather N ks live S v i) _ (gather-sized v i) (brings-sized (live i && eqb (N .edge i .to) v) (N .edge i))
 
   -- WHAT IS GATHERED WITH PADDED KEYS IS WHAT IS GATHERED, PADDED
-  pub gather-pad : (v i : ℕ) → padded (gather N ks live S v i) ≡ gather N (pad ks) live (λ u. padded (S u)) v i
+  pub gather-pad : (v i : ℕ) → tripled (gather N ks live S v i) ≡ gather N (triple ks) live (λ u. tripled (S u)) v i
   unfolding gather
   gather-pad v zero = refl
   gather-pad v (suc i) =
       best-pad ks f (gather N ks live S v i) _ (gather-sized v i) (brings-sized (live i && eqb (N .edge i .to) v) (N .edge i))
-      ∙ ap₂ (best (pad ks)) (gather-pad v i) (brings-pad (live i && eqb (N .edge i .to) v) (N .edge i))
+      ∙ ap₂ (best (triple ks)) (gather-pad v i) (brings-pad (live i && eqb (N .edge i .to) v) (N .edge i))

@@ -29,7 +29,7 @@ use Rattle.graph.proofs.Exact.{read-sound}
 use Rattle.graph.proofs.Rows.{edge-there, edges-count}
 use Rattle.cells.proofs.Rows.{ends}
 use Rattle.cells.specs.Steps.{key1, key2, key3, keys-of, relaxed-upto, taken-upto}
-use Rattle.cells.specs.Table.{Below, any-vertex, pad, padded, path-of}
+use Rattle.cells.specs.Table.{Below, any-vertex, triple, tripled, path-of}
 use Rattle.cell_laws.specs.Steps.{figures-at, numbers-at, stamp-at}
 use Rattle.cell_laws.proofs.Cells.{absent, present, rows3}
 use Rattle.cell_laws.proofs.Edges.{Gathered, Live, Mark, Setting, holds, long-upto, marks, moved, still}
@@ -68,7 +68,7 @@ any-same (suc n) f g h = rw (h n (omega arith), any-same n f g (λ v k. h v (ome
 
 -- ---- bounds of figures
 
-all-pad : (P : ℕ → Type 0) (xs : List ℕ) → All P xs → All P (pad xs)
+all-pad : (P : ℕ → Type 0) (xs : List ℕ) → All P xs → All P (triple xs)
 all-pad P [] h = tt
 all-pad P (x ∷ []) h = (h .0, (h .0, (h .0, tt)))
 all-pad P (x ∷ (y ∷ [])) h = (h .0, (h .1 .0, (h .1 .0, tt)))
@@ -98,12 +98,14 @@ extended Weight e x b h l = omega arith
 extended Source e x b h l = omega arith
 extended Bottleneck e x b h l = omega arith
 
-below-extended : (b : ℕ) (ks : List ℕ) (e : Edge) → e .weight ≤ 65535 → (xs : List ℕ) → All (λ x. x ≤ b) xs → All (λ x. x ≤ b + 65535) (extend-all ks e xs)
+below-extended : (b : ℕ) (ks : List ℕ) (e : Edge) → e .weight ≤ 65535 → (xs : List ℕ) → All (λ x. x ≤ b) xs
+    → All (λ x. x ≤ b + 65535) (extend-all ks e xs)
 below-extended b [] e h xs f = tt
 below-extended b (k ∷ ks) e h [] f = tt
 below-extended b (k ∷ ks) e h (x ∷ xs) f = (extended (measure k) e x b h (f .0), below-extended b ks e h xs (f .1))
 
-below-brought : (b : ℕ) (t : Bool) (ks : List ℕ) (e : Edge) (S : State) → e .weight ≤ 65535 → Below b (S (e .from)) → Below (b + 65535) (brings t ks e S)
+below-brought : (b : ℕ) (t : Bool) (ks : List ℕ) (e : Edge) (S : State) → e .weight ≤ 65535 → Below b (S (e .from))
+    → Below (b + 65535) (brings t ks e S)
 below-brought b false ks e S h f = tt
 below-brought b true ks e S h f = go (S (e .from)) f
   where
@@ -123,7 +125,7 @@ below-gathered b n N ks live S f v h (suc i) g =
 
 -- ---- edges from absent vertices bring nothing
 
-reached-padded : (o : Option (List ℕ)) → reached (padded o) ≡ reached o
+reached-padded : (o : Option (List ℕ)) → reached (tripled o) ≡ reached o
 reached-padded none = refl
 reached-padded (some xs) = refl
 
@@ -136,7 +138,8 @@ brings-reached ks e S true b p = go (S (e .from)) refl
 brings-reached ks e S false true p = refl
 brings-reached ks e S false false p = refl
 
-gather-reached : (N : Network) (ks : List ℕ) (live : ℕ → Bool) (S : State) (v m : ℕ) → ((i : ℕ) → i < m → live i ≡ reached (S (N .edge i .from)))
+gather-reached : (N : Network) (ks : List ℕ) (live : ℕ → Bool) (S : State) (v m : ℕ)
+    → ((i : ℕ) → i < m → live i ≡ reached (S (N .edge i .from)))
     → gather N ks live S v m ≡ gather N ks (λ i. true) S v m
 unfolding gather
 gather-reached N ks live S v zero f = refl
@@ -163,7 +166,7 @@ pub record Given (s : List ℕ) (w : ℕ) : Type 0 where
 -- A PART OF THE TABLE THAT SHOWS THE STATE S after r rounds, with room for more
 pub record Shows (s : List ℕ) (S : State) (r : ℕ) (l : List ℕ) : Type 0 where
   pub long : length l ≡ 4 * at16 s 5
-  pub figures : (v : ℕ) → v < at16 s 5 → figures-at l v ≡ padded (S v)
+  pub figures : (v : ℕ) → v < at16 s 5 → figures-at l v ≡ tripled (S v)
   pub early : (v : ℕ) → v < at16 s 5 → stamp-at l v ≤ suc r
   pub small : (v : ℕ) → v < at16 s 5 → Below (65535 * suc r) (S v)
 
@@ -218,13 +221,13 @@ module _ (s : List ℕ) (w : ℕ) where
         where
           go : (o : Option (List ℕ)) → S u ≡ o → Below (65535 * suc r) o → All (λ y. y ≤ 4294901760) (numbers-at l u)
           go none e f =
-              let a : some (numbers-at l u) ≡ none = sym (present l u p) ∙ x .figures u k ∙ ap padded e in
+              let a : some (numbers-at l u) ≡ none = sym (present l u p) ∙ x .figures u k ∙ ap tripled e in
               let z : _≡_ {A = ℕ} 0 1 = cc in
               let q : ⊥ = omega arith in
               absurd q
           go (some xs) e f =
-              let a : some (numbers-at l u) ≡ some (pad xs) = sym (present l u p) ∙ x .figures u k ∙ ap padded e in
-              let b : numbers-at l u ≡ pad xs = cc in
+              let a : some (numbers-at l u) ≡ some (triple xs) = sym (present l u p) ∙ x .figures u k ∙ ap tripled e in
+              let b : numbers-at l u ≡ triple xs = cc in
               subst (All (λ y. y ≤ 4294901760)) (sym b)
               (all-pad (λ y. y ≤ 4294901760) xs (all-le (65535 * suc r) 4294901760 (omega arith) xs f))
 
@@ -256,17 +259,18 @@ module _ (s : List ℕ) (w : ℕ) where
           some-stamp = omega arith;
         }
 
-        next : (v : ℕ) → v < n → Gathered N s n m since (r + 2) l k1 k2 k3 v m ≡ padded (Next v)
+        next : (v : ℕ) → v < n → Gathered N s n m since (r + 2) l k1 k2 k3 v m ≡ tripled (Next v)
         next v k =
             ap (λ (js : List ℕ). gather N js live (figures-at l) v m) (word-keys w (g .fits .0))
-            ∙ gather-same N (pad ks) live (figures-at l) (λ u. padded (S u)) (x .figures) v k m (λ i j t. from-there i j)
+            ∙ gather-same N (triple ks) live (figures-at l) (λ u. tripled (S u)) (x .figures) v k m (λ i j t. from-there i j)
             ∙ sym (gather-pad N ks path-few live S sized v m)
 
         same-again : (v : ℕ) → v < n → Gathered N s n m since (r + 2) l k1 k2 k3 v m ≡ figures-at l v → Next v ≡ S v
-        same-again v k e = padded-same ks path-few (Next v) (S v) (gather-sized N ks path-few live S sized v m) (sized v) (sym (next v k) ∙ e ∙ x .figures v k)
+        same-again v k e = padded-same ks path-few (Next v) (S v) (gather-sized N ks path-few live S sized v m) (sized v) (sym (next v k) ∙ e
+            ∙ x .figures v k)
 
         differs : (v : ℕ) → v < n → (Gathered N s n m since (r + 2) l k1 k2 k3 v m ≡ figures-at l v → ⊥) → Next v ≡ S v → ⊥
-        differs v k d e = d (next v k ∙ ap padded e ∙ sym (x .figures v k))
+        differs v k d e = d (next v k ∙ ap tripled e ∙ sym (x .figures v k))
 
         abbrev After : List ℕ
         After = relaxed-upto (rows3 k1 k2 k3) s since (r + 2) l m
@@ -313,7 +317,7 @@ module _ (s : List ℕ) (w : ℕ) where
         steps-as T e = record {
           shows = record {
             long = shows-after .long;
-            figures = λ v k. shows-after .figures v k ∙ ap padded (e v k);
+            figures = λ v k. shows-after .figures v k ∙ ap tripled (e v k);
             early = shows-after .early;
             small = λ v k. subst (Below (65535 * suc (suc r))) (e v k) (shows-after .small v k);
           };

@@ -10,7 +10,7 @@ use lib.ListN.{length, take}
 use Rattle.walks.specs.Keys.{all-known, in-order, legal-keys}
 use Rattle.walks.proofs.Tests.{and-left, and-right}
 use Rattle.cells.specs.Steps.{key1, key2, key3, keys-of, source-of}
-use Rattle.cells.specs.Table.{pad, path-of}
+use Rattle.cells.specs.Table.{triple, path-of}
 use Rattle.cell_laws.proofs.Cells.{Keys3, rows3}
 use Rattle.cell_laws.proofs.Pad.{Few}
 
@@ -41,14 +41,14 @@ word-source w = refl
 
 -- the first q of three with the last again
 again : (q a b d : ℕ) → Few (take q (a ∷ b ∷ d ∷ []))
-    → a ∷ cond (ltb q 2) a b ∷ cond (ltb q 3) (cond (ltb q 2) a b) d ∷ [] ≡ pad (take q (a ∷ b ∷ d ∷ []))
+    → a ∷ cond (ltb q 2) a b ∷ cond (ltb q 3) (cond (ltb q 2) a b) d ∷ [] ≡ triple (take q (a ∷ b ∷ d ∷ []))
 again zero a b d f = absurd f
 again (suc zero) a b d f = refl
 again (suc (suc zero)) a b d f = refl
 again (suc (suc (suc q))) a b d f = rw (le-ltb (suc (suc (suc q))) 2 (omega arith), le-ltb (suc (suc (suc q))) 3 (omega arith)) refl
 
 -- the keys are the path reduction's, the last one again where there are fewer
-pub word-keys : (w : ℕ) → T (legal-keys (path-of w .keys)) → Keys3 (key1 w) (key2 w) (key3 w) ≡ pad (path-of w .keys)
+pub word-keys : (w : ℕ) → T (legal-keys (path-of w .keys)) → Keys3 (key1 w) (key2 w) (key3 w) ≡ triple (path-of w .keys)
 unfolding path-of
 word-keys w t =
     again (w % 256) (w / 256 % 256) (w / 65536 % 256) (w / 16777216 % 256)

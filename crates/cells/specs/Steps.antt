@@ -9,7 +9,7 @@ use lib.Seq.{sets}
 use Rattle.walks.specs.declared.Extreme.{Extreme}
 use Rattle.walks.specs.declared.Extreme.the-variants.{Least, Greatest}
 use Rattle.walks.specs.declared.KeyRow.{KeyRow}
-use Rattle.walks.specs.Keys.{row}
+use Rattle.walks.specs.Keys.{key-row}
 use Rattle.walks.specs.Walks.{Edge, base, edge, extend}
 use Rattle.graph.specs.Graph.{edge-in}
 use Rattle.cells.specs.declared.Cell.{Cell}
@@ -36,7 +36,7 @@ key3 word = key-or-before (word % 256) 3 (word / 16777216 % 256) (key2 word)
 
 -- their rows in the table of keys
 unfoldable pub keys-of : ℕ → PathKeys
-keys-of word = record { first = row (key1 word); second = row (key2 word); third = row (key3 word) }
+keys-of word = record { first = key-row (key1 word); second = key-row (key2 word); third = key-row (key3 word) }
 
 -- the source in the number, above the keys
 abbrev pub source-of : ℕ → ℕ

@@ -51,15 +51,15 @@ any-vertex zero f = false
 any-vertex (suc n) f = f n || any-vertex n f
 
 -- what the rounds need of a table besides what it shows. The last of one or two figures stands again in the places of the others:
-abbrev pub pad : List ℕ → List ℕ
-pad [] = []
-pad (x ∷ []) = x ∷ x ∷ x ∷ []
-pad (x ∷ (y ∷ [])) = x ∷ y ∷ y ∷ []
-pad (x ∷ (y ∷ (z ∷ l))) = x ∷ y ∷ z ∷ []
+abbrev pub triple : List ℕ → List ℕ
+triple [] = []
+triple (x ∷ []) = x ∷ x ∷ x ∷ []
+triple (x ∷ (y ∷ [])) = x ∷ y ∷ y ∷ []
+triple (x ∷ (y ∷ (z ∷ l))) = x ∷ y ∷ z ∷ []
 
-abbrev pub padded : Option (List ℕ) → Option (List ℕ)
-padded none = none
-padded (some xs) = some (pad xs)
+abbrev pub tripled : Option (List ℕ) → Option (List ℕ)
+tripled none = none
+tripled (some xs) = some (triple xs)
 
 -- figures of at most b
 abbrev pub Below : ℕ → Option (List ℕ) → Type 0
@@ -70,7 +70,7 @@ Below b (some xs) = All (λ x. x ≤ b) xs
 pub record SoundCell (keys r : ℕ) (x : Cell) : Type 0 where
   pub early : x .stamp ≤ suc r
   pub small : Below (65535 * suc r) (figures-of keys x)
-  pub again : figures-of 3 x ≡ padded (figures-of keys x)
+  pub again : figures-of 3 x ≡ tripled (figures-of keys x)
 
 -- the cells of the path reduction c with index j, on n vertices
 pub record Sound (n : ℕ) (c : PathReduction) (r : ℕ) (l : List ℕ) (j : ℕ) : Type 0 where

@@ -72,7 +72,8 @@ module _ (way : Way) (plan graph : RefT (List ℕ)) (limit : Limit) (out : RefT 
       -- what all own
       abbrev pub Owned : Fml
       Owned = owns
-          (D.the-row ∷ ShrSlice (named 0) κ₁ u8 ∷ ShrSlice (named 1) κ₂ u8 ∷ L.the-row ∷ MutSlice (named 2) κ₃ u8 ∷ R ∷ []) (args x) (vals v)
+          (D.the-row ∷ ShrSlice (named 0) κ₁ u8 ∷ ShrSlice (named 1) κ₂ u8 ∷ L.the-row ∷ MutSlice (named 2) κ₃ u8 ∷ R ∷ []) (args x)
+          (vals v)
 
       module _ {M : Type 1} (𝓤 : URA M) (H : Heap 𝓤) (A : Atoms 𝓤) (W : Given 𝓤 H A) where
         pub apart : ent 𝓤 (sem 𝓤 H A Owned) (sep 𝓤 (sem 𝓤 H A Handed) (sem 𝓤 H A (R .own x (v ∷ []))))

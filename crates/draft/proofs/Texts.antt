@@ -48,7 +48,8 @@ module _ {A : Type 0} (text : A → List ℕ) where
         ∙ put-append (text (getD l i z)) (left l n (i + 1)) d
 
     -- when none is left, the text of the first `count` has been put, or that of all where there are fewer
-    pub put-done : (count most : ℕ) (d₀ : Draft) → n ≤ i → length l ≡ most → n ≡ min count most → put-list d (left l n i) ≡ put-list d₀ (texts text (take n l))
+    pub put-done : (count most : ℕ) (d₀ : Draft) → n ≤ i → length l ≡ most → n ≡ min count most → put-list d (left l n i)
+        ≡ put-list d₀ (texts text (take n l))
         → d ≡ put-list d₀ (texts text (take count l))
     unfolding texts put-list
     put-done count most d₀ h k least e =
@@ -56,5 +57,6 @@ module _ {A : Type 0} (text : A → List ℕ) where
         (rw none at e) ∙ ap (λ (t : List A). put-list d₀ (texts text t)) (take-least count most n l k least)
 
 -- what is laid of the draft is all that it holds
-pub delivered : (b : List ℕ) (len code room : ℕ) → length b ≡ 576 → code ≡ 0 → unless code (fitted (take len b) room) ≡ fitted (take 576 (take len b)) room
+pub delivered : (b : List ℕ) (len code room : ℕ) → length b ≡ 576 → code ≡ 0 → unless code (fitted (take len b) room)
+    ≡ fitted (take 576 (take len b)) room
 delivered b len code room h z = rw (z, take-all 576 (take len b) (omega (arith, length-take len b))) refl

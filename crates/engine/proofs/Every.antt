@@ -1,4 +1,5 @@
--- EVERY ANSWERED RUN, of any worksheet, fused or not, by pull and by push, to the first quiet round and for a given number of rounds: `every-run`. Assumes nothing.
+-- EVERY ANSWERED RUN, of any worksheet, fused or not, by pull and by push, to the first quiet round and for a given number of rounds: `every-run`. Assumes
+-- nothing.
 use Prim.Native.Nat.{ℕ, _+_, _*_, _≤_, _<_}
 use mathlib.Core.Path.{_≡_, refl, sym, ap, _∙_, subst}
 use mathlib.Core.Bool.{Bool, true, false, cond}
@@ -44,7 +45,8 @@ fitted-answered bs before after number returned answered = go (ltb (length befor
     go false r = (r .0, r .1 ∙ ap (λ (k : ℕ). bs ++ drop k before) (sym (r .0)))
 
 -- so it was not a refusal
-pub not-refused : (r : Reply) (number : ℕ) (before after : List ℕ) → Returned r number before after → number < 65536 → (k : ℕ) → r ≡ refused k → ⊥
+pub not-refused : (r : Reply) (number : ℕ) (before after : List ℕ) → Returned r number before after → number < 65536 → (k : ℕ) → r
+    ≡ refused k → ⊥
 not-refused r number before after returned answered k e = omega (arith, returned .0 ∙ ap reply-number e)
 
 -- ---- the answer of an outcome
@@ -54,7 +56,8 @@ pub outcome-rows : (limit : Limit) (g : Graph) (p : Plan) → length (outcome li
 unfolding run stopped
 outcome-rows limit g p = go limit
   where
-    counted : (b : Body) (r : ℕ) → length (stopped (pull g) (g .vertices) (record { paths = p .paths; body = b }) r .rows) ≡ row-count (g .vertices) (kind-of b)
+    counted : (b : Body) (r : ℕ) → length (stopped (pull g) (g .vertices) (record { paths = p .paths; body = b }) r .rows)
+        ≡ row-count (g .vertices) (kind-of b)
     counted (each-vertex t) r = tabulate-length (g .vertices) 0 _
     counted (one-result es t) r = refl
 
@@ -91,14 +94,16 @@ module _ (g : Graph) (legal : GraphLegal g) (p : Plan) (plan-legal : PlanLegal (
   pub encode-size : length (encode (g .vertices) (kind-of (p .body)) (outcome limit g p)) ≡ answer-size (g .vertices) (kind-of (p .body))
   encode-size = encode-length n (kind-of (p .body)) o ∙ ap (λ (k : ℕ). 10 + 9 * k) (outcome-rows limit g p)
 
-  pub answer-in : (before after : List ℕ) (number : ℕ) → Returned (fitted (encode (g .vertices) (kind-of (p .body)) (outcome limit g p)) (length before)) number before after
+  pub answer-in : (before after : List ℕ) (number : ℕ)
+      → Returned (fitted (encode (g .vertices) (kind-of (p .body)) (outcome limit g p)) (length before)) number before after
       → number < 65536 → AnswerIn (g .vertices) (kind-of (p .body)) (outcome limit g p) number before after
   answer-in before after number returned answered =
       let bs = encode n (kind-of (p .body)) o in
       let f = fitted-answered bs before after number returned answered in record {
         bytes = f .1;
         size = f .0 ∙ encode-size;
-        says = rw (f .1, take-at bs (drop number before) number (sym (f .0))) (decode-back n (kind-of (p .body)) o (legal .few-vertices) rounds-fit (outcome-rows limit g p) rows-fit);
+        says = rw (f .1, take-at bs (drop number before) number (sym (f .0)))
+            (decode-back n (kind-of (p .body)) o (legal .few-vertices) rounds-fit (outcome-rows limit g p) rows-fit);
       }
 
   pub plan-correct : PlanCorrect limit g p (outcome limit g p)
@@ -117,7 +122,8 @@ module _ (g : Graph) (legal : GraphLegal g) (p : Plan) (plan-legal : PlanLegal (
 pub legal-there : (m : ℕ) (p : Plan) → PlanLegal 256 p → All (PathFits m) (p .paths) → PlanLegal m p
 legal-there m p l f = record { few-paths = l .few-paths; paths-legal = f; body-legal = l .body-legal; few-terms = l .few-terms }
 
--- DEMANDS 2 AND 3 OVER EVERY ANSWERED RUN: for all bytes and any buffer, whatever the call (`engine::pull`, `push`, the exported `run`, a counted run): where its number
+-- DEMANDS 2 AND 3 OVER EVERY ANSWERED RUN: for all bytes and any buffer, whatever the call (`engine::pull`, `push`, the exported `run`, a counted run):
+-- where its number
 -- is under 65,536, the buffer has the answer of the worksheet's own outcome
 pub every-run : (limit : Limit) → Sixteen limit → (s m : List ℕ) → Bytes s → Bytes m → (before after : List ℕ) (number : ℕ)
     → Returned (run-reply limit s m (length before)) number before after → number < 65536 → RunAnswers limit s m before after number
@@ -147,7 +153,8 @@ rounds-in n kind o number before after a =
     omega (arith, first, second, said)
 
 -- DEMAND 3, SECOND SENTENCE, of the bytes: in every answered run to quiet they are the smallest count of the worksheet's own chains, and at most 2n
-pub every-rounds : (s m : List ℕ) → Bytes s → Bytes m → (before after : List ℕ) (number : ℕ) → Returned (run-reply Quiet s m (length before)) number before after
+pub every-rounds : (s m : List ℕ) → Bytes s → Bytes m → (before after : List ℕ) (number : ℕ)
+    → Returned (run-reply Quiet s m (length before)) number before after
     → number < 65536 → Smallest (graph-of m) (plan-of s .paths) (at16 after 7) × (at16 after 7 ≤ 2 * at16 m 5)
 every-rounds s m bs bm before after number returned answered =
     let r = every-run Quiet tt s m bs bm before after number returned answered in

@@ -48,7 +48,8 @@ module _ (n : ℕ) where
   source-fits : (c : PathReduction) → PathFits 256 c → outside-code n (c .source) ≡ 0 → PathFits n c
   source-fits c f e = (f .0, go (eqb (c .source) anywhere) (ltb (c .source) n) refl refl e)
     where
-      go : (a b : Bool) → eqb (c .source) anywhere ≡ a → ltb (c .source) n ≡ b → _≡_ {A = ℕ} (cond a 0 (cond b 0 13)) 0 → (c .source < n) ⊎ (c .source ≡ anywhere)
+      go : (a b : Bool) → eqb (c .source) anywhere ≡ a → ltb (c .source) n ≡ b → _≡_ {A = ℕ} (cond a 0 (cond b 0 13)) 0 → (c .source < n)
+          ⊎ (c .source ≡ anywhere)
       go true b p q z = inr (eqb-true (c .source) anywhere p)
       go false true p q z = inl (ltb-true (c .source) n q)
       go false false p q z = absurd (omega arith)
@@ -59,7 +60,8 @@ module _ (n : ℕ) where
   sources-fit [] f e = tt
   sources-fit (c ∷ cs) f e = go (eqb (outside-code n (c .source)) 0) refl e (sources-fit cs (f .1))
     where
-      go : (b : Bool) → eqb (outside-code n (c .source)) 0 ≡ b → cond b (sources-code n cs) (outside-code n (c .source)) ≡ 0 → (sources-code n cs ≡ 0 → All (PathFits n) cs)
+      go : (b : Bool) → eqb (outside-code n (c .source)) 0 ≡ b → cond b (sources-code n cs) (outside-code n (c .source)) ≡ 0
+          → (sources-code n cs ≡ 0 → All (PathFits n) cs)
           → All (PathFits n) (c ∷ cs)
       go true p z rest = (source-fits c (f .0) (eqb-true (outside-code n (c .source)) 0 p), rest z)
       go false p z rest = absurd (eqb-false (outside-code n (c .source)) 0 p z)
@@ -100,7 +102,8 @@ abbrev pub answered : Limit → List ℕ → List ℕ → ℕ → Reply
 answered limit s m room = fitted (answer.encode (at16 m 5) (kind-of (plan-of s .body)) (outcome limit (graph-of m) (plan-of s))) room
 
 -- a run that is judged: refused by the first number, or answered
-pub run-judged : (limit : Limit) (s m : List ℕ) → Bytes s → (room : ℕ) → run-reply limit s m room ≡ unless (run-code (plan-scan s) m) (answered limit s m room)
+pub run-judged : (limit : Limit) (s m : List ℕ) → Bytes s → (room : ℕ) → run-reply limit s m room
+    ≡ unless (run-code (plan-scan s) m) (answered limit s m room)
 unfolding run-reply run-code
 run-judged limit s m bytes room =
     sym (unless-then (plan-code s) (then (graph-code m) (sources-code (at16 m 5) (paths-of (plan-scan s)))) A
@@ -113,12 +116,14 @@ run-judged limit s m bytes room =
     rest : List PathReduction → Reply
     rest cs = unless (graph-code m) (unless (sources-code (at16 m 5) cs) A)
 
-    go : (b : Bool) → eqb (plan-code s) 0 ≡ b → cond b (rest (paths-of (plan-scan s))) (refused (plan-code s)) ≡ cond b (rest (plan-of s .paths)) (refused (plan-code s))
+    go : (b : Bool) → eqb (plan-code s) 0 ≡ b → cond b (rest (paths-of (plan-scan s))) (refused (plan-code s))
+        ≡ cond b (rest (plan-of s .paths)) (refused (plan-code s))
     go true e = ap rest (paths-read s bytes (eqb-true (plan-code s) 0 e))
     go false e = refl
 
 -- where there is a first number, the run is refused by it
-pub run-refused : (limit : Limit) (s m : List ℕ) → Bytes s → (room k : ℕ) → k ≡ run-code (plan-scan s) m → (k ≡ 0 → ⊥) → run-reply limit s m room ≡ refused k
+pub run-refused : (limit : Limit) (s m : List ℕ) → Bytes s → (room k : ℕ) → k ≡ run-code (plan-scan s) m → (k ≡ 0 → ⊥)
+    → run-reply limit s m room ≡ refused k
 run-refused limit s m bytes room k e h = run-judged limit s m bytes room ∙ rw (← e, ne-eqb k 0 h) refl
 
 -- WHAT WAS ACCEPTED, where nothing is refused before 15: a legal plan, a legal graph, and sources that are its vertices
@@ -130,7 +135,8 @@ pub record Accepted (s m : List ℕ) : Type 0 where
   pub sources : All (PathFits (at16 m 5)) (plan-of s .paths)
 
 -- FOR ALL BYTES that are not refused before 15: they are those of a legal plan, and the reply is the encoding of its outcome, where it fits
-pub run-means : (s m : List ℕ) → Bytes s → Bytes m → run-code (plan-scan s) m ≡ 0 → Accepted s m × ((limit : Limit) (room : ℕ) → run-reply limit s m room ≡ answered limit s m room)
+pub run-means : (s m : List ℕ) → Bytes s → Bytes m → run-code (plan-scan s) m ≡ 0 → Accepted s m
+    × ((limit : Limit) (room : ℕ) → run-reply limit s m room ≡ answered limit s m room)
 unfolding run-code
 run-means s m bs bm z =
     let cs = paths-of (plan-scan s) in
@@ -149,7 +155,8 @@ run-means s m bs bm z =
     )
 
 -- a run that is answered was not refused
-pub run-passed : (limit : Limit) (s m : List ℕ) → Bytes s → (room : ℕ) → ((k : ℕ) → run-reply limit s m room ≡ refused k → ⊥) → run-code (plan-scan s) m ≡ 0
+pub run-passed : (limit : Limit) (s m : List ℕ) → Bytes s → (room : ℕ) → ((k : ℕ) → run-reply limit s m room ≡ refused k → ⊥)
+    → run-code (plan-scan s) m ≡ 0
 run-passed limit s m bytes room n = go (eqb (run-code (plan-scan s) m) 0) refl
   where
     go : (b : Bool) → eqb (run-code (plan-scan s) m) 0 ≡ b → run-code (plan-scan s) m ≡ 0
@@ -157,7 +164,8 @@ run-passed limit s m bytes room n = go (eqb (run-code (plan-scan s) m) 0) refl
     go false e = absurd (n _ (run-refused limit s m bytes room _ refl (eqb-false (run-code (plan-scan s) m) 0 e)))
 
 -- A LEGAL PLAN ON AN ACCEPTED MAP THAT HAS ITS STARTS: the reply is the encoding of its outcome, where it fits
-pub run-answers : (p : Plan) → PlanLegal 256 p → (m : List ℕ) → graph-code m ≡ 0 → All (PathFits (at16 m 5)) (p .paths) → (limit : Limit) (room : ℕ)
+pub run-answers : (p : Plan) → PlanLegal 256 p → (m : List ℕ) → graph-code m ≡ 0 → All (PathFits (at16 m 5)) (p .paths)
+    → (limit : Limit) (room : ℕ)
     → run-reply limit (encode p) m room ≡ fitted (answer.encode (at16 m 5) (kind-of (p .body)) (outcome limit (graph-of m) p)) room
 unfolding run-reply
 run-answers p legal m graph-ok fits limit room =
@@ -212,7 +220,8 @@ module _ (s m : List ℕ) (bs : Bytes s) (bm : Bytes m) (z : run-code (plan-scan
       ap length (rows-are limit) ∙ rows-length p (values-at (pull g) (p .paths) (outcome limit g p .rounds)) n ∙ ap (answer.row-count n) (kind-byte p)
 
   -- 15 IS KNOWN BEFORE THE ROUNDS
-  pub finish-judged : (limit : Limit) (room : ℕ) → run-reply limit s m room ≡ unless (answer-code n (getD s 5 0) room) (done (answer.encode n (kind-of (p .body)) (outcome limit g p)))
+  pub finish-judged : (limit : Limit) (room : ℕ) → run-reply limit s m room
+      ≡ unless (answer-code n (getD s 5 0) room) (done (answer.encode n (kind-of (p .body)) (outcome limit g p)))
   finish-judged limit room =
       run-means s m bs bm z .1 limit room ∙ sym (rw kind-is (encode-judged n (kind-of (p .body)) room (outcome limit g p) fields-fine (rows-counted limit)))
 
@@ -225,14 +234,17 @@ module _ (s m : List ℕ) (bs : Bytes s) (bm : Bytes m) (z : run-code (plan-scan
 
   -- A TABLE THAT HOLDS THE VALUES after the rounds reported: the answer written from it is the run's
   pub finish-answers : (limit : Limit) (room rounds : ℕ) (figures : List ℕ) → rounds ≡ outcome limit (graph-of m) (plan-of s) .rounds
-      → Holds (at16 m 5) (length (plan-of s .paths)) figures (values-at (pull (graph-of m)) (plan-of s .paths) (outcome limit (graph-of m) (plan-of s) .rounds))
-      → run-reply limit s m room ≡ answer-reply (at16 m 5) rounds (getD s 5 0) (values (many (body-found s (rows-at figures (min (plan-scan s .paths) 8)) (min (at16 m 5) 256)))) room
+      → Holds (at16 m 5) (length (plan-of s .paths)) figures
+      (values-at (pull (graph-of m)) (plan-of s .paths) (outcome limit (graph-of m) (plan-of s) .rounds))
+      → run-reply limit s m room ≡ answer-reply (at16 m 5) rounds (getD s 5 0)
+      (values (many (body-found s (rows-at figures (min (plan-scan s .paths) 8)) (min (at16 m 5) 256)))) room
   finish-answers limit room rounds figures told holds =
       let o : Outcome = outcome limit g p in
       let vs = values (many (body-found s (rows-at figures (length (p .paths))) (min n 256))) in
       let G : ℕ → List Value = values-at (pull g) (p .paths) (o .rounds) in
       let first =
-      subst (λ (t : List ℕ). take (body-count (encode p) n) (values (many (body-found t (rows-at figures (length (p .paths))) (min n 256)))) ≡ body-rows (p .body) G n)
+      subst (λ (t : List ℕ). take (body-count (encode p) n) (values (many (body-found t (rows-at figures (length (p .paths))) (min n 256))))
+      ≡ body-rows (p .body) G n)
       (a .written) (answer-rows p 256 (a .legal) figures n few G holds) in
       let begin : take (length (o .rows)) vs ≡ o .rows = rw (ap length (rows-are limit) ∙ rows-length p G n, rows-are limit) first in
       run-means s m bs bm z .1 limit room

@@ -16,7 +16,8 @@ left n table count i = sources-code n (map path-of (take (count - i) (drop i tab
 
 module _ (n : ℕ) (table : List ℕ) (count i : ℕ) where
   -- the i-th is judged before those behind it
-  pub source-next : i < count → count ≤ length table → left n table count i ≡ then (outside-code n (getD table i 0 / 4294967296)) (left n table count (i + 1))
+  pub source-next : i < count → count ≤ length table → left n table count i
+      ≡ then (outside-code n (getD table i 0 / 4294967296)) (left n table count (i + 1))
   unfolding sources-code path-of
   source-next h k =
       let e : count - i ≡ suc (count - (i + 1)) = omega arith in

@@ -75,14 +75,16 @@ module _ (s m : List ℕ) (bs : Bytes s) (bm : Bytes m) (z : run-code (plan-scan
             quiet-rounds g (a .graph-legal) k (w .table) (omega arith) size sources-there (2 * n) done figures x (omega arith)
             ∙ ap (λ (cs : List PathReduction). rounds n (map (pull g) cs)) paths-there
 
-    pub table-holds : Holds (at16 m 5) (length (plan-of s .paths)) figures (values-at (pull (graph-of m)) (plan-of s .paths) (outcome limit (graph-of m) (plan-of s) .rounds))
+    pub table-holds : Holds (at16 m 5) (length (plan-of s .paths)) figures
+        (values-at (pull (graph-of m)) (plan-of s .paths) (outcome limit (graph-of m) (plan-of s) .rounds))
     unfolding run stopped
     table-holds v h j i = go limit ran
       where
         below : j < k
         below = omega (arith, count)
 
-        go : (l : Limit) → Ran g k (w .table) (most-of l n) done figures → value-in figures j v ≡ getD (values-at (pull g) (p .paths) (outcome l g p .rounds) v) j Absent
+        go : (l : Limit) → Ran g k (w .table) (most-of l n) done figures → value-in figures j v
+            ≡ getD (values-at (pull g) (p .paths) (outcome l g p .rounds) v) j Absent
         go (Rounds r) x =
             given-read g (a .graph-legal) k (w .table) (omega arith) size sources-there r done figures x j below v h
             ∙ ap (λ (cs : List PathReduction). getD (values-at (pull g) cs r v) j Absent) paths-there

@@ -27,7 +27,8 @@ unfoldable pub sources-code : ℕ → List PathReduction → ℕ
 sources-code n [] = 0
 sources-code n (c ∷ cs) = then (outside-code n (c .source)) (sources-code n cs)
 
--- "A run stops after the first round, counted from 1, in which no place changes for any chain"; "Each run can also be stopped after a given 16-bit number of rounds"
+-- "A run stops after the first round, counted from 1, in which no place changes for any chain"; "Each run can also be stopped after a given 16-bit number
+-- of rounds"
 abbrev pub outcome : Limit → Graph → Plan → Outcome
 outcome Quiet g p = run (pull g) (g .vertices) p
 outcome (Rounds r) g p = stopped (pull g) (g .vertices) p r

@@ -93,7 +93,8 @@ fn reported(limit: Limit, done: u16) -> u16
 // What follows where nothing is refused before 15: 15, the rounds, the rows, the answer.
 fn finish(push: bool, limit: Limit, plan: &[u8], w: Progress, graph: &[u8], out: &mut [u8]) -> u32
     requires { ⌜ (w ≡ plan-scan (now plan)) × (run-code w (now graph) ≡ 0) ⌝ }
-    ensures { λ r. ⌜ Returned (run-reply limit (now (plan .entry)) (now (graph .entry)) (length (now (out .entry)))) r (now (out .entry)) (now (out .exit)) ⌝ }
+    ensures { λ r. ⌜ Returned (run-reply limit (now (plan .entry)) (now (graph .entry)) (length (now (out .entry)))) r (now (out .entry))
+        (now (out .exit)) ⌝ }
 {
     let n = vertices(graph);
     let kind = wire::byte(plan, 5);
@@ -111,7 +112,8 @@ fn finish(push: bool, limit: Limit, plan: &[u8], w: Progress, graph: &[u8], out:
 
 // A run by push or by pull: the worksheet and the map are judged, then it goes on.
 fn run(push: bool, plan: &[u8], graph: &[u8], limit: Limit, out: &mut [u8]) -> u32
-    ensures { λ r. ⌜ Returned (run-reply limit (now (plan .entry)) (now (graph .entry)) (length (now (out .entry)))) r (now (out .entry)) (now (out .exit)) ⌝ }
+    ensures { λ r. ⌜ Returned (run-reply limit (now (plan .entry)) (now (graph .entry)) (length (now (out .entry)))) r (now (out .entry))
+        (now (out .exit)) ⌝ }
 {
     let w = plan::scan(plan);
     let code = judge(w, graph);
@@ -123,14 +125,16 @@ fn run(push: bool, plan: &[u8], graph: &[u8], limit: Limit, out: &mut [u8]) -> u
 
 // The run by pull.
 pub fn pull(plan: &[u8], graph: &[u8], limit: Limit, out: &mut [u8]) -> u32
-    ensures { λ r. ⌜ Returned (run-reply limit (now (plan .entry)) (now (graph .entry)) (length (now (out .entry)))) r (now (out .entry)) (now (out .exit)) ⌝ }
+    ensures { λ r. ⌜ Returned (run-reply limit (now (plan .entry)) (now (graph .entry)) (length (now (out .entry)))) r (now (out .entry))
+        (now (out .exit)) ⌝ }
 {
     run(false, plan, graph, limit, out)
 }
 
 // The run by push: the same.
 pub fn push(plan: &[u8], graph: &[u8], limit: Limit, out: &mut [u8]) -> u32
-    ensures { λ r. ⌜ Returned (run-reply limit (now (plan .entry)) (now (graph .entry)) (length (now (out .entry)))) r (now (out .entry)) (now (out .exit)) ⌝ }
+    ensures { λ r. ⌜ Returned (run-reply limit (now (plan .entry)) (now (graph .entry)) (length (now (out .entry)))) r (now (out .entry))
+        (now (out .exit)) ⌝ }
 {
     run(true, plan, graph, limit, out)
 }

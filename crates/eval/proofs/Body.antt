@@ -30,7 +30,8 @@ pub eight-holds : (vs : List Value) (i : ℕ) → i < length vs → getD (values
 eight-holds vs i h =
     row-value (eight vs) i
     ∙ ap (λ (r : Row). r .value)
-    (List·getD-append (map row vs) (replicate (8 - length vs) (row Absent)) (row Absent) i (omega (arith, length-map vs row)) ∙ List·getD-map row vs i Absent)
+    (List·getD-append (map row vs) (replicate (8 - length vs) (row Absent)) (row Absent) i (omega (arith, length-map vs row))
+    ∙ List·getD-map row vs i Absent)
 
 -- the values at the n vertices that F gives are those of G, as far as there are path reductions
 abbrev pub Agrees : ℕ → ℕ → (ℕ → List Row) → (ℕ → List Value) → Type 0
@@ -57,14 +58,16 @@ module _ (n count : ℕ) (F : ℕ → List Row) (G : ℕ → List Value) (agrees
     entry-rows-value =
         row-values (λ v. evaluated 16 s (F v) at .value) n zero
         ∙ tabulate-same (λ v. evaluated 16 s (F v) at .value) (λ v. evaluate (G v) t) n
-        (λ v h. ap (λ (f : Found). f .value) (entry-value count s (F v) t legal at rest e) ∙ evaluate-same count (values (F v)) (G v) (agrees v h) t (legal .0))
+        (λ v h. ap (λ (f : Found). f .value) (entry-value count s (F v) t legal at rest e)
+        ∙ evaluate-same count (values (F v)) (G v) (agrees v h) t (legal .0))
 
   -- the entries, one after the other
   record Entries (es : List (VertexReduction ℕ)) (at : ℕ) : Type 0 where
     pub worth : results (length es) s at F n ≡ map (reduced G n) es
     pub end : entries-end (length es) s at ≡ at + length (entries-bytes es)
 
-  entries-value : (es : List (VertexReduction ℕ)) → All (EntryLegal count) es → (at : ℕ) (rest : List ℕ) → drop at s ≡ entries-bytes es ++ rest → Entries es at
+  entries-value : (es : List (VertexReduction ℕ)) → All (EntryLegal count) es → (at : ℕ) (rest : List ℕ) → drop at s ≡ entries-bytes es
+      ++ rest → Entries es at
   unfolding results entries-end
   entries-value [] a at rest e = record { worth = refl; end = omega arith }
   entries-value (x ∷ es) a at rest e =
@@ -96,7 +99,8 @@ module _ (n : ℕ) (F : ℕ → List Row) (G : ℕ → List Value) (cs : List Pa
   body-there b = drop-on (text b) 7 (6 * length cs) (all-listed-bytes cs) (body-bytes b) refl (listed-size cs)
 
   -- "Kind 0 has e = 1": the rows of the one entry
-  each-value : (t : Term ℕ) → Expression (length cs) t → values (body-found (encode (record { paths = cs; body = each-vertex t })) F n) ≡ at-vertices G n t
+  each-value : (t : Term ℕ) → Expression (length cs) t → values (body-found (encode (record { paths = cs; body = each-vertex t })) F n)
+      ≡ at-vertices G n t
   unfolding body-found
   each-value t legal =
       let s : List ℕ = text (each-vertex t) in

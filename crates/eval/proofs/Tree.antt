@@ -57,7 +57,8 @@ module _ (s : List ℕ) (rows : List Row) (at : ℕ) where
   head-literal tag k l (inr p) h e =
       rw (lt-leb (length s) at (there s at tag (le32 k ++ l) e), tag-there s at tag (le32 k ++ l) e, literal-there s at tag k l h e, p) refl
 
-  head-apply : (tag o : ℕ) (l : List ℕ) → (tag ≡ 0x11) ⊎ (tag ≡ 0x21) → drop at s ≡ (tag + 1) ∷ o ∷ l → head s rows at ≡ Apply o (at + 2)
+  head-apply : (tag o : ℕ) (l : List ℕ) → (tag ≡ 0x11) ⊎ (tag ≡ 0x21) → drop at s ≡ (tag + 1) ∷ o ∷ l → head s rows at
+      ≡ Apply o (at + 2)
   unfolding head
   head-apply tag o l (inl p) e =
       rw (lt-leb (length s) at (there s at (tag + 1) (o ∷ l) e), tag-there s at (tag + 1) (o ∷ l) e, byte-there s at (tag + 1) o l e, p) refl
@@ -103,7 +104,8 @@ module _ (count : ℕ) (s : List ℕ) (rows : List Row) (t : Term ℕ) (legal : 
   final-value = expression-value OfFinal final-indexed count s rows t (legal .0) 16 at rest (legal .1)
 
 -- the value rests on the first `count` values alone: rows behind them may hold anything
-pub evaluate-same : (count : ℕ) (vs ws : List Value) → ((i : ℕ) → i < count → getD vs i Absent ≡ getD ws i Absent) → (t : Term ℕ) → Every (λ i. i < count) t
+pub evaluate-same : (count : ℕ) (vs ws : List Value) → ((i : ℕ) → i < count → getD vs i Absent ≡ getD ws i Absent) → (t : Term ℕ)
+    → Every (λ i. i < count) t
     → evaluate vs t ≡ evaluate ws t
 evaluate-same count vs ws h (leaf i) f = h i f
 evaluate-same count vs ws h (literal k) f = refl

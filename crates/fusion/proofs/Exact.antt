@@ -24,7 +24,7 @@ use Rattle.plan.specs.Plan.{plan-code}
 use Rattle.plan.specs.Text as plan
 use Rattle.plan.proofs.Exact as reader
 use Rattle.plan_form.specs.declared.Form.{Form}
-use Rattle.plan_form.specs.Form.{body-nodes, entries-nodes, form-bytes, rows-text, write-reply}
+use Rattle.plan_form.specs.Form.{body-nodes, entries-nodes, form-bytes, all-listed-text, write-reply}
 use Rattle.plan_form.specs.Form as plan-form
 use Rattle.plan_form.proofs.Exact.{body-size, few-entries, write-form}
 use Rattle.plan_form.proofs.Written.{rows-short}
@@ -49,7 +49,8 @@ body-short : (n : ℕ) (p : Plan) → PlanLegal n p → length (body-nodes (p .b
 body-short n p l = omega (arith, body-size (p .body), l .few-terms, few-entries (length (p .paths)) (p .body) (l .body-legal))
 
 -- the two parts one behind the other
-both-parts : (table : List ℕ) (nodes : List Node) (d : Written) (l a b : List Node) → Holds d l → selected 0 table 0 nodes ≡ a → selected 1 table 0 nodes ≡ b
+both-parts : (table : List ℕ) (nodes : List Node) (d : Written) (l a b : List Node) → Holds d l → selected 0 table 0 nodes ≡ a
+    → selected 1 table 0 nodes ≡ b
     → length (l ++ a ++ b) ≤ 72 → Holds (put-part 1 table 0 (put-part 0 table 0 d nodes) nodes) (l ++ a ++ b)
 both-parts table nodes d l a b h p q r =
     let m = length-append l a in
@@ -74,7 +75,8 @@ abbrev both : List ℕ → ℕ → List Node → Written
 both table kind nodes = put-part 1 table 0 (put-part 0 table 0 (first-written kind) nodes) nodes
 
 -- which are those of the fused plan
-parts-held : (q : Query) → QueryLegal 256 q → (rest : List ℕ) → Holds (both (table-of q rest) (query-kind q) (query-nodes q)) (body-nodes (fuse q .body))
+parts-held : (q : Query) → QueryLegal 256 q → (rest : List ℕ)
+    → Holds (both (table-of q rest) (query-kind q) (query-nodes q)) (body-nodes (fuse q .body))
 unfolding first-written
 parts-held (each t) h rest =
     let l = fuse-legal 256 (each t) h in
@@ -168,7 +170,7 @@ plan-short p l =
     let none : List ℕ = replicate (8 - length (p .paths)) 0 in
     let f : Form = plan-form.form-of p none in
     let e = ap length (write-form p l none) in
-    let rows = rows-text (take (f .paths) (f .table)) in
+    let rows = all-listed-text (take (f .paths) (f .table)) in
     let text = nodes-text (take (f .count) (f .nodes)) in
     let empty : List Node = replicate (72 - length (body-nodes (p .body))) (node Empty) in
     let eight : length (f .table) ≡ 8 =

@@ -44,7 +44,8 @@ unfolding put-term
 put-room list len t h = rw (lt-leb 72 len h) refl
 
 -- a part goes on behind the node at i, where there is room
-pub part-more : (part : ℕ) (table : List ℕ) (k : ℕ) (list : List Node) (len : ℕ) (l : List Node) (n i : ℕ) (z : Node) → len < 72 → i < n → n ≤ length l
+pub part-more : (part : ℕ) (table : List ℕ) (k : ℕ) (list : List Node) (len : ℕ) (l : List Node) (n i : ℕ) (z : Node) → len < 72 → i < n
+    → n ≤ length l
     → put-part part table k (written list len) (left l n i)
     ≡ put-part part table (k + reduces (getD l i z .term))
     (written (set list len (node (fused-term part table k (getD l i z .term)))) (len + size (fused-term part table k (getD l i z .term)))) (left l n (i + 1))

@@ -1,4 +1,5 @@
--- DEMAND 3 WHOLE, AND DEMAND 2 OVER QUERIES, over what the public functions return: a query fused, its plan run by pull or by push, is answered by its unfused meaning
+-- DEMAND 3 WHOLE, AND DEMAND 2 OVER QUERIES, over what the public functions return: a query fused, its plan run by pull or by push, is answered by its
+-- unfused meaning
 -- over all walks and by the smallest count of rounds, at most 2n; stopped after r rounds, by its meaning over walks of at most r edges. Assumes nothing.
 use Prim.Native.Nat.{ℕ, _≤_, _<_}
 use mathlib.Core.Path.{_≡_, refl, sym, ap, _∙_, subst}
@@ -45,10 +46,12 @@ unfolding stopped
 query-correct g legal q starts Quiet = pull-correct g (legal .fits) q starts
 query-correct g legal q starts (Rounds r) = (pull-within g (legal .fits) q starts r, refl)
 
--- FOR ALL BYTES s, m and any buffers: where the map is accepted and has each source that the query names, `fuse` answered (its number is under 65,536), and the answer
+-- FOR ALL BYTES s, m and any buffers: where the map is accepted and has each source that the query names, `fuse` answered (its number is under 65,536), and
+-- the answer
 -- fits its buffer, the run answers the query that the bytes s write
 pub answers : (limit : Limit) → Sixteen limit → (s m : List ℕ) → Bytes s → Bytes m → graph-code m ≡ 0 → QueryFits (graph-of m) (query-of s)
-    → (plan-before plan-after : List ℕ) (fused : ℕ) (before after : List ℕ) (number : ℕ) → Called limit s m plan-before plan-after fused before after number
+    → (plan-before plan-after : List ℕ) (fused : ℕ) (before after : List ℕ) (number : ℕ)
+    → Called limit s m plan-before plan-after fused before after number
     → fused < 65536 → answer-size (at16 m 5) (query-kind (query-of s)) ≤ length before
     → QueryLegal 256 (query-of s) × (query.encode (query-of s) ≡ s) × Answers limit (query-of s) m before after number
 answers limit h s m bs bm graph-ok starts plan-before plan-after fused before after number c fine long =
@@ -64,7 +67,8 @@ answers limit h s m bs bm graph-ok starts plan-before plan-after fused before af
     let held : plan-after ≡ ws ++ drop (length ws) plan-before = c .fuse-call .1 ∙ ap (λ (x : Reply). reply-buffer x plan-before) (f .1) in
     let first : take fused plan-after ≡ ws = rw held (take-at ws (drop (length ws) plan-before) fused (sym size)) in
     let there = legal-there (at16 m 5) p (fuse-legal 256 q (r .0)) fits in
-    let is = ap (λ (t : List ℕ). run-reply limit t m (length before)) first ∙ run-answers p (fuse-legal 256 q (r .0)) m graph-ok fits limit (length before) in
+    let is = ap (λ (t : List ℕ). run-reply limit t m (length before)) first
+    ∙ run-answers p (fuse-legal 256 q (r .0)) m graph-ok fits limit (length before) in
     let call = subst (λ (x : Reply). Returned x number before after) is (c .run-call) in
     let kind = kind-fused q in
     let text = answer.encode (at16 m 5) (kind-of (p .body)) (outcome limit g p) in
@@ -77,6 +81,7 @@ answers limit h s m bs bm graph-ok starts plan-before plan-after fused before af
       record {
         outcome = outcome limit g p;
         correct = query-correct g legal q starts limit;
-        left = subst (λ (k : ℕ). AnswerIn (at16 m 5) k (outcome limit g p) number before after) kind (answer-in g legal p there limit h before after number call answered);
+        left = subst (λ (k : ℕ). AnswerIn (at16 m 5) k (outcome limit g p) number before after) kind
+            (answer-in g legal p there limit h before after number call answered);
       },
     )

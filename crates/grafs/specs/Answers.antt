@@ -20,11 +20,13 @@ query-kind (each t) = 0
 query-kind (single t) = 1
 
 -- a query was fused into a buffer, and the plan in its first bytes was run on the graph into another, by pull or by push
-pub record Called (limit : Limit) (query-bytes graph-bytes plan-before plan-after : List ℕ) (fused : ℕ) (before after : List ℕ) (number : ℕ) : Type 0 where
+pub record Called (limit : Limit) (query-bytes graph-bytes plan-before plan-after : List ℕ) (fused : ℕ) (before after : List ℕ) (number : ℕ) : Type
+    0 where
   pub fuse-call : Returned (fuse-reply query-bytes (length plan-before)) fused plan-before plan-after
   pub run-call : Returned (run-reply limit (take fused plan-after) graph-bytes (length before)) number before after
 
--- "With no number of rounds given, pull and push answer exactly the question's unfused value over all walks" and the smallest count (`Correct`); stopped after r rounds,
+-- "With no number of rounds given, pull and push answer exactly the question's unfused value over all walks" and the smallest count (`Correct`); stopped
+-- after r rounds,
 -- "the value over the walks of no more passages than rounds done", and r is reported
 abbrev pub QueryCorrect : Limit → Graph → Query → Outcome → Type 0
 QueryCorrect Quiet g q o = Correct g q o

@@ -18,7 +18,8 @@ pub extern "C" fn fuse(query: &[u8], out: &mut [u8]) -> u32
 // A worksheet is run on a map, by push: the faster way, and the same bytes as by pull.
 #[no_mangle]
 pub extern "C" fn run(plan: &[u8], graph: &[u8], out: &mut [u8]) -> u32
-    ensures { λ r. ⌜ Returned (run-reply Quiet (now (plan .entry)) (now (graph .entry)) (length (now (out .entry)))) r (now (out .entry)) (now (out .exit)) ⌝ }
+    ensures { λ r. ⌜ Returned (run-reply Quiet (now (plan .entry)) (now (graph .entry)) (length (now (out .entry)))) r (now (out .entry))
+        (now (out .exit)) ⌝ }
 {
     engine::push(plan, graph, Limit::Quiet, out)
 }

@@ -1,5 +1,7 @@
-// The program (document 01): "reads `question.lpq` and `map.lpm` (an unreadable file counts as no bytes), judges the question first, runs by pull and prints a rounds
-// line, then place and value lines with `-` for absent; for kind 1 `result` and the value in their stead; or `refused` and the number alone. One space parts the
+// The program (document 01): "reads `question.lpq` and `map.lpm` (an unreadable file counts as no bytes), judges the question first, runs by pull and
+// prints a rounds
+// line, then place and value lines with `-` for absent; for kind 1 `result` and the value in their stead; or `refused` and the number alone. One space
+// parts the
 // fields and a line feed ends each line."
 use engine::Limit;
 use value::Value;
@@ -124,7 +126,8 @@ fn answer(query: &[u8], graph: &[u8]) {
 }
 
 // A longer file is answered as its first bytes are (crate first_bytes, `long-question` and `long-map`):
-// - a question as 455 of them or more. Of 64 terms, at most 7 bytes each behind the first 6, nothing lies past 454; what stands there is refused for being there, as a
+// - a question as 455 of them or more. Of 64 terms, at most 7 bytes each behind the first 6, nothing lies past 454; what stands there is refused for being
+// there, as a
 //   65th term (12) or as left over (6), if nothing before it is refused.
 // - a map as 8,202 or more: none is longer than 9 + 8 * 1,024, so one with a byte more is refused by its head or for its length (6).
 fn main() {

@@ -45,7 +45,8 @@ vertex-collected s = collected-term vertex-leaves path-nodes OfVertex s one
 pub vertex-text : (t : VertexTerm) → Every (PathFits 256) t → nodes-text (vertex-nodes t) ≡ vertex-bytes t
 unfolding texts term-text
 vertex-text =
-    text-term vertex-leaves path-nodes OfVertex (λ c f. append-nil (0x10 ∷ path-text (path-number c)) ∙ ap (λ (l : List ℕ). 0x10 ∷ l) (path-written c f))
+    text-term vertex-leaves path-nodes OfVertex (λ c f. append-nil (0x10 ∷ path-text (path-number c))
+    ∙ ap (λ (l : List ℕ). 0x10 ∷ l) (path-written c f))
 
 -- a node for each of its terms
 pub vertex-size : (t : VertexTerm) → length (vertex-nodes t) ≡ terms unit t
@@ -69,7 +70,8 @@ result-collected s = collected-term result-leaves reduction-nodes OfResult s one
         (ap (λ (r : ℕ). node (Reduce r)) (byte-there s i 0x20 (e .reduction) (body ++ rest) d)) refl
         ∙ ap (λ (l : List Node). node (Reduce (e .reduction)) ∷ l)
         (vertex-collected s (e .body) (f .2) (i + 2) k rest next
-        ∙ ap (λ (j : ℕ). vertex-nodes (e .body) ++ collected k s j) (let q : i + 2 + length body ≡ i + length (0x20 ∷ e .reduction ∷ body) = omega arith in q))
+        ∙ ap (λ (j : ℕ). vertex-nodes (e .body) ++ collected k s j) (let q : i + 2 + length body
+        ≡ i + length (0x20 ∷ e .reduction ∷ body) = omega arith in q))
 
 -- the text of its nodes is its bytes
 pub result-text : (t : ResultTerm) → Every (EveryBody (PathFits 256)) t → nodes-text (result-nodes t) ≡ result-bytes t
@@ -95,7 +97,8 @@ module _ (m : TermKind) (count : ℕ) (made : ℕ → single.Term) (is : (s : Li
       one : (j : ℕ) → j < count → Collects (index-leaves m count) index-nodes m s (leaf j)
       one j f i k rest e =
           ap (λ (n : ℕ). collected n s i) (let p : 1 + k ≡ suc k = omega arith in p)
-          ∙ collected-on s i (leaf-tag m) (j ∷ rest) e k (node (made j)) (i + 2) (ap node (is s i ∙ ap made (byte-there s i (leaf-tag m) j rest e))) (on s i)
+          ∙ collected-on s i (leaf-tag m) (j ∷ rest) e k (node (made j)) (i + 2) (ap node (is s i ∙ ap made (byte-there s i (leaf-tag m) j rest e)))
+          (on s i)
 
   index-text : (t : Term ℕ) → Every (λ j. j < count) t → nodes-text (term-nodes m index-nodes t) ≡ expression-bytes m t
   unfolding texts

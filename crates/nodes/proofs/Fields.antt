@@ -121,11 +121,14 @@ literal-read s i tag k l (inr p) h e n =
 pub apply-read : (s : List ℕ) (i tag o : ℕ) (l : List ℕ) → (tag ≡ 0x11) ⊎ (tag ≡ 0x21) → drop i s ≡ (tag + 1) ∷ o ∷ l
     → (n : ℕ) → collected (suc n) s i ≡ apply-node tag o ∷ collected n s (i + 2)
 unfolding apply-node
-apply-read s i tag o l (inl p) e n = collected-on s i (tag + 1) (o ∷ l) e n (apply-node tag o) (i + 2) (rw (p, byte-there s i (tag + 1) o l e) refl) (rw p refl)
-apply-read s i tag o l (inr p) e n = collected-on s i (tag + 1) (o ∷ l) e n (apply-node tag o) (i + 2) (rw (p, byte-there s i (tag + 1) o l e) refl) (rw p refl)
+apply-read s i tag o l (inl p) e n = collected-on s i (tag + 1) (o ∷ l) e n (apply-node tag o) (i + 2) (rw (p, byte-there s i (tag + 1) o l e) refl)
+    (rw p refl)
+apply-read s i tag o l (inr p) e n = collected-on s i (tag + 1) (o ∷ l) e n (apply-node tag o) (i + 2) (rw (p, byte-there s i (tag + 1) o l e) refl)
+    (rw p refl)
 
 -- the reduction byte of an entry
-pub entry-read : (s : List ℕ) (i r : ℕ) (l : List ℕ) → r < 16 → drop i s ≡ r ∷ l → (n : ℕ) → collected (suc n) s i ≡ node (Entry r) ∷ collected n s (i + 1)
+pub entry-read : (s : List ℕ) (i r : ℕ) (l : List ℕ) → r < 16 → drop i s ≡ r ∷ l → (n : ℕ) → collected (suc n) s i ≡ node (Entry r)
+    ∷ collected n s (i + 1)
 entry-read s i r l h e n =
     collected-on s i r l e n (node (Entry r)) (i + 1)
     (rw (

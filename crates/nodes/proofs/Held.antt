@@ -22,10 +22,18 @@ module _ (s : List ℕ) (from n : ℕ) where
   -- at first none is
   pub held-none : Held (replicate 72 (node Empty)) from 0
   held-none =
-      record { front = []; size = refl; below = omega arith; holds = refl; rest = ap (λ (k : ℕ). collected k s from) (let e : n - 0 ≡ n = omega arith in e) }
+      record {
+        front = [];
+        size = refl;
+        below = omega arith;
+        holds = refl;
+        rest =
+            ap (λ (k : ℕ). collected k s from) (let e : n - 0 ≡ n = omega arith in e);
+      }
 
   -- one more
-  pub held-more : n ≤ 72 → (nodes : List Node) (at i : ℕ) → i < n → Held nodes at i → Held (set nodes i (node (term-at s at))) (next-at s at) (i + 1)
+  pub held-more : n ≤ 72 → (nodes : List Node) (at i : ℕ) → i < n → Held nodes at i
+      → Held (set nodes i (node (term-at s at))) (next-at s at) (i + 1)
   unfolding collected
   held-more few nodes at i h b =
       let x : Node = node (term-at s at) in

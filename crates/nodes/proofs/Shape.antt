@@ -46,7 +46,8 @@ module _ {A : Type 0} (K : Leaves A) (N : A → List Node) (m : TermKind) where
       let d2 = drop-on s (i + 2) (length (bytes t)) (bytes t) (bytes u ++ rest) d1 refl in
       let p = collected-term s f t (e .2) (i + 2) (b + n) (bytes u ++ rest) d1 in
       let q = collected-term s f u (e .3) (i + 2 + length (bytes t)) n rest d2 in
-      let end : i + 2 + length (bytes t) + length (bytes u) ≡ i + suc (suc (length (bytes t ++ bytes u))) = omega (arith, length-append (bytes t) (bytes u)) in
+      let end : i + 2 + length (bytes t) + length (bytes u) ≡ i + suc (suc (length (bytes t ++ bytes u))) =
+      omega (arith, length-append (bytes t) (bytes u)) in
       ap (λ (j : ℕ). collected j s i) (let z : suc (a + b) + n ≡ suc (a + (b + n)) = omega arith in z)
       ∙ apply-read s i (literal-tag m) o ((bytes t ++ bytes u) ++ rest) (literal-tags m) d (a + (b + n))
       ∙ ap (λ (l : List Node). apply-node (literal-tag m) o ∷ l)

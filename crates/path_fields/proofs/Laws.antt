@@ -16,4 +16,5 @@ pub keys-next : (n : ℕ) (s : List ℕ) (i : ℕ) → 0 < n → keys-code n s i
 unfolding keys-code
 keys-next zero s i h = absurd (not-suc-le-zero h)
 keys-next (suc n) s i h =
-    ap₂ (λ (b : Bool) (m : ℕ). then (key-code (getD s i 256) b) (keys-code m s (i + 1))) (sym (eqb·suc-suc n 0)) (let e : n ≡ suc n - 1 = omega arith in e)
+    ap₂ (λ (b : Bool) (m : ℕ). then (key-code (getD s i 256) b) (keys-code m s (i + 1))) (sym (eqb·suc-suc n 0)) (let e : n
+    ≡ suc n - 1 = omega arith in e)

@@ -51,7 +51,8 @@ module _ (s : List ℕ) where
   count-one e h = rw (le-ltb 255 e (omega arith), le-ltb 8 e h) refl
 
   -- from the entry count on
-  body-complete : (b : Body) (w : Progress) (cs : List PathReduction) (rest : List ℕ) → w .code ≡ 0 → Table w cs → w .terms ≡ 0 → w .reductions ≡ 0
+  body-complete : (b : Body) (w : Progress) (cs : List PathReduction) (rest : List ℕ) → w .code ≡ 0 → Table w cs → w .terms ≡ 0
+      → w .reductions ≡ 0
       → drop (w .at) s ≡ body-bytes b ++ rest
       → BodyLegal (length cs) b → plan-terms b ≤ 64 → Further w (body-scan (kind-of b) s w) cs (length (body-bytes b)) (plan-terms b) (entry-count b)
   unfolding moved final-scan entries-scan leaf-step literal-tag leaf-tag
@@ -78,7 +79,8 @@ module _ (s : List ℕ) where
       let w2 : Progress = entries-scan c 1 s w1 in
       let met : w2 .reductions ≡ length es = omega (arith, a .reductions) in
       let e2 : drop (w2 .at) s ≡ expression-bytes OfFinal t ++ rest =
-      ap (λ (i : ℕ). drop i s) (a .at) ∙ drop-on s (w .at + 1) (length (entries-bytes es)) (entries-bytes es) (expression-bytes OfFinal t ++ rest) next refl in
+      ap (λ (i : ℕ). drop i s) (a .at) ∙ drop-on s (w .at + 1) (length (entries-bytes es)) (entries-bytes es) (expression-bytes OfFinal t ++ rest) next
+      refl in
       let d = expr-complete s OfFinal reductions-of (λ w w′ p q. q) (λ w. refl) refl refl t w2 cs rest (a .code) (a .table) (omega (arith, l .0)) e2
       (subst (λ (m : ℕ). Expression m t) (sym met) (l .2)) (omega (arith, a .terms)) in
       let reads : body-scan 1 s w ≡ read OfFinal 16 s w2 = body-scanned 1 c w z h b (count-one c (l .0)) in
@@ -92,7 +94,8 @@ module _ (s : List ℕ) where
       })
 
 -- the whole
-plan-scanned : (s : List ℕ) (kind count : ℕ) → header-code 0x57 5 s ≡ 0 → getD s 5 256 ≡ kind → kind ≤ 1 → getD s 6 256 ≡ count → count ≤ 8
+plan-scanned : (s : List ℕ) (kind count : ℕ) → header-code 0x57 5 s ≡ 0 → getD s 5 256 ≡ kind → kind ≤ 1 → getD s 6 256 ≡ count
+    → count ≤ 8
     → plan-scan s ≡ ended s (body-scan kind s (listed-scan count s (started 7)))
 unfolding plan-scan
 plan-scanned s kind count h k l c m = rw (h, k, le-ltb 255 kind (omega arith), le-ltb 1 kind l, c, le-ltb 255 count (omega arith), le-ltb 8 count m) refl
@@ -221,7 +224,8 @@ module _ (s : List ℕ) (bytes : Bytes s) where
       let met : w2 .reductions ≡ length (f .0) = omega (arith, a .reductions) in
       let g = expr-sound s OfFinal reductions-of (λ w w′ p q. q) (λ w. refl) refl refl bytes w2 cs two (a .table) (omega (arith, f .6)) (p .2) in
       let rest : f .1 ≡ expression-bytes OfFinal (g .0) ++ g .1 =
-      sym (ap (λ (i : ℕ). drop i s) (a .at) ∙ drop-on s (w .at + 1) (length (entries-bytes (f .0))) (entries-bytes (f .0)) (f .1) (f .4) refl) ∙ g .2 in (
+      sym (ap (λ (i : ℕ). drop i s) (a .at) ∙ drop-on s (w .at + 1) (length (entries-bytes (f .0))) (entries-bytes (f .0)) (f .1) (f .4) refl) ∙ g .2
+      in (
         one-result (f .0) (g .0),
         g .1,
         refl,
@@ -262,5 +266,6 @@ read-sound s bytes e =
           ∙ ap (λ (t : List ℕ). header-bytes 0x57 ++ t) (drop-at s 5 (present s 5 (omega (arith, p .1)))
           ∙ ap₂ (λ (x : ℕ) (t : List ℕ). x ∷ t) (sym (b .2)) (drop-at s 6 (present s 6 (omega (arith, p .2)))
           ∙ ap₂ (λ (x : ℕ) (t : List ℕ). x ∷ t) (sym (f .2)) (f .4
-          ∙ ap (λ (t : List ℕ). all-listed-bytes (f .0) ++ t) (rest ∙ ap (λ (t : List ℕ). body-bytes (b .0) ++ t) none ∙ append-nil (body-bytes (b .0))))))),
+          ∙ ap (λ (t : List ℕ). all-listed-bytes (f .0) ++ t) (rest ∙ ap (λ (t : List ℕ). body-bytes (b .0) ++ t) none
+          ∙ append-nil (body-bytes (b .0))))))),
     )

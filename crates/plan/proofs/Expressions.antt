@@ -32,7 +32,8 @@ abbrev pub Passed : Progress → Progress → List PathReduction → ℕ → ℕ
 Passed w w′ cs n z e = Further w w′ cs n (w .terms + z) (w .reductions + e)
 
 -- an expression of an entry, or a final one: `held` is the count that its indices stay below
-module _ (s : List ℕ) (m : TermKind) (held : Progress → ℕ) (kept : (w w′ : Progress) → w′ .paths ≡ w .paths → w′ .reductions ≡ w .reductions → held w′ ≡ held w)
+module _ (s : List ℕ) (m : TermKind) (held : Progress → ℕ) (kept : (w w′ : Progress) → w′ .paths ≡ w .paths → w′ .reductions
+    ≡ w .reductions → held w′ ≡ held w)
     (is-index : (w : Progress) → leaf-step m s w ≡ index-step s w (held w)) (literal-not-leaf : eqb (literal-tag m) (leaf-tag m) ≡ false)
     (apply-not-leaf : eqb (literal-tag m + 1) (leaf-tag m) ≡ false) where
   none-put : (count : ℕ) (cs : List PathReduction) (t : Term ℕ) → put-all cs (term-paths (index-leaves m count) t) ≡ cs
@@ -84,7 +85,8 @@ module _ (s : List ℕ) where
   entry-scanned kind w h c few = rw (lt-leb (length s) (w .at) h, c, lt-leb 8 (w .reductions) few) refl
 
   -- the bytes of an entry are read as it; and what is read are its bytes
-  pub entry-complete : (kind r : ℕ) (t : Term ℕ) (w : Progress) (cs : List PathReduction) (rest : List ℕ) → w .code ≡ 0 → Table w cs → reduction-code kind r ≡ 0
+  pub entry-complete : (kind r : ℕ) (t : Term ℕ) (w : Progress) (cs : List PathReduction) (rest : List ℕ) → w .code ≡ 0 → Table w cs
+      → reduction-code kind r ≡ 0
       → drop (w .at) s ≡ r ∷ (expression-bytes OfEntry t ++ rest) → Expression (length cs) t → w .terms + terms unit t ≤ 64 → w .reductions < 8
       → Passed w (entry-scan kind s w) cs (suc (length (expression-bytes OfEntry t))) (terms unit t) 1
   unfolding moved leaf-step literal-tag leaf-tag
@@ -112,7 +114,8 @@ module _ (s : List ℕ) where
   entry-sound bytes kind w cs z tb e =
       go (leb (length s) (w .at)) (eqb (reduction-code kind (getD s (w .at) 256)) 0) (leb 8 (w .reductions)) refl refl refl
     where
-      go : (a b c : Bool) → leb (length s) (w .at) ≡ a → eqb (reduction-code kind (getD s (w .at) 256)) 0 ≡ b → leb 8 (w .reductions) ≡ c → EntryFound kind w cs
+      go : (a b c : Bool) → leb (length s) (w .at) ≡ a → eqb (reduction-code kind (getD s (w .at) 256)) 0 ≡ b → leb 8 (w .reductions) ≡ c
+          → EntryFound kind w cs
       go true b c p q r = absurd (let y : _≡_ {A = ℕ} 1 0 = rw p at e in omega arith)
       go false false c p q r = absurd (eqb-false (reduction-code kind (getD s (w .at) 256)) 0 q (rw (p, q) at e))
       go false true true p q r = absurd (let y : _≡_ {A = ℕ} 14 0 = rw (p, q, r) at e in omega arith)
@@ -170,11 +173,13 @@ module _ (s : List ℕ) where
   -- k legal entries whose bytes stand next
   abbrev Entries : ℕ → Progress → List PathReduction → Type 0
   Entries k w cs =
-      (es : List (VertexReduction ℕ)) × (rest : List ℕ) × (length es ≡ k) × All (EntryLegal (length cs)) es × (drop (w .at) s ≡ entries-bytes es ++ rest)
+      (es : List (VertexReduction ℕ)) × (rest : List ℕ) × (length es ≡ k) × All (EntryLegal (length cs)) es
+      × (drop (w .at) s ≡ entries-bytes es ++ rest)
       × (w .terms + entry-terms es ≤ 64)
       × (w .reductions + length es ≤ 8)
 
-  pub entries-sound : Bytes s → (k : ℕ) (w : Progress) (cs : List PathReduction) → w .code ≡ 0 → Table w cs → w .terms ≤ 64 → entries-scan k 1 s w .code ≡ 0
+  pub entries-sound : Bytes s → (k : ℕ) (w : Progress) (cs : List PathReduction) → w .code ≡ 0 → Table w cs → w .terms ≤ 64
+      → entries-scan k 1 s w .code ≡ 0
       → Entries k w cs
   unfolding entries-scan
   entries-sound bytes zero w cs z tb l e = ([], drop (w .at) s, refl, tt, refl, omega arith, omega (arith, tb .few-reductions))
@@ -184,7 +189,8 @@ module _ (s : List ℕ) where
       on = rw (eq-eqb (w .code) 0 z) at e
 
       first : (b : Bool) → eqb (entry-scan 1 s w .code) 0 ≡ b
-          → ((w : Progress) (cs : List PathReduction) → w .code ≡ 0 → Table w cs → w .terms ≤ 64 → entries-scan k 1 s w .code ≡ 0 → Entries k w cs)
+          → ((w : Progress) (cs : List PathReduction) → w .code ≡ 0 → Table w cs → w .terms ≤ 64 → entries-scan k 1 s w .code ≡ 0
+          → Entries k w cs)
           → Entries (suc k) w cs
       first false p ih =
           let n = eqb-false (entry-scan 1 s w .code) 0 p in

@@ -143,7 +143,8 @@ module _ (s : List ℕ) where
 
   -- six bytes that are there
   six : (i : ℕ) → i + 5 < length s
-      → drop i s ≡ getD s i 256 ∷ getD s (i + 1) 256 ∷ getD s (i + 2) 256 ∷ getD s (i + 3) 256 ∷ getD s (i + 4) 256 ∷ getD s (i + 5) 256 ∷ drop (i + 6) s
+      → drop i s ≡ getD s i 256 ∷ getD s (i + 1) 256 ∷ getD s (i + 2) 256 ∷ getD s (i + 3) 256 ∷ getD s (i + 4) 256 ∷ getD s (i + 5) 256
+      ∷ drop (i + 6) s
   six i h =
       next-byte i (i + 1) (omega arith) refl
       ∙ ap (λ (l : List ℕ). getD s i 256 ∷ l) (next-byte (i + 1) (i + 2) (omega arith) (omega arith)
@@ -227,7 +228,8 @@ module _ (s : List ℕ) where
       }
 
   -- the bytes of legal path reductions are read as they
-  pub listed-complete : (ds : List PathReduction) (w : Progress) (cs : List PathReduction) (rest : List ℕ) → w .code ≡ 0 → Table w cs → All (PathFits 256) ds
+  pub listed-complete : (ds : List PathReduction) (w : Progress) (cs : List PathReduction) (rest : List ℕ) → w .code ≡ 0 → Table w cs
+      → All (PathFits 256) ds
       → drop (w .at) s ≡ all-listed-bytes ds ++ rest → length cs + length ds ≤ 8
       → ListedHeld w (listed-scan (length ds) s w) (cs ++ ds) (length (all-listed-bytes ds))
   unfolding listed-scan
@@ -257,7 +259,8 @@ module _ (s : List ℕ) where
   listed-refused (suc k) w n = rw (ne-eqb (w .code) 0 n) refl
 
   -- and what is read are the bytes of legal ones
-  pub listed-sound : Bytes s → (k : ℕ) (w : Progress) (cs : List PathReduction) → w .code ≡ 0 → Table w cs → length cs + k ≤ 8 → listed-scan k s w .code ≡ 0
+  pub listed-sound : Bytes s → (k : ℕ) (w : Progress) (cs : List PathReduction) → w .code ≡ 0 → Table w cs → length cs + k ≤ 8
+      → listed-scan k s w .code ≡ 0
       → (ds : List PathReduction) × (rest : List ℕ) × (length ds ≡ k) × All (PathFits 256) ds × (drop (w .at) s ≡ all-listed-bytes ds ++ rest)
   unfolding listed-scan listed-step blank
   listed-sound bytes zero w cs z t l e = ([], drop (w .at) s, refl, tt, refl)
@@ -272,7 +275,8 @@ module _ (s : List ℕ) where
       go : (a b : Bool) → leb (length s) (w .at) ≡ a → eqb (listed-code s (w .at)) 0 ≡ b
           → ((w : Progress) (cs : List PathReduction) → w .code ≡ 0 → Table w cs → length cs + k ≤ 8 → listed-scan k s w .code ≡ 0
           → (ds : List PathReduction) × (rest : List ℕ) × (length ds ≡ k) × All (PathFits 256) ds × (drop (w .at) s ≡ all-listed-bytes ds ++ rest))
-          → (ds : List PathReduction) × (rest : List ℕ) × (length ds ≡ suc k) × All (PathFits 256) ds × (drop (w .at) s ≡ all-listed-bytes ds ++ rest)
+          → (ds : List PathReduction) × (rest : List ℕ) × (length ds ≡ suc k) × All (PathFits 256) ds
+          × (drop (w .at) s ≡ all-listed-bytes ds ++ rest)
       go true b p q ih = absurd (stops 1 (λ x. omega arith) (rw p refl))
       go false false p q ih = absurd (stops (listed-code s (w .at)) (eqb-false (listed-code s (w .at)) 0 q) (rw (p, q) refl))
       go false true p q ih =

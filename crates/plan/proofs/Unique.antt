@@ -19,7 +19,8 @@ use Rattle.wire.specs.Wire.{le16}
 use Rattle.plan.specs.Text.{body-bytes, encode, entries-bytes, kind-of, listed-bytes, all-listed-bytes}
 
 -- the six bytes of a path reduction, and those of several
-listed-split : (c d : PathReduction) (x y : List ℕ) → PathFits 256 c → PathFits 256 d → listed-bytes c ++ x ≡ listed-bytes d ++ y → (c ≡ d) × (x ≡ y)
+listed-split : (c d : PathReduction) (x y : List ℕ) → PathFits 256 c → PathFits 256 d → listed-bytes c ++ x ≡ listed-bytes d ++ y → (c ≡ d)
+    × (x ≡ y)
 listed-split c d x y f g e =
     let n = same-head (length (c .keys)) (length (d .keys)) _ _ e in
     let a = same-head (getD (c .keys) 0 0) (getD (d .keys) 0 0) _ _ (n .1) in

@@ -35,7 +35,7 @@ use Rattle.term_text.proofs.Steps.{drop-on}
 use Rattle.term_text.proofs.Table.{Table}
 use Rattle.walks.specs.Lists.{All}
 use Rattle.wire.specs.Wire.{Bytes, done}
-use Rattle.plan_form.specs.Form.{body-nodes, entries-nodes, form-bytes, form-of, plan-reading, row-text, rows-text, write-reply}
+use Rattle.plan_form.specs.Form.{body-nodes, entries-nodes, form-bytes, form-of, plan-reading, listed-text, all-listed-text, write-reply}
 use Rattle.plan_form.specs.Steps.{form-after, read-after}
 
 -- the bytes behind the entry count
@@ -51,7 +51,8 @@ body-is (one-result es t) = refl
 -- THE NODES ARE COLLECTED
 module _ (s : List ℕ) (count : ℕ) where
   -- those of entries, where their bytes stand, and the terms behind them
-  entries-collected : (es : List (VertexReduction ℕ)) → All (EntryLegal count) es → (i k : ℕ) (rest : List ℕ) → drop i s ≡ entries-bytes es ++ rest
+  entries-collected : (es : List (VertexReduction ℕ)) → All (EntryLegal count) es → (i k : ℕ) (rest : List ℕ) → drop i s ≡ entries-bytes es
+      ++ rest
       → collected (entry-terms es + length es + k) s i ≡ entries-nodes es ++ collected k s (i + length (entries-bytes es))
   entries-collected [] f i k rest d = ap₂ (λ (n j : ℕ). collected n s j) (let e : 0 + k ≡ k = omega arith in e) (let e : i ≡ i + 0 = omega arith in e)
   entries-collected (e ∷ es) f i k rest d =
@@ -151,7 +152,8 @@ unfolding plan-reading
 reading-is s z = rw (eq-eqb (plan-code s) 0 z) (refl, refl)
 
 -- THE BYTES OF A LEGAL PLAN ARE READ AS ITS TYPED FORM
-pub read-form : (p : Plan) → PlanLegal 256 p → (plan-reading (encode p) .code ≡ 0) × ((rest : List ℕ) × (plan-reading (encode p) .form ≡ form-of p rest))
+pub read-form : (p : Plan) → PlanLegal 256 p → (plan-reading (encode p) .code ≡ 0)
+    × ((rest : List ℕ) × (plan-reading (encode p) .form ≡ form-of p rest))
 read-form p l =
     let r = reading-is (encode p) (read-complete p l .accepted) in
     let rest = behind (plan-scan (encode p)) in
@@ -195,15 +197,15 @@ body-size (each-vertex t) = omega (arith, entry-size t)
 body-size (one-result es t) = omega (arith, length-append (entries-nodes es) (final-nodes t), entries-size es, final-size t)
 
 -- the text of the numbers of path reductions
-row-written : (c : PathReduction) → PathFits 256 c → row-text (path-number c) ≡ listed-bytes c
-unfolding row-text
+row-written : (c : PathReduction) → PathFits 256 c → listed-text (path-number c) ≡ listed-bytes c
+unfolding listed-text
 row-written c f =
     let w = path-number c in
     let d = path-digits c f in
     let e : w / 65536 / 256 % 256 ≡ w / 16777216 % 256 = omega arith in
     rw (e, d .0, d .1, d .2, d .3, d .4) refl
 
-rows-written : (cs : List PathReduction) → All (PathFits 256) cs → rows-text (map path-number cs) ≡ all-listed-bytes cs
+rows-written : (cs : List PathReduction) → All (PathFits 256) cs → all-listed-text (map path-number cs) ≡ all-listed-bytes cs
 unfolding texts
 rows-written [] f = refl
 rows-written (c ∷ cs) f = ap₂ _++_ (row-written c (f .0)) (rows-written cs (f .1))
@@ -213,8 +215,8 @@ pub write-form : (p : Plan) → PlanLegal 256 p → (rest : List ℕ) → form-b
 unfolding form-bytes form-of
 write-form p l rest =
     let n = length (p .paths) in
-    let rows : rows-text (take n (map path-number (p .paths) ++ rest)) ≡ all-listed-bytes (p .paths) =
-    ap rows-text (take-at (map path-number (p .paths)) rest n (length-map (p .paths) path-number)) ∙ rows-written (p .paths) (l .paths-legal) in
+    let rows : all-listed-text (take n (map path-number (p .paths) ++ rest)) ≡ all-listed-bytes (p .paths) =
+    ap all-listed-text (take-at (map path-number (p .paths)) rest n (length-map (p .paths) path-number)) ∙ rows-written (p .paths) (l .paths-legal) in
     let count = plan-terms (p .body) + entry-count (p .body) in
     let list : nodes-text (take count (padded (body-nodes (p .body)))) ≡ inner (p .body) =
     ap nodes-text (first-nodes count (body-nodes (p .body)) (body-size (p .body))) ∙ body-text n (p .body) (l .body-legal) in

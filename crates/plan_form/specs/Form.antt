@@ -44,16 +44,17 @@ form-of p rest = record {
 }
 
 -- the six bytes of a path reduction, from their number
-unfoldable pub row-text : ℕ → List ℕ
-row-text w = le16 w ++ (le16 (w / 65536) ++ le16 (w / 4294967296))
+unfoldable pub listed-text : ℕ → List ℕ
+listed-text w = le16 w ++ (le16 (w / 65536) ++ le16 (w / 4294967296))
 
 -- "c chains of 6 bytes"
-abbrev pub rows-text : List ℕ → List ℕ
-rows-text = texts row-text
+abbrev pub all-listed-text : List ℕ → List ℕ
+all-listed-text = texts listed-text
 
 -- THE BYTES OF A TYPED FORM, legal or not: "kind byte; chain count c (0 to 8) and c chains of 6 bytes ..; entry count e; e entries ..; .. a final expression"
 unfoldable pub form-bytes : Form → List ℕ
-form-bytes f = header-bytes 0x57 ++ (f .kind ∷ f .paths ∷ (rows-text (take (f .paths) (f .table)) ++ (f .entries ∷ nodes-text (take (f .count) (f .nodes)))))
+form-bytes f = header-bytes 0x57 ++ (f .kind ∷ f .paths
+    ∷ (all-listed-text (take (f .paths) (f .table)) ++ (f .entries ∷ nodes-text (take (f .count) (f .nodes)))))
 
 -- "A writer judges what it is handed as the reader of its bytes would, then 15"
 unfoldable pub write-reply : Form → ℕ → Reply

@@ -7,7 +7,7 @@ ghost use Prim.Native.Nat.{_≤_};
 ghost use lib.ListN.{length, take};
 ghost use Rattle.draft.specs.Steps.{put-list};
 ghost use Rattle.wire.specs.Wire.{Returned};
-ghost use Rattle.plan_form.specs.Form.{row-text, rows-text, form-bytes, write-reply, blank-reading, plan-reading};
+ghost use Rattle.plan_form.specs.Form.{listed-text, all-listed-text, form-bytes, write-reply, blank-reading, plan-reading};
 
 // A plan: its kind; the first `paths` of its path reductions, each as its six bytes in one number; how many entries it has; and the first `count` of its nodes:
 // for each entry its reduction byte and the terms of its expression, then the terms of the final expression.
@@ -76,14 +76,14 @@ pub fn read(s: &[u8]) -> Reading
 
 // The six bytes of a path reduction.
 fn put_row(d: Draft, w: u64) -> Draft
-    ensures { λ r. ⌜ r ≡ put-list d (row-text w) ⌝ }
+    ensures { λ r. ⌜ r ≡ put-list d (listed-text w) ⌝ }
 {
     draft::put16(draft::put16(draft::put16(d, w), w / 65536), w / 4294967296)
 }
 
 // The first `paths` path reductions, at most 8.
 fn put_rows(d: Draft, table: [u64; 8], paths: u8) -> Draft
-    ensures { λ r. ⌜ (r ≡ put-list d (rows-text (take paths table))) × (length (rows-text (take paths table)) ≤ 48) ⌝ }
+    ensures { λ r. ⌜ (r ≡ put-list d (all-listed-text (take paths table))) × (length (all-listed-text (take paths table)) ≤ 48) ⌝ }
 {
     let n = wire::lesser(paths as usize, 8);
     let mut r = d;

@@ -35,12 +35,14 @@ pub record Scanned (w : Progress) (q : Query) : Type 0 where
   pub table : Table w (put-all [] (written-paths q))
 
 -- a whole text: header, kind, body
-scan-is : (s : List ℕ) (kind : ℕ) → header-code 0x51 5 s ≡ 0 → getD s 5 256 ≡ kind → kind ≤ 1 → query-scan s ≡ ended s (read (term-kind kind) 16 s (started 6))
+scan-is : (s : List ℕ) (kind : ℕ) → header-code 0x51 5 s ≡ 0 → getD s 5 256 ≡ kind → kind ≤ 1 → query-scan s
+    ≡ ended s (read (term-kind kind) 16 s (started 6))
 unfolding query-scan
 scan-is s kind h k l = rw (h, k, le-ltb 255 kind (omega arith), le-ltb 1 kind l) refl
 
 -- the text from its parts
-joined : (s : List ℕ) (kind : ℕ) (l rest : List ℕ) → getD s 5 256 ≡ kind → kind ≤ 1 → header-code 0x51 5 s ≡ 0 → drop 6 s ≡ l ++ rest → length s ≤ 6 + length l
+joined : (s : List ℕ) (kind : ℕ) (l rest : List ℕ) → getD s 5 256 ≡ kind → kind ≤ 1 → header-code 0x51 5 s ≡ 0 → drop 6 s ≡ l ++ rest
+    → length s ≤ 6 + length l
     → header-bytes 0x51 ++ (kind ∷ l) ≡ s
 joined s kind l rest k h c d n =
     let p = present s 5 (omega arith) in
@@ -77,7 +79,8 @@ module _ {A : Type 0} (K : Leaves A) (m : ℕ) (low : m ≤ 1) (Ready : Progress
         table = subst (Table (read (term-kind m) 16 s (started 6))) same (a .table);
       })
 
-  term-found : (s : List ℕ) → Sound K s (term-kind m) Ready 16 → ((t : Term A) → Every (K .fine) t → EveryPath (PathFits 256) (of t)) → header-code 0x51 5 s ≡ 0
+  term-found : (s : List ℕ) → Sound K s (term-kind m) Ready 16 → ((t : Term A) → Every (K .fine) t → EveryPath (PathFits 256) (of t))
+      → header-code 0x51 5 s ≡ 0
       → getD s 5 256 ≡ m
       → ended s (read (term-kind m) 16 s (started 6)) .code ≡ 0 → (q : Query) × QueryLegal 256 q × (encode q ≡ s)
   unfolding started

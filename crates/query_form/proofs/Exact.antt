@@ -97,7 +97,8 @@ write-form (single t) l =
     ap (λ (b : List ℕ). header-bytes 0x51 ++ (1 ∷ b)) (ap nodes-text list ∙ result-text t (l .legal))
 
 -- WRITING WHAT WAS READ GIVES THE BYTES READ
-pub write-read : (s : List ℕ) → Bytes s → query-code s ≡ 0 → (room : ℕ) → length s ≤ room → write-reply (query-reading s .form) room ≡ done s
+pub write-read : (s : List ℕ) → Bytes s → query-code s ≡ 0 → (room : ℕ) → length s ≤ room → write-reply (query-reading s .form) room
+    ≡ done s
 unfolding write-reply
 write-read s b z room h =
     let q = query-read s b z in

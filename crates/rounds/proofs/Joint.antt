@@ -85,7 +85,8 @@ module _ (g : Graph) (paths : ℕ) (table : List ℕ) (b : paths ≤ 8) where
 
   module _ (r k : ℕ) (h : k < paths) (here : k < length table) (rest rest′ l l′ : List ℕ) (changed moved : Bool)
       (x : Upto r k rest l changed) (flags : length rest′ ≡ 8) (t : Turned g (path-at table k) r k rest rest′ l l′ moved) where
-    kept : (q j : ℕ) → j < paths → (j ≡ k → ⊥) → Stands g (path-at table j) q j (getD rest j 0) l → Stands g (path-at table j) q j (getD rest′ j 0) l′
+    kept : (q j : ℕ) → j < paths → (j ≡ k → ⊥) → Stands g (path-at table j) q j (getD rest j 0) l
+        → Stands g (path-at table j) q j (getD rest′ j 0) l′
     kept q j i n =
         stands-kept g (path-at table j) q j (getD rest j 0) (getD rest′ j 0) l l′ (t .other-flags j n) (t .stands .sound .long)
         (λ v m. t .others j (omega arith) n v m)
@@ -121,7 +122,8 @@ module _ (g : Graph) (paths : ℕ) (table : List ℕ) (b : paths ≤ 8) where
           subst T (e ∙ ap not y) tt
       go (no n) = let m : ¬ (q ≡ r) = n in f q (omega arith) t
 
-  ran-as : (limit r : ℕ) (rest l : List ℕ) → r ≤ limit → AllStand g paths table r rest l → Ended g paths table limit r → Ran g paths table limit r l
+  ran-as : (limit r : ℕ) (rest l : List ℕ) → r ≤ limit → AllStand g paths table r rest l → Ended g paths table limit r
+      → Ran g paths table limit r l
   ran-as limit r rest l h x e = record {
     within = h;
     ended = e;
@@ -131,7 +133,8 @@ module _ (g : Graph) (paths : ℕ) (table : List ℕ) (b : paths ≤ 8) where
   }
 
   -- the last was quiet
-  pub ran-quiet : (limit r : ℕ) (rest l : List ℕ) → r < limit → AllStand g paths table (suc r) rest l → Unquiet r → false ≡ not (quiet-after g paths table r)
+  pub ran-quiet : (limit r : ℕ) (rest l : List ℕ) → r < limit → AllStand g paths table (suc r) rest l → Unquiet r → false
+      ≡ not (quiet-after g paths table r)
       → Ran g paths table limit (suc r) l
   ran-quiet limit r rest l h x f e =
       ran-as limit (suc r) rest l (omega arith) x (inr (r, refl, T-of (not-false (quiet-after g paths table r) (sym e)), f))

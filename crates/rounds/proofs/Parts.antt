@@ -31,7 +31,8 @@ module _ (s xs ys : List ℕ) (j n : ℕ) (e : n ≡ at16 s 5) where
   initialize-put word p = put-part ∙ ap (with-part s j xs) (rw (mid-part, e) at p)
 
   -- a round of a part lent is the table's, by what it leaves
-  pub step-put : (word since stamp : ℕ) → ys ≡ relaxed-upto (keys-of word) s since stamp (take (1024 * j + 4 * n - 1024 * j) (drop (1024 * j) xs)) (at16 s 7)
+  pub step-put : (word since stamp : ℕ) → ys ≡ relaxed-upto (keys-of word) s since stamp (take (1024 * j + 4 * n - 1024 * j) (drop (1024 * j) xs))
+      (at16 s 7)
       → putMid (1024 * j) (1024 * j + 4 * n - 1024 * j) xs ys ≡ stepped s word j since stamp xs
   unfolding stepped
   step-put word since stamp p = put-part ∙ ap (with-part s j xs) (rw mid-part at p)

@@ -12,7 +12,7 @@ use Rattle.meaning.specs.Query.{PathReduction, network-of}
 use Rattle.wire.specs.Wire.{at16}
 use Rattle.graph.specs.Graph.{graph-of}
 use Rattle.graph.proofs.Accepted.{accepted}
-use Rattle.cells.specs.Table.{Below, Sound, cell-in, changed-in, figures-in, figures-of, padded, path-of}
+use Rattle.cells.specs.Table.{Below, Sound, cell-in, changed-in, figures-in, figures-of, tripled, path-of}
 use Rattle.cell_laws.specs.Steps.{figures-at, stamp-at}
 use Rattle.cell_laws.proofs.Initial.{initial-shows}
 use Rattle.cell_laws.proofs.Pad.{Sized, cell-cut, cell-sized, cut, cut-pad, gather-sized, initial-sized}
@@ -47,7 +47,8 @@ module _ (s : List ℕ) (w : ℕ) (g : Given s w) (j : ℕ) (h : j < 8) where
   }
 
   -- a part that shows S, put into the table
-  module _ (S : State) (sized : (v : ℕ) → Sized (path-of w .keys) (S v)) (r : ℕ) (l : List ℕ) (long : length l ≡ 8192) (p : List ℕ) (x : Shows s S r p) where
+  module _ (S : State) (sized : (v : ℕ) → Sized (path-of w .keys) (S v)) (r : ℕ) (l : List ℕ) (long : length l ≡ 8192) (p : List ℕ)
+      (x : Shows s S r p) where
     abbrev new : List ℕ
     new = with-part s j l p
 
@@ -57,7 +58,7 @@ module _ (s : List ℕ) (w : ℕ) (g : Given s w) (j : ℕ) (h : j < 8) where
     here : part s j new ≡ p
     here = part-here s l j h few long p (x .long)
 
-    three-shown : (v : ℕ) → v < n → figures-of 3 (cell-in new j v) ≡ padded (S v)
+    three-shown : (v : ℕ) → v < n → figures-of 3 (cell-in new j v) ≡ tripled (S v)
     three-shown v k = figures-part s new j h few new-long v k ∙ ap (λ (q : List ℕ). figures-at q v) here ∙ x .figures v k
 
     put-shown : (v : ℕ) → v < n → figures-in c new j v ≡ S v
@@ -81,7 +82,7 @@ module _ (s : List ℕ) (w : ℕ) (g : Given s w) (j : ℕ) (h : j < 8) where
       cells = λ v k. record {
         early = omega (arith, put-stamp v k, x .early v k);
         small = subst (Below (65535 * suc r)) (sym (put-shown v k)) (x .small v k);
-        again = three-shown v k ∙ ap padded (sym (put-shown v k));
+        again = three-shown v k ∙ ap tripled (sym (put-shown v k));
       };
     }
 

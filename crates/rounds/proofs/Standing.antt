@@ -79,7 +79,8 @@ module _ (s : List ℕ) (w : ℕ) (g : Given s w) (j : ℕ) where
   marked-now r v = ap (λ (p : Marked). p .changed v) (marked-is N (c .keys) (path-ordered s w g) r)
 
   -- before any round
-  pub begun-stands : (l l′ : List ℕ) (flag : ℕ) → (flag ≡ 1 → ⊥) → Begun (graph-of s) (path-of w) j l l′ → Stands (graph-of s) (path-of w) 0 j flag l′
+  pub begun-stands : (l l′ : List ℕ) (flag : ℕ) → (flag ≡ 1 → ⊥) → Begun (graph-of s) (path-of w) j l l′
+      → Stands (graph-of s) (path-of w) 0 j flag l′
   unfolding state marked
   begun-stands l l′ flag m x = record {
     figures = x .figures;
@@ -125,7 +126,8 @@ module _ (s : List ℕ) (w : ℕ) (g : Given s w) (j : ℕ) where
     -- BY PULL
     pub pull-stands : (l′ : List ℕ) (b : Bool)
         → Round (graph-of s) (path-of w) r j (pulled (network-of (graph-of s) (path-of w)) (path-of w .keys) (figures-in (path-of w) l j)) l l′ b
-        → Stands (graph-of s) (path-of w) (suc r) j 0 l′ × (b ≡ not (unchanged (pull (graph-of s) (path-of w)) r (at16 s 5))) × Others (at16 s 5) j l l′
+        → Stands (graph-of s) (path-of w) (suc r) j 0 l′ × (b ≡ not (unchanged (pull (graph-of s) (path-of w)) r (at16 s 5)))
+        × Others (at16 s 5) j l l′
     pull-stands l′ b y =
         let t = pull-steps N (c .keys) (path-network s w g) r S (x .figures) in
         (next-stands (pulled N (c .keys) S) t l′ b y, next-changed (pulled N (c .keys) S) t l′ b y, y .others)
@@ -134,12 +136,16 @@ module _ (s : List ℕ) (w : ℕ) (g : Given s w) (j : ℕ) where
     pub push-stands : (l′ : List ℕ) (b : Bool)
         → Round (graph-of s) (path-of w) r j
         (pushed-from (network-of (graph-of s) (path-of w)) (path-of w .keys) (figures-in (path-of w) l j) (changed-in r l j)) l l′ b
-        → Stands (graph-of s) (path-of w) (suc r) j 0 l′ × (b ≡ not (unchanged (pull (graph-of s) (path-of w)) r (at16 s 5))) × Others (at16 s 5) j l l′
+        → Stands (graph-of s) (path-of w) (suc r) j 0 l′ × (b ≡ not (unchanged (pull (graph-of s) (path-of w)) r (at16 s 5)))
+        × Others (at16 s 5) j l l′
     push-stands l′ b y =
         let t =
         push-steps N (c .keys) (path-network s w g) r S (x .figures) (path-ordered s w g) (changed-in r l j)
-        (λ u k. x .marks zero-one u k ∙ marked-now r u) in
-        (next-stands (pushed-from N (c .keys) S (changed-in r l j)) t l′ b y, next-changed (pushed-from N (c .keys) S (changed-in r l j)) t l′ b y, y .others)
+        (λ u k. x .marks zero-one u k ∙ marked-now r u) in (
+          next-stands (pushed-from N (c .keys) S (changed-in r l j)) t l′ b y,
+          next-changed (pushed-from N (c .keys) S (changed-in r l j)) t l′ b y,
+          y .others,
+        )
 
   -- ---- at rest
 
@@ -176,7 +182,8 @@ module _ (s : List ℕ) (w : ℕ) (g : Given s w) (j : ℕ) where
       record { stands = y .0; changes = y .1; other-flags = λ i n. refl; others = λ i h n v k. refl }
 
   pub turn-moves : (r : ℕ) (rest l l′ : List ℕ) → (getD rest j 0 ≡ 1 → ⊥) → Stands (graph-of s) (path-of w) (suc r) j 0 l′
-      → true ≡ not (unchanged (pull (graph-of s) (path-of w)) r (at16 s 5)) → Others (at16 s 5) j l l′ → Turned (graph-of s) (path-of w) r j rest rest l l′ true
+      → true ≡ not (unchanged (pull (graph-of s) (path-of w)) r (at16 s 5)) → Others (at16 s 5) j l l′
+      → Turned (graph-of s) (path-of w) r j rest rest l l′ true
   turn-moves r rest l l′ n x e o = record {
     stands = stands-awake G c (suc r) j 0 (getD rest j 0) l′ (λ q. omega arith) n x;
     changes = e;

@@ -32,7 +32,8 @@ read-third l j v h k long =
     rw (lt-leb 8 j h, lt-leb 256 v k, lt-leb (length l) (1024 * j + 4 * v + 3) (omega arith)) (third-value (cell-in l j v))
 
 -- THE VALUE READ IS THAT OF THE FIGURES SHOWN, of a sound table
-pub value-shown : (n : ℕ) → n ≤ 256 → (c : PathReduction) → T (legal-keys (c .keys)) → (r : ℕ) (l : List ℕ) (j : ℕ) → j < 8 → Sound n c r l j
+pub value-shown : (n : ℕ) → n ≤ 256 → (c : PathReduction) → T (legal-keys (c .keys)) → (r : ℕ) (l : List ℕ) (j : ℕ) → j < 8
+    → Sound n c r l j
     → (v : ℕ) → v < n → value-in l j v ≡ value (figures-in c l j v)
 unfolding figures-in
 value-shown n few c t r l j h x v k =

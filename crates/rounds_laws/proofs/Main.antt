@@ -79,7 +79,8 @@ module _ (g : Graph) (legal-graph : GraphLegal g) (paths : ℕ) (table : List �
       (state-figures (network-of g (c j)) (c j .keys) (path-in-order (g .vertices) (c j) (fits-at j h)) limit v)
 
   -- so said of its value
-  pub round-means : (j : ℕ) → j < paths → (v : ℕ) → v < g .vertices → PathWithin g limit (path-at table j) v (value (figures-in (path-at table j) figures j v))
+  pub round-means : (j : ℕ) → j < paths → (v : ℕ) → v < g .vertices
+      → PathWithin g limit (path-at table j) v (value (figures-in (path-at table j) figures j v))
   round-means j h v k = (figures-in (c j) figures j v, round-value j h v k, refl)
 
   -- the values of the state after r rounds, where the table shows it
@@ -92,7 +93,8 @@ module _ (g : Graph) (legal-graph : GraphLegal g) (paths : ℕ) (table : List �
       value (figures-in (path-at table j) figures j v) ≡ getD (values-at (pull g) (paths-in paths table) limit v) j Absent
   given-values j h v k = values-of limit j h v (shows-limit j h v k)
 
-  pub given-read : (j : ℕ) → j < paths → (v : ℕ) → v < g .vertices → value-in figures j v ≡ getD (values-at (pull g) (paths-in paths table) limit v) j Absent
+  pub given-read : (j : ℕ) → j < paths → (v : ℕ) → v < g .vertices → value-in figures j v
+      ≡ getD (values-at (pull g) (paths-in paths table) limit v) j Absent
   given-read j h v k = value-read j h v k ∙ given-values j h v k
 
   -- and those of the rounds done
@@ -141,10 +143,12 @@ module _ (g : Graph) (legal-graph : GraphLegal g) (paths : ℕ) (table : List �
         subst (Figures (network-of g (c j)) (c j .keys) (AllTo (network-of g (c j)) v))
         (sym (ran .shows j h v k ∙ ap (λ (r : ℕ). pull g (c j) r v) quiet-rounds))
         (legal-at
-        (λ d. (u : ℕ) → u < g .vertices → Figures (network-of g d) (d .keys) (AllTo (network-of g d) u) (pull g d (rounds (g .vertices) (map (pull g) cs)) u))
+        (λ d. (u : ℕ) → u < g .vertices → Figures (network-of g d) (d .keys) (AllTo (network-of g d) u)
+        (pull g d (rounds (g .vertices) (map (pull g) cs)) u))
         table paths
         (rounds-final g (legal-graph .fits) cs legal) j h (omega arith) v k)
 
     -- so said of its value
-    pub quiet-means : (j : ℕ) → j < paths → (v : ℕ) → v < g .vertices → PathMeans g (path-at table j) v (value (figures-in (path-at table j) figures j v))
+    pub quiet-means : (j : ℕ) → j < paths → (v : ℕ) → v < g .vertices
+        → PathMeans g (path-at table j) v (value (figures-in (path-at table j) figures j v))
     quiet-means j h v k = (figures-in (c j) figures j v, quiet-final j h v k, refl)

@@ -31,7 +31,8 @@ unfolding rows-at
 rows-agree n count l G few holds v h i k =
     let f : ℕ → Value = λ j. value-in l j v in
     let b : i < min count 8 = omega arith in
-    eight-holds (tabulate (min count 8) zero f) i (omega (arith, tabulate-length (min count 8) zero f)) ∙ tabulate-at (min count 8) i f Absent b ∙ holds v h i k
+    eight-holds (tabulate (min count 8) zero f) i (omega (arith, tabulate-length (min count 8) zero f)) ∙ tabulate-at (min count 8) i f Absent b
+    ∙ holds v h i k
 
 -- their values are those of the plan's tree
 answer-values : (p : Plan) (m : ℕ) → PlanLegal m p → (l : List ℕ) (n : ℕ) (G : ℕ → List Value) → Holds n (length (p .paths)) l G
@@ -58,7 +59,8 @@ front l k h =
     ∙ take-at (values l) (values (replicate (256 - length l) (row Absent))) k h
 
 -- THE ROWS OF THE ANSWER: what `body_rows` gives, on a graph of n vertices
-pub answer-rows : (p : Plan) (m : ℕ) → PlanLegal m p → (l : List ℕ) (n : ℕ) → n ≤ 256 → (G : ℕ → List Value) → Holds n (length (p .paths)) l G
+pub answer-rows : (p : Plan) (m : ℕ) → PlanLegal m p → (l : List ℕ) (n : ℕ) → n ≤ 256 → (G : ℕ → List Value)
+    → Holds n (length (p .paths)) l G
     → take (body-count (encode p) n) (values (many (body-found (encode p) (rows-at l (length (p .paths))) (min n 256)))) ≡ body-rows (p .body) G n
 answer-rows p m legal l n few G holds =
     let F : ℕ → List Row = rows-at l (length (p .paths)) in

@@ -100,7 +100,8 @@ fn entry_rows(plan: &[u8], at: usize, figures: &[u32], paths: usize, n: usize) -
 // The result of the entry whose reduction byte stands at `at`.
 fn result_of(plan: &[u8], at: usize, figures: &[u32], paths: usize, n: usize) -> Value
     requires { ⌜ (n ≤ 256) × (at ≤ length (now plan) + 4096) ⌝ }
-    ensures { λ r. ⌜ r ≡ reduce (getD (now (plan .entry)) at 0) (values (entry-rows (now (plan .entry)) (at + 1) (rows-at (now (figures .entry)) paths) n)) ⌝ }
+    ensures { λ r. ⌜ r ≡ reduce (getD (now (plan .entry)) at 0)
+        (values (entry-rows (now (plan .entry)) (at + 1) (rows-at (now (figures .entry)) paths) n)) ⌝ }
 {
     let rows = entry_rows(plan, at + 1, figures, paths, n);
     value::reduce_rows(wire::byte(plan, at), rows, n)

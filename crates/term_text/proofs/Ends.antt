@@ -29,7 +29,8 @@ pub ended-code : (s : List ℕ) (w : Progress) → ended s w .code ≡ 0 → (w 
 unfolding ended blank
 ended-code s w e = go (eqb (w .code) 0) (ltb (w .at) (length s)) refl refl e
   where
-    go : (a b : Bool) → eqb (w .code) 0 ≡ a → ltb (w .at) (length s) ≡ b → cond a (cond b (blank 6) w) w .code ≡ 0 → (w .code ≡ 0) × (length s ≤ w .at)
+    go : (a b : Bool) → eqb (w .code) 0 ≡ a → ltb (w .at) (length s) ≡ b → cond a (cond b (blank 6) w) w .code ≡ 0 → (w .code ≡ 0)
+        × (length s ≤ w .at)
     go true true p q z = absurd (omega arith)
     go true false p q z = (z, ltb-false (w .at) (length s) q)
     go false b p q z = absurd (eqb-false (w .code) 0 p z)

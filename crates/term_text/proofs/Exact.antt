@@ -150,11 +150,13 @@ module _ (s : List ℕ) where
       record { legal = t .legal; count = t .count; few = t .few; rest = t .rest; holds = t .holds; size = t .size; few-reductions = omega arith }
 
   -- a reduction is read by its step, and its body after it
-  reduce-is : (d : ℕ) (w : Progress) → w .at < length s → w .terms < 64 → getD s (w .at) 0 ≡ 0x20 → term-step OfResult (suc d) s w ≡ reduce-step s w
+  reduce-is : (d : ℕ) (w : Progress) → w .at < length s → w .terms < 64 → getD s (w .at) 0 ≡ 0x20 → term-step OfResult (suc d) s w
+      ≡ reduce-step s w
   unfolding leaf-tag leaf-step
   reduce-is d w h k tag = step-is s OfResult d w h k ∙ rw tag refl
 
-  reduce-read : (d : ℕ) (w : Progress) → w .code ≡ 0 → w .at < length s → w .terms < 64 → getD s (w .at) 0 ≡ 0x20 → code-of (getD s (w .at + 1) 256) 5 ≡ 0
+  reduce-read : (d : ℕ) (w : Progress) → w .code ≡ 0 → w .at < length s → w .terms < 64 → getD s (w .at) 0 ≡ 0x20
+      → code-of (getD s (w .at + 1) 256) 5 ≡ 0
       → w .reductions < 8 → read OfResult (suc d) s w ≡ read OfVertex d s (under w)
   unfolding reduce-step advanced under
   reduce-read d w z h k tag c r =
@@ -265,13 +267,15 @@ module _ (s : List ℕ) (m : TermKind) (count : ℕ) (few : count ≤ 256) (held
   unfolding advanced
   counts-on w n r = kept w (advanced w n) refl refl ∙ r
 
-  counts-past : (w w′ : Progress) (cs : List PathReduction) (t : Term ℕ) → Counts w → Table w cs → After (index-leaves m count) m w w′ cs t → Counts w′
+  counts-past : (w w′ : Progress) (cs : List PathReduction) (t : Term ℕ) → Counts w → Table w cs → After (index-leaves m count) m w w′ cs t
+      → Counts w′
   counts-past w w′ cs t r b a =
       let p = ap (λ (l : List PathReduction). length (put-all cs l)) (index-paths m count t) in
       kept w w′ (omega (arith, a .table .count, b .count)) (omega (arith, a .reductions, index-count m count t)) ∙ r
 
   -- an index is read by its step
-  index-is : (d : ℕ) (w : Progress) → w .at < length s → w .terms < 64 → getD s (w .at) 0 ≡ leaf-tag m → term-step m (suc d) s w ≡ index-step s w (held w)
+  index-is : (d : ℕ) (w : Progress) → w .at < length s → w .terms < 64 → getD s (w .at) 0 ≡ leaf-tag m → term-step m (suc d) s w
+      ≡ index-step s w (held w)
   index-is d w h k tag = step-is s m d w h k ∙ rw (tag, eq-eqb (leaf-tag m) (leaf-tag m) refl) (is-index w)
 
   index-complete : (i : ℕ) → Complete (index-leaves m count) s m Counts (leaf i)

@@ -46,7 +46,8 @@ code-zero b most h k l = rw (le-ltb 255 b (omega arith), ne-eqb b 0 (λ e. omega
 pub code-range : (b most : ℕ) → code-of b most ≡ 0 → (b ≤ 255) × (1 ≤ b) × (b ≤ most)
 code-range b most e = go (ltb 255 b) (eqb b 0) (ltb most b) refl refl refl e
   where
-    go : (x y z : Bool) → ltb 255 b ≡ x → eqb b 0 ≡ y → ltb most b ≡ z → _≡_ {A = ℕ} (cond x 1 (cond y 9 (cond z 9 0))) 0 → (b ≤ 255) × (1 ≤ b) × (b ≤ most)
+    go : (x y z : Bool) → ltb 255 b ≡ x → eqb b 0 ≡ y → ltb most b ≡ z → _≡_ {A = ℕ} (cond x 1 (cond y 9 (cond z 9 0))) 0 → (b ≤ 255)
+        × (1 ≤ b) × (b ≤ most)
     go true y z p q r c = not-zero 0 1 refl c
     go false true z p q r c = not-zero 8 9 refl c
     go false false true p q r c = not-zero 8 9 refl c
@@ -121,7 +122,8 @@ two-bytes low high h k =
 
 -- keys in a row: each is known, and each but the last may stand before it
 module _ (s : List ℕ) where
-  keys-zero : (ks : List ℕ) (i : ℕ) (rest : List ℕ) → drop i s ≡ ks ++ rest → T (all-known ks) → T (in-order ks) → keys-code (length ks) s i ≡ 0
+  keys-zero : (ks : List ℕ) (i : ℕ) (rest : List ℕ) → drop i s ≡ ks ++ rest → T (all-known ks) → T (in-order ks) → keys-code (length ks) s i
+      ≡ 0
   unfolding keys-code
   keys-zero [] i rest e k o = refl
   keys-zero (x ∷ []) i rest e k o =
@@ -130,7 +132,8 @@ module _ (s : List ℕ) where
       let u = drop-next i x (y ∷ (ks ++ rest)) e in
       let n : eqb (suc (length ks)) 0 ≡ false = ne-eqb (suc (length ks)) 0 (λ z. omega arith) in
       then-zero (key-code (getD s i 256) (eqb (suc (length ks)) 0)) (keys-code (suc (length ks)) s (i + 1))
-      (rw (nth s i 0 i 256 (omega arith), e, n) (key-zero x false (and-left (known x) (known y && all-known ks) k) (and-left (early x) (in-order (y ∷ ks)) o)))
+      (rw (nth s i 0 i 256 (omega arith), e, n) (key-zero x false (and-left (known x) (known y && all-known ks) k)
+      (and-left (early x) (in-order (y ∷ ks)) o)))
       (keys-zero (y ∷ ks) (i + 1) rest u (and-right (known x) (known y && all-known ks) k) (and-right (early x) (in-order (y ∷ ks)) o))
     where
       drop-next : (i x : ℕ) (l : List ℕ) → drop i s ≡ x ∷ l → drop (i + 1) s ≡ l
@@ -263,7 +266,8 @@ module _ (s : List ℕ) where
         go (x ∷ (y ∷ (z ∷ (t ∷ ks)))) e a b = absurd (omega (arith, leb→le (suc (suc (suc (suc (length ks))))) 3 b))
 
 -- the five parts of a number are seen from it
-module _ (n a b c s n′ a′ b′ c′ s′ : ℕ) (h : n < 256) (h′ : n′ < 256) (ha : a < 256) (ha′ : a′ < 256) (hb : b < 256) (hb′ : b′ < 256) (hc : c < 256)
+module _ (n a b c s n′ a′ b′ c′ s′ : ℕ) (h : n < 256) (h′ : n′ < 256) (ha : a < 256) (ha′ : a′ < 256) (hb : b < 256)
+    (hb′ : b′ < 256) (hc : c < 256)
     (hc′ : c′ < 256) where
   pub five-digits : as-word n a b c s ≡ as-word n′ a′ b′ c′ s′ → (n ≡ n′) × (a ≡ a′) × (b ≡ b′) × (c ≡ c′) × (s ≡ s′)
   five-digits e =
@@ -280,7 +284,8 @@ key-byte (k ∷ ks) t zero = omega (arith, known-range k (and-left (known k) (al
 key-byte (k ∷ ks) t (suc i) = key-byte ks (and-right (known k) (all-known ks) t) i
 
 -- lists of at most three equal keys are equal
-same-keys : (ks js : List ℕ) → length ks ≡ length js → length ks ≤ 3 → getD ks 0 0 ≡ getD js 0 0 → getD ks 1 0 ≡ getD js 1 0 → getD ks 2 0 ≡ getD js 2 0
+same-keys : (ks js : List ℕ) → length ks ≡ length js → length ks ≤ 3 → getD ks 0 0 ≡ getD js 0 0 → getD ks 1 0 ≡ getD js 1 0
+    → getD ks 2 0 ≡ getD js 2 0
     → ks ≡ js
 same-keys ks js e l p q r = ext-getD 0 ks js e at
   where

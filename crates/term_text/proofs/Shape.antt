@@ -71,7 +71,8 @@ module _ {A : Type 0} (K : Leaves A) (s : List ℕ) (m : TermKind) (Ready : Prog
   -- the bytes of the term are read as it
   abbrev pub Complete : Term A → Type 0
   Complete t =
-      (d : ℕ) (w : Progress) (cs : List PathReduction) (rest : List ℕ) → w .code ≡ 0 → Table w cs → Ready w → drop (w .at) s ≡ term-bytes m (K .bytes) t ++ rest
+      (d : ℕ) (w : Progress) (cs : List PathReduction) (rest : List ℕ) → w .code ≡ 0 → Table w cs → Ready w → drop (w .at) s
+      ≡ term-bytes m (K .bytes) t ++ rest
       → Room K d w cs t → After K m w (read m d s w) cs t
 
   -- a legal term whose bytes stand next
@@ -85,7 +86,8 @@ module _ {A : Type 0} (K : Leaves A) (s : List ℕ) (m : TermKind) (Ready : Prog
   -- the same of a leaf
   abbrev pub LeafSound : Type 0
   LeafSound =
-      (d : ℕ) (w : Progress) (cs : List PathReduction) → w .code ≡ 0 → Table w cs → Ready w → w .at < length s → w .terms < 64 → getD s (w .at) 0 ≡ leaf-tag m
+      (d : ℕ) (w : Progress) (cs : List PathReduction) → w .code ≡ 0 → Table w cs → Ready w → w .at < length s → w .terms < 64
+      → getD s (w .at) 0 ≡ leaf-tag m
       → read m (suc d) s w .code ≡ 0 → (a : A) × (rest : List ℕ) × (drop (w .at) s ≡ K .bytes a ++ rest) × Room K (suc d) w cs (leaf a)
 
 module _ {A : Type 0} (K : Leaves A) (s : List ℕ) (m : TermKind) (Ready : Progress → Type 0)
@@ -118,7 +120,8 @@ module _ {A : Type 0} (K : Leaves A) (s : List ℕ) (m : TermKind) (Ready : Prog
 
   -- an operator and its two terms
   module _ (o : ℕ) (t u : Term A) where
-    apply-read : (d : ℕ) (w : Progress) (l : List ℕ) → w .code ≡ 0 → w .terms < 64 → (1 ≤ o) → (o ≤ 11) → drop (w .at) s ≡ (literal-tag m + 1) ∷ o ∷ l
+    apply-read : (d : ℕ) (w : Progress) (l : List ℕ) → w .code ≡ 0 → w .terms < 64 → (1 ≤ o) → (o ≤ 11) → drop (w .at) s
+        ≡ (literal-tag m + 1) ∷ o ∷ l
         → read m (suc d) s w ≡ read m d s (read m d s (advanced w (w .at + 1 + 1)))
     unfolding apply-step
     apply-read d w l z h lo hi e =
@@ -127,7 +130,8 @@ module _ {A : Type 0} (K : Leaves A) (s : List ℕ) (m : TermKind) (Ready : Prog
         let next : getD s (w .at + 1) 256 ≡ o = rw (nth s (w .at) 1 (w .at + 1) 256 refl, e) refl in
         let step : term-step m (suc d) s w ≡ apply-step s w =
         step-is s m d w i h
-        ∙ rw (tag, apply-not-leaf, ne-eqb (literal-tag m + 1) (literal-tag m) (λ p. omega arith), eq-eqb (literal-tag m + 1) (literal-tag m + 1) refl) refl in
+        ∙ rw (tag, apply-not-leaf, ne-eqb (literal-tag m + 1) (literal-tag m) (λ p. omega arith), eq-eqb (literal-tag m + 1) (literal-tag m + 1) refl)
+        refl in
         let made : apply-step s w ≡ record { progress = advanced w (w .at + 1 + 1); follow = 2 } = rw (next, code-zero o 11 lo hi (omega arith)) refl in
         read-by s m d w z (record { progress = advanced w (w .at + 1 + 1); follow = 2 }) (step ∙ made)
 
@@ -197,7 +201,8 @@ module _ {A : Type 0} (K : Leaves A) (s : List ℕ) (m : TermKind) (Ready : Prog
               small : (i : ℕ) → w .at + i < length s → getD s (w .at + i) 256 < 256
               small i l = rw (getD-any s (w .at + i) 256 0 l) (bytes (w .at + i))
 
-              next : (i j : ℕ) → w .at + i < length s → w .at + i + 1 ≡ w .at + j → drop (w .at + i) s ≡ getD s (w .at + i) 256 ∷ drop (w .at + j) s
+              next : (i j : ℕ) → w .at + i < length s → w .at + i + 1 ≡ w .at + j → drop (w .at + i) s ≡ getD s (w .at + i) 256
+                  ∷ drop (w .at + j) s
               next i j l q = drop-at s (w .at + i) l ∙ ap (λ (n : ℕ). getD s (w .at + i) 256 ∷ drop n s) q
 
               there-is : w .at + 4 < length s → Found K s m Ready (suc d) w cs
@@ -216,7 +221,8 @@ module _ {A : Type 0} (K : Leaves A) (s : List ℕ) (m : TermKind) (Ready : Prog
                         ∙ ap₂ (λ (x : ℕ) (l : List ℕ). x ∷ l) (getD-any s (w .at) 256 0 h ∙ tag)
                         (next 1 2 (omega arith) (omega arith)
                         ∙ ap (λ (l : List ℕ). b1 ∷ l) (next 2 3 (omega arith) (omega arith)
-                        ∙ ap (λ (l : List ℕ). b2 ∷ l) (next 3 4 (omega arith) (omega arith) ∙ ap (λ (l : List ℕ). b3 ∷ l) (next 4 5 l (omega arith))))
+                        ∙ ap (λ (l : List ℕ). b2 ∷ l) (next 3 4 (omega arith) (omega arith)
+                        ∙ ap (λ (l : List ℕ). b3 ∷ l) (next 4 5 l (omega arith))))
                         ∙ ap (λ (l : List ℕ). l ++ drop (w .at + 5) s) (sym (four-bytes b1 b2 b3 b4 h1 h2 h3 h4))),
                     record { fine = omega arith; shallow = omega arith; terms = omega arith; paths = t .few; reductions = omega (arith, t .few-reductions) },
                   )
@@ -268,7 +274,8 @@ module _ {A : Type 0} (K : Leaves A) (s : List ℕ) (m : TermKind) (Ready : Prog
               )
 
           go : (b : Bool) → eqb (code-of (getD s (w .at + 1) 256) 11) 0 ≡ b → Found K s m Ready (suc d) w cs
-          go false p = absurd (stops s m d w z (code-of (getD s (w .at + 1) 256) 11) (eqb-false (code-of (getD s (w .at + 1) 256) 11) 0 p) (step ∙ rw p refl) e)
+          go false p = absurd (stops s m d w z (code-of (getD s (w .at + 1) 256) 11) (eqb-false (code-of (getD s (w .at + 1) 256) 11) 0 p) (step
+              ∙ rw p refl) e)
           go true p =
               let c = code-range (getD s (w .at + 1) 256) 11 (eqb-true (code-of (getD s (w .at + 1) 256) 11) 0 p) in
               let r = read-by s m d w z (record { progress = advanced w (w .at + 1 + 1); follow = 2 }) (step ∙ rw p refl) in

@@ -59,7 +59,8 @@ module _ (s : List ℕ) (m : TermKind) where
       rw (read-next m (suc d) s w (λ n. omega arith), eq-eqb (w .code) 0 z, e, p) refl
 
   -- a step that stops refuses
-  pub stops : (d : ℕ) (w : Progress) → w .code ≡ 0 → (k : ℕ) → (k ≡ 0 → ⊥) → term-step m (suc d) s w ≡ refused-step k → read m (suc d) s w .code ≡ 0 → ⊥
+  pub stops : (d : ℕ) (w : Progress) → w .code ≡ 0 → (k : ℕ) → (k ≡ 0 → ⊥) → term-step m (suc d) s w ≡ refused-step k
+      → read m (suc d) s w .code ≡ 0 → ⊥
   unfolding blank
   stops d w z k n p e = n (accepted-as (read-by d w z (refused-step k) p) e)
 

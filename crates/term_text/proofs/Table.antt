@@ -77,7 +77,8 @@ module _ (c : PathReduction) (f : PathFits 256 c) (table : List ℕ) where
 
       next : At k ds (length (pre ++ (path-number d ∷ [])) + length ds) (length (pre ++ (path-number d ∷ [])))
           → At k ds (length pre + suc (length ds)) (length pre + 1)
-      next h = subst₂ (At k ds) (let q : length (pre ++ (path-number d ∷ [])) + length ds ≡ length pre + suc (length ds) = omega (arith, longer) in q) longer h
+      next h = subst₂ (At k ds) (let q : length (pre ++ (path-number d ∷ [])) + length ds ≡ length pre + suc (length ds) = omega (arith, longer) in q)
+          longer h
 
       go : (b : Bool) → At k ds (length pre + suc (length ds)) (length pre + 1)
           → cond b (length pre) (slot-of k (length pre + suc (length ds)) table (path-number c) (length pre + 1)) ≡ length pre + cond b zero
@@ -90,7 +91,8 @@ position-none : (c : PathReduction) (cs : List PathReduction) → among c cs ≡
 position-none c [] e = refl
 position-none c (d ∷ cs) e = go (same-path c d) (position-none c cs) e
   where
-    go : (b : Bool) → (among c cs ≡ false → position c cs ≡ length cs) → (b || among c cs) ≡ false → cond b zero (suc (position c cs)) ≡ suc (length cs)
+    go : (b : Bool) → (among c cs ≡ false → position c cs ≡ length cs) → (b || among c cs) ≡ false → cond b zero (suc (position c cs))
+        ≡ suc (length cs)
     go true f e = absurd (subst T e tt)
     go false f e = ap suc (f e)
 
@@ -175,7 +177,8 @@ module _ (w : Progress) (cs : List PathReduction) (t : Table w cs) (c : PathRedu
           subst (λ (v : Progress). Put w v ds) (sym (kept-is ∙ rw (lt-leb 8 (position c cs) h) refl))
           (record { code = refl; at = refl; terms = refl; reductions = refl; table = s })
 
-      go : (b : Bool) → among c cs ≡ b → length (cond b cs (cs ++ (c ∷ []))) ≤ 8 → Put w (kept-path w (path-number c)) (cond b cs (cs ++ (c ∷ [])))
+      go : (b : Bool) → among c cs ≡ b → length (cond b cs (cs ++ (c ∷ []))) ≤ 8
+          → Put w (kept-path w (path-number c)) (cond b cs (cs ++ (c ∷ [])))
       go true e l = made cs (omega (arith, position-below c cs (T-of e))) (old e)
       go false e l =
           let n = length-append cs (c ∷ []) in

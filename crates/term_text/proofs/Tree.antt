@@ -14,7 +14,7 @@ use Rattle.terms.specs.Terms.{literal-tag}
 use Rattle.walks.specs.Lists.{All}
 use Rattle.wire.specs.Wire.{at16, at32, le16, le32}
 use Rattle.term_text.specs.Text.{path-bytes, result-bytes, vertex-bytes}
-use Rattle.term_text.specs.Tree.{Read, Reader, expression-of, index-of, path-of, reduction-of, result-of, several-of, term-of, vertex-of}
+use Rattle.term_text.specs.Tree.{Read, Reader, expression-of, written-index, written-path, reduction-of, result-of, several-of, term-of, vertex-of}
 use Rattle.term_text.proofs.Paths.{nth, source-small}
 use Rattle.term_text.proofs.Steps.{drop-on, tag-there}
 
@@ -55,7 +55,8 @@ module _ {A : Type 0} (leaf-of : Reader A) (tag d : ℕ) (s : List ℕ) (i : ℕ
   by-byte = go (eqb (getD s i 0) tag) (eqb (getD s i 0) (tag + 1))
     where
       go : (a b : Bool)
-          → elim a [ true ↦ literal-read | false ↦ elim b [ true ↦ apply-read | false ↦ leaf-read ] ] ≡ cond a literal-read (cond b apply-read leaf-read)
+          → elim a [ true ↦ literal-read | false ↦ elim b [ true ↦ apply-read | false ↦ leaf-read ] ]
+          ≡ cond a literal-read (cond b apply-read leaf-read)
       go true b = refl
       go false true = refl
       go false false = refl
@@ -64,7 +65,8 @@ module _ {A : Type 0} (leaf-of : Reader A) (tag d : ℕ) (s : List ℕ) (i : ℕ
 module _ {A : Type 0} (leaf-of : Reader A) (L : A → List ℕ) (deep : A → ℕ) (fine : A → Type 0) (tag : ℕ) (text : Term A → List ℕ)
     (leaf-text : (a : A) → text (leaf a) ≡ L a) (literal-text : (k : ℕ) → text (literal k) ≡ tag ∷ le32 k)
     (apply-text : (o : ℕ) (t u : Term A) → text (apply o t u) ≡ (tag + 1) ∷ o ∷ (text t ++ text u))
-    (first : ℕ) (tail : A → List ℕ) (tagged : (a : A) → L a ≡ first ∷ tail a) (no-literal : eqb first tag ≡ false) (no-apply : eqb first (tag + 1) ≡ false)
+    (first : ℕ) (tail : A → List ℕ) (tagged : (a : A) → L a ≡ first ∷ tail a) (no-literal : eqb first tag ≡ false)
+    (no-apply : eqb first (tag + 1) ≡ false)
     (some-depth : (a : A) → 1 ≤ deep a) (s : List ℕ) (leaf-back : (a : A) → fine a → deep a ≤ 16 → Back leaf-of L s a) where
   -- THE TERM, AND WHERE IT ENDS
   pub term-back : (t : Term A) → Every fine t → (d : ℕ) → depth deep t ≤ d → d ≤ 16 → Back (term-of leaf-of tag d) text s t
@@ -102,8 +104,8 @@ module _ {A : Type 0} (leaf-of : Reader A) (L : A → List ℕ) (deep : A → �
       ) refl
 
 -- a path reduction
-path-back : (s : List ℕ) (c : PathReduction) → PathFits 256 c → Back path-of (λ c. 0x10 ∷ path-bytes c) s c
-unfolding path-of
+path-back : (s : List ℕ) (c : PathReduction) → PathFits 256 c → Back written-path (λ c. 0x10 ∷ path-bytes c) s c
+unfolding written-path
 path-back s c f at rest e =
     let n = length (c .keys) in
     let d1 : drop (at + 2) s ≡ c .keys ++ (le16 (c .source) ++ rest) =
@@ -118,7 +120,7 @@ path-back s c f at rest e =
 pub vertex-back : (s : List ℕ) (t : VertexTerm) → Every (PathFits 256) t → depth unit t ≤ 16 → Back vertex-of vertex-bytes s t
 unfolding literal-tag
 vertex-back s t f h =
-    term-back path-of (λ c. 0x10 ∷ path-bytes c) unit (PathFits 256) 0x11 vertex-bytes (λ a. refl) (λ k. refl) (λ o t u. refl)
+    term-back written-path (λ c. 0x10 ∷ path-bytes c) unit (PathFits 256) 0x11 vertex-bytes (λ a. refl) (λ k. refl) (λ o t u. refl)
     0x10 path-bytes (λ c. refl) refl refl (λ c. omega arith) s (λ c g k. path-back s c g) t f 16 h (omega arith)
 
 -- a reduction
@@ -143,17 +145,20 @@ result-back s t f h =
     s (reduction-back s) t f 16 h (omega arith)
 
 -- AN EXPRESSION, whose leaves are indices behind the byte `first`
-pub expression-back : (first tag count : ℕ) (text : Term ℕ → List ℕ) → ((i : ℕ) → text (leaf i) ≡ first ∷ i ∷ []) → ((k : ℕ) → text (literal k) ≡ tag ∷ le32 k)
-    → ((o : ℕ) (t u : Term ℕ) → text (apply o t u) ≡ (tag + 1) ∷ o ∷ (text t ++ text u)) → eqb first tag ≡ false → eqb first (tag + 1) ≡ false
+pub expression-back : (first tag count : ℕ) (text : Term ℕ → List ℕ) → ((i : ℕ) → text (leaf i) ≡ first ∷ i ∷ [])
+    → ((k : ℕ) → text (literal k) ≡ tag ∷ le32 k)
+    → ((o : ℕ) (t u : Term ℕ) → text (apply o t u) ≡ (tag + 1) ∷ o ∷ (text t ++ text u)) → eqb first tag ≡ false → eqb first (tag + 1)
+    ≡ false
     → (s : List ℕ) (t : Term ℕ) → Every (λ i. i < count) t → depth unit t ≤ 16 → Back (expression-of tag) text s t
-unfolding index-of
+unfolding written-index
 expression-back first tag count text l k a p q s t f h =
-    term-back index-of (λ i. first ∷ i ∷ []) unit (λ i. i < count) tag text l k a first (λ i. i ∷ []) (λ i. refl) p q (λ i. omega arith)
+    term-back written-index (λ i. first ∷ i ∷ []) unit (λ i. i < count) tag text l k a first (λ i. i ∷ []) (λ i. refl) p q (λ i. omega arith)
     s (λ i g n at rest e. rw (byte-behind s at first i rest e) refl) t f 16 h (omega arith)
 
 -- SEVERAL THINGS, one behind the other, where each is given back
 pub several-back : {A : Type 0} (one : Reader A) (L : A → List ℕ) (fine : A → Type 0) (text : List A → List ℕ) → text [] ≡ []
-    → ((a : A) (l : List A) → text (a ∷ l) ≡ L a ++ text l) → (s : List ℕ) → ((a : A) → fine a → Back one L s a) → (l : List A) → All fine l
+    → ((a : A) (l : List A) → text (a ∷ l) ≡ L a ++ text l) → (s : List ℕ) → ((a : A) → fine a → Back one L s a) → (l : List A)
+    → All fine l
     → Back (several-of one (length l)) text s l
 unfolding several-of
 several-back one L fine text none more s back [] f at rest e =

@@ -102,7 +102,8 @@ vertex-split =
 pub result-split : (t u : ResultTerm) (x y : List ℕ) → Every (EveryBody (PathFits 256)) t → Every (EveryBody (PathFits 256)) u
     → result-bytes t ++ x ≡ result-bytes u ++ y → (t ≡ u) × (x ≡ y)
 unfolding literal-tag leaf-tag
-result-split = term-split OfResult (λ e. 0x20 ∷ e .reduction ∷ vertex-bytes (e .body)) (EveryBody (PathFits 256)) (λ e. e .reduction ∷ vertex-bytes (e .body))
+result-split = term-split OfResult (λ e. 0x20 ∷ e .reduction ∷ vertex-bytes (e .body)) (EveryBody (PathFits 256)) (λ e. e .reduction
+    ∷ vertex-bytes (e .body))
     (λ a. refl) reduction-split refl refl
   where
     reduction-split : (a b : VertexReduction PathReduction) (x y : List ℕ) → EveryBody (PathFits 256) a → EveryBody (PathFits 256) b

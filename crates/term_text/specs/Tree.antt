@@ -34,14 +34,14 @@ term-of leaf-of tag (suc depth) s i =
     ]
 
 -- "0x10, key count 1 to 3, the keys, a 16-bit start"
-unfoldable pub path-of : Reader PathReduction
-path-of s i =
+unfoldable pub written-path : Reader PathReduction
+written-path s i =
     let n = getD s (i + 1) 0 in
     record { tree = record { keys = take n (drop (i + 2) s); source = at16 s (i + 2 + n) }; end = i + 4 + n }
 
 -- "Place terms: ..; 0x11 and a 32-bit literal; 0x12, operator, two place terms"; "to a depth of 16"
 abbrev pub vertex-of : Reader VertexTerm
-vertex-of = term-of path-of 0x11 16
+vertex-of = term-of written-path 0x11 16
 
 -- "0x20, reduction, a place term"
 unfoldable pub reduction-of : Reader (VertexReduction PathReduction)
@@ -52,12 +52,12 @@ abbrev pub result-of : Reader ResultTerm
 result-of = term-of reduction-of 0x21 16
 
 -- "0x30 and a chain's index for a chain, 0x31 and an entry's index for a reduction"
-unfoldable pub index-of : Reader ℕ
-index-of s i = record { tree = getD s (i + 1) 0; end = i + 2 }
+unfoldable pub written-index : Reader ℕ
+written-index s i = record { tree = getD s (i + 1) 0; end = i + 2 }
 
 -- "Worksheet expressions ..; operators and literals keep their bytes": 0x11 and 0x12 in entries, 0x21 and 0x22 in the final expression
 abbrev pub expression-of : (tag : ℕ) → Reader (Term ℕ)
-expression-of tag = term-of index-of tag 16
+expression-of tag = term-of written-index tag 16
 
 -- so many things, one behind the other
 unfoldable pub several-of : {A : Type 0} → Reader A → (count : ℕ) → Reader (List A)

@@ -20,7 +20,8 @@ pub slot-next : (k paths : ℕ) (table : List ℕ) (word i : ℕ) → 0 < k
 unfolding slot-of
 slot-next zero paths table word i h = absurd (not-suc-le-zero h)
 slot-next (suc k) paths table word i h =
-    ap (λ (m : ℕ). cond (leb paths i) i (cond (eqb (getD table i 0) word) i (slot-of m paths table word (i + 1)))) (let e : k ≡ suc k - 1 = omega arith in e)
+    ap (λ (m : ℕ). cond (leb paths i) i (cond (eqb (getD table i 0) word) i (slot-of m paths table word (i + 1)))) (let e : k ≡ suc k - 1 = omega arith
+    in e)
 
 -- no depth left: the term alone
 pub read-none : (kind : TermKind) (left : ℕ) (s : List ℕ) (w : Progress) → left ≡ 0

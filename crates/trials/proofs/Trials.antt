@@ -6,7 +6,7 @@ use Rattle.query.specs.Query.{query-code, query-scan}
 use Rattle.query.specs.Tree.{query-of}
 use Rattle.plan.specs.Plan.{body-scan, plan-code, entries-scan, entry-scan, final-scan, moved, plan-scan, listed-code, listed-scan, listed-step, listed-word}
 use Rattle.fusion.specs.Fusion.{fuse-reply}
-use Rattle.term_text.specs.Tree.{path-of, reduction-of, term-of}
+use Rattle.term_text.specs.Tree.{written-path, reduction-of, term-of}
 use Rattle.wire.specs.Wire.{done}
 use Rattle.path_fields.specs.Paths.{keys-code, path-code, path-word}
 use Rattle.terms.specs.Terms.{
@@ -26,16 +26,16 @@ use Rattle.terms.specs.Terms.{
 use Rattle.progress.specs.Progress.{blank, ended, started}
 use Rattle.value.specs.declared.Value.{Value}
 use Rattle.value.specs.Value.{combine, compute}
-use Rattle.walks.specs.Keys.{row}
+use Rattle.walks.specs.Keys.{key-row}
 use Rattle.walks.specs.Rounds.{best, first, gather, marked, rounds, state}
 use Rattle.wire.specs.Header.{header-code}
 use Rattle.trials.specs.Samples.{Reading, Run, outcome-by, queries, runs, samples, plans}
-use Rattle.trials.specs.Trials.{found, said, trials}
+use Rattle.trials.specs.Trials.{finding, stated, trials}
 
 -- THE MARKED TRIALS HOLD: by pull and by push, what readers say, what fusing gives
-pub marked-trials : map found trials ≡ map said trials
-unfolding run stopped rounds first state marked gather best row query-scan header-code ended started blank read term-step leaf-step leaf-tag literal-tag
-    path-step path-code keys-code kept-path slot-of advanced path-word reduce-step fuse-reply query-of term-of path-of reduction-of compute combine
+pub marked-trials : map finding trials ≡ map stated trials
+unfolding run stopped rounds first state marked gather best key-row query-scan header-code ended started blank read term-step leaf-step leaf-tag literal-tag
+    path-step path-code keys-code kept-path slot-of advanced path-word reduce-step fuse-reply query-of term-of written-path reduction-of compute combine
 marked-trials = refl
 
 -- operators and reductions
@@ -45,13 +45,13 @@ samples-hold = refl
 
 -- runs by pull and by push
 pub runs-hold : (map (outcome-by pull) runs ≡ map (λ (s : Run). s .outcome) runs) × (map (outcome-by push) runs ≡ map (λ (s : Run). s .outcome) runs)
-unfolding run stopped rounds first state marked gather best row compute combine
+unfolding run stopped rounds first state marked gather best key-row compute combine
 runs-hold = (refl, refl)
 
 -- the numbers that readers of questions and worksheets give
 pub numbers-hold : (map (λ (r : Reading). query-code (r .bytes)) queries ≡ map (λ (r : Reading). r .number) queries)
     × (map (λ (r : Reading). plan-code (r .bytes)) plans ≡ map (λ (r : Reading). r .number) plans)
 unfolding query-scan header-code ended started blank read term-step leaf-step leaf-tag literal-tag path-step path-code keys-code kept-path slot-of advanced
-    path-word reduce-step index-step literal-step row plan-scan listed-scan listed-step listed-code listed-word body-scan moved entries-scan entry-scan
+    path-word reduce-step index-step literal-step key-row plan-scan listed-scan listed-step listed-code listed-word body-scan moved entries-scan entry-scan
     final-scan
 numbers-hold = (refl, refl)

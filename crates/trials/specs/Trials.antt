@@ -46,15 +46,15 @@ pub data Finding : Type 0 where
   fused : Reply → Expected → Expected → Finding
 
 -- WHAT IS FOUND, and what the document says
-abbrev pub found : Trial → Finding
-found (answers g q e) = ran (found-by pull g q e) (found-by push g q e)
-found (reads bs number) = read (query-code bs)
-found (fuses bs ws g e) = fused (fuse-reply bs 560) (found-by pull g (query-of bs) e) (found-by push g (query-of bs) e)
+abbrev pub finding : Trial → Finding
+finding (answers g q e) = ran (found-by pull g q e) (found-by push g q e)
+finding (reads bs number) = read (query-code bs)
+finding (fuses bs ws g e) = fused (fuse-reply bs 560) (found-by pull g (query-of bs) e) (found-by push g (query-of bs) e)
 
-abbrev pub said : Trial → Finding
-said (answers g q e) = ran e e
-said (reads bs number) = read number
-said (fuses bs ws g e) = fused (done ws) e e
+abbrev pub stated : Trial → Finding
+stated (answers g q e) = ran e e
+stated (reads bs number) = read number
+stated (fuses bs ws g e) = fused (done ws) e e
 
 abbrev graph : ℕ → List Edge → Graph
 graph n es = record { vertices = n; edges = es }

@@ -30,9 +30,9 @@ use Rattle.walked.specs.Walked.{
   last-of,
   longer,
   may-start,
-  padded,
+  three-figures,
   put-first,
-  same,
+  same-figures,
   sift,
   standing,
   unchanged,
@@ -172,7 +172,7 @@ module _ (keys best : List ℕ) (i x : ℕ) where
 
 -- the figures of the keys from i on, put behind those of the keys before
 abbrev after : List ℕ → ℕ → Option (List ℕ) → Figures
-after bs i none = padded none
+after bs i none = three-figures none
 after bs i (some xs) = record { present = true; figures = sets bs i xs }
 
 after-first : (bs : List ℕ) (i x : ℕ) (o : Option (List ℕ)) → after bs i (put-first x o) ≡ after (set bs i x) (suc i) o
@@ -218,13 +218,13 @@ goes-on keys n ws bs i = after bs i (figures (drop i (take n keys)) (sift (λ w.
 
 module _ (keys : List ℕ) (n : ℕ) (ws : List Walk) where
   -- before the first key
-  pub goes-first : n ≤ 3 → goes-on keys n ws (0 ∷ 0 ∷ 0 ∷ []) 0 ≡ padded (figures (take n keys) ws)
+  pub goes-first : n ≤ 3 → goes-on keys n ws (0 ∷ 0 ∷ 0 ∷ []) 0 ≡ three-figures (figures (take n keys) ws)
   goes-first h =
       ap (λ (l : List Walk). after (0 ∷ 0 ∷ 0 ∷ []) 0 (figures (take n keys) l)) (sift-all keys (0 ∷ 0 ∷ 0 ∷ []) ws)
       ∙ go (figures (take n keys) ws) (figures-length (take n keys) ws)
     where
       go : (o : Option (List ℕ)) → ((xs : List ℕ) → o ≡ some xs → length xs ≡ length (take n keys)) → after (0 ∷ 0 ∷ 0 ∷ []) 0 o
-          ≡ padded o
+          ≡ three-figures o
       go none f = refl
       go (some xs) f =
           let z = zero-add (length xs) in
@@ -250,7 +250,7 @@ module _ (keys : List ℕ) (n : ℕ) (ws : List Walk) where
         ∙ ap (λ (l : List Walk). after (set bs i x) (i + 1) (figures (drop (i + 1) (take n keys)) l)) (sift-next keys bs i x h ws)
 
     -- no walk is left
-    pub goes-none : best (getD keys i 0) (sift (λ w. agrees keys bs w i) ws) ≡ Absent → goes-on keys n ws bs i ≡ padded none
+    pub goes-none : best (getD keys i 0) (sift (λ w. agrees keys bs w i) ws) ≡ Absent → goes-on keys n ws bs i ≡ three-figures none
     goes-none e =
         ap (λ (l : List ℕ). after bs i (figures l (sift (λ w. agrees keys bs w i) ws))) key-first
         ∙ ap (after bs i) (figures-none (getD keys i 0) (drop (i + 1) (take n keys)) (sift (λ w. agrees keys bs w i) ws) e)
@@ -262,12 +262,12 @@ module _ (keys : List ℕ) (n : ℕ) (ws : List Walk) where
 
 -- the last figure, of the padded figures
 last-padded : (keys : List ℕ) (ws : List Walk) (n : ℕ) → length keys ≡ n → n ≤ 3
-    → cond (padded (figures keys ws) .present) (cond (ltb 0 n) (Number (getD (padded (figures keys ws) .figures) (n - 1) 0)) Absent) Absent
+    → cond (three-figures (figures keys ws) .present) (cond (ltb 0 n) (Number (getD (three-figures (figures keys ws) .figures) (n - 1) 0)) Absent) Absent
     ≡ last-of (figures keys ws)
 last-padded keys ws n l h = go (figures keys ws) (figures-length keys ws)
   where
     go : (o : Option (List ℕ)) → ((xs : List ℕ) → o ≡ some xs → length xs ≡ length keys)
-        → cond (padded o .present) (cond (ltb 0 n) (Number (getD (padded o .figures) (n - 1) 0)) Absent) Absent ≡ last-of o
+        → cond (three-figures o .present) (cond (ltb 0 n) (Number (getD (three-figures o .figures) (n - 1) 0)) Absent) Absent ≡ last-of o
     go none f = refl
     go (some []) f = let e : n ≡ 0 = omega (arith, f [] refl) in rw e
     go (some (x ∷ [])) f = let e : n ≡ 1 = omega (arith, f (x ∷ []) refl) in rw e
@@ -278,7 +278,7 @@ last-padded keys ws n l h = go (figures keys ws) (figures-length keys ws)
 module _ (rows : List ℕ) (path : PathReduction) (before : ℕ) where
   -- are the figures at v the same with one edge more?
   abbrev pub same-at : ℕ → Bool
-  same-at v = same (figures-at rows path v before) (figures-at rows path v (before + 1))
+  same-at v = same-figures (figures-at rows path v before) (figures-at rows path v (before + 1))
 
   -- with no vertex passed nothing has changed
   pub unchanged-none : unchanged rows 0 path before ≡ true
@@ -304,14 +304,14 @@ module _ (rows : List ℕ) (path : PathReduction) (before : ℕ) where
 
   -- the program asks for walks of at most 64 and 65 edges where more are asked for: no walk has more than 64
   pub same-few : (few v : ℕ) (a b : Figures) → few ≡ min before 64 → a ≡ figures-at rows path v few → b ≡ figures-at rows path v (few + 1)
-      → same a b ≡ same-at v
+      → same-figures a b ≡ same-at v
   unfolding figures-at
   same-few few v a b e p q =
       let f : min few 64 ≡ min before 64 = omega arith in
       let g : min (few + 1) 64 ≡ min (before + 1) 64 = omega arith in
       let x : a ≡ figures-at rows path v before = p ∙ rw f in
       let y : b ≡ figures-at rows path v (before + 1) = q ∙ rw g in
-      ap (λ (t : Figures). same t b) x ∙ ap (same (figures-at rows path v before)) y
+      ap (λ (t : Figures). same-figures t b) x ∙ ap (same-figures (figures-at rows path v before)) y
 
 -- a path reduction that a function is handed has room for three keys
 pub keys-fit : (path : PathReduction) (vs : List Val) → Is path-reduction.the-row path vs → length (path .keys) ≡ 3

@@ -96,13 +96,13 @@ all-figures rows path vertex most =
     figures (take (min (path .count) 3) (path .keys)) (walks-to rows (path .source) vertex most)
 
 -- the same with 0 for a key that is not there
-abbrev pub padded : Option (List ℕ) → Figures
-padded none = record { present = false; figures = 0 ∷ 0 ∷ 0 ∷ [] }
-padded (some xs) = record { present = true; figures = xs ++ drop (length xs) (0 ∷ 0 ∷ 0 ∷ []) }
+abbrev pub three-figures : Option (List ℕ) → Figures
+three-figures none = record { present = false; figures = 0 ∷ 0 ∷ 0 ∷ [] }
+three-figures (some xs) = record { present = true; figures = xs ++ drop (length xs) (0 ∷ 0 ∷ 0 ∷ []) }
 
 -- as the program returns them
 unfoldable pub figures-at : List ℕ → PathReduction → ℕ → ℕ → Figures
-figures-at rows path vertex most = padded (all-figures rows path vertex most)
+figures-at rows path vertex most = three-figures (all-figures rows path vertex most)
 
 -- "its value is the last key's. With no walk it is absent." (So it is with no key, which no legal question has.)
 abbrev pub last : List ℕ → Value
@@ -125,8 +125,8 @@ alike true b = b
 alike false b = not b
 
 -- the same figures, and a walk for both or for none
-abbrev pub same : Figures → Figures → Bool
-same a b =
+abbrev pub same-figures : Figures → Figures → Bool
+same-figures a b =
     eqb (getD (a .figures) 0 0) (getD (b .figures) 0 0)
     && eqb (getD (a .figures) 1 0) (getD (b .figures) 1 0)
     && eqb (getD (a .figures) 2 0) (getD (b .figures) 2 0)
@@ -137,4 +137,4 @@ same a b =
 unfoldable pub unchanged : List ℕ → ℕ → PathReduction → ℕ → Bool
 unchanged rows zero path before = true
 unchanged rows (suc v) path before =
-    unchanged rows v path before && same (figures-at rows path v before) (figures-at rows path v (before + 1))
+    unchanged rows v path before && same-figures (figures-at rows path v before) (figures-at rows path v (before + 1))

@@ -252,8 +252,8 @@ fn alike(a: bool, b: bool) -> bool
 }
 
 // The same figures, and a walk for both or for none.
-fn same(a: Figures, b: Figures) -> bool
-    ensures { λ r. ⌜ r ≡ spec.same a b ⌝ }
+fn same_figures(a: Figures, b: Figures) -> bool
+    ensures { λ r. ⌜ r ≡ spec.same-figures a b ⌝ }
 {
     let x = a.figures;
     let y = b.figures;
@@ -278,7 +278,7 @@ pub fn unchanged(rows: &[u16], n: u16, path: PathReduction, before: usize) -> bo
     while v < n {
         let a = figures_at(rows, path, v, few);
         let b = figures_at(rows, path, v, few + 1);
-        if same(a, b) {
+        if same_figures(a, b) {
             v += 1;
             continue;
         }

@@ -10,7 +10,7 @@ use borrow.Author.Tests.{eq-eqb, eqb-true, ltb-false, ltb-true}
 use lib.Dec.{T, eqb, leb, leb→le}
 use Rattle.value.specs.declared.Value.{Value}
 use Rattle.value.specs.declared.Value.the-variants.{Absent, Number}
-use Rattle.walks.specs.Keys.{Good, all-known, kept, known, row}
+use Rattle.walks.specs.Keys.{Good, all-known, kept, known, key-row}
 use Rattle.walks.specs.Meaning.{Figures, Keep, Listed}
 use Rattle.walks.specs.Walks.{Network, WalkSet, figure}
 use Rattle.walks.proofs.Keys.{good-anti, good-refl, good-trans}
@@ -34,7 +34,7 @@ by-key F a b c d e f (suc (suc (suc (suc (suc (suc (suc k))))))) h =
     absurd (omega (arith, leb→le m 6 (and-right (leb 1 m) (leb m 6) h)))
 
 beats-true : (k : ℕ) → T (known k) → (x y : ℕ) → beats k x y ≡ true → Good (kept k) x y
-unfolding beats row
+unfolding beats key-row
 beats-true = by-key (λ k. (x y : ℕ) → beats k x y ≡ true → Good (kept k) x y)
     (λ x y e. omega (arith, ltb-true x y e))
     (λ x y e. omega (arith, ltb-true x y e))
@@ -44,7 +44,7 @@ beats-true = by-key (λ k. (x y : ℕ) → beats k x y ≡ true → Good (kept k
     (λ x y e. omega (arith, ltb-true x y e))
 
 beats-false : (k : ℕ) → T (known k) → (x y : ℕ) → beats k x y ≡ false → Good (kept k) y x
-unfolding beats row
+unfolding beats key-row
 beats-false = by-key (λ k. (x y : ℕ) → beats k x y ≡ false → Good (kept k) y x)
     (λ x y e. ltb-false x y e)
     (λ x y e. ltb-false x y e)

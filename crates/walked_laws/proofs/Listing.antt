@@ -11,7 +11,7 @@ use borrow.Author.Tests.{eq-eqb, eqb-true}
 use lib.Dec.{T, eqb}
 use lib.ListN.{length, getD}
 use Rattle.walks.specs.declared.Measure.the-variants.{Edges, Weight, Source, Bottleneck}
-use Rattle.walks.specs.Keys.{row}
+use Rattle.walks.specs.Keys.{key-row}
 use Rattle.walks.specs.Walks.{Edge, Leads, Network, Within, along, edge, figure}
 use Rattle.walks.proofs.Pigeons.{In}
 use Rattle.walks.proofs.Tests.{T-of}
@@ -138,7 +138,7 @@ module _ (N : Network) (rows : List ℕ) (R : Rows N rows) where
   along-source s (i ∷ p) = along-source s p
 
   like : (v : ℕ) (p : List ℕ) (s : ℕ) → Leads N s p v → Like N (back rows (standing v) p) s p
-  unfolding figure-of row
+  unfolding figure-of key-row
   like v p s l =
       by-key (λ k. figure-of k (back rows (standing v) p) ≡ figure N k s p)
       (omega (arith, back-edges (standing v) p))

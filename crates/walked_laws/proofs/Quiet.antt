@@ -22,7 +22,7 @@ use Rattle.meaning.specs.Meaning.{Same}
 use Rattle.meaning.specs.Query.{network-of}
 use Rattle.walked.specs.declared.Figures.{Figures}
 use Rattle.walked.specs.declared.PathReduction.{PathReduction}
-use Rattle.walked.specs.Walked.{all-figures, alike, figures-at, padded, same, unchanged}
+use Rattle.walked.specs.Walked.{all-figures, alike, figures-at, three-figures, same-figures, unchanged}
 use Rattle.walked.proofs.Laws.{figures-length, same-at}
 use Rattle.walked_laws.proofs.Main.{numbers, query-path, walked-figures}
 
@@ -39,7 +39,7 @@ alike-self : (b : Bool) → alike b b ≡ true
 alike-self true = refl
 alike-self false = refl
 
-same-self : (f : Figures) → same f f ≡ true
+same-self : (f : Figures) → same-figures f f ≡ true
 same-self f =
     rw (
       eq-eqb (getD (f .figures) 0 0) (getD (f .figures) 0 0) refl,
@@ -48,7 +48,7 @@ same-self f =
     )
     (alike-self (f .present))
 
--- the parts of `same`
+-- the parts of `same-figures`
 module _ (a b : Figures) where
   abbrev like : ℕ → Bool
   like i = eqb (getD (a .figures) i 0) (getD (b .figures) i 0)
@@ -56,7 +56,7 @@ module _ (a b : Figures) where
   abbrev both : Bool
   both = alike (a .present) (b .present)
 
-  module _ (e : same a b ≡ true) where
+  module _ (e : same-figures a b ≡ true) where
     present-same : both ≡ true
     present-same = right-true (like 0 && like 1 && like 2) both e
 
@@ -78,10 +78,10 @@ module _ (a b : Figures) where
 -- padded figures of as many keys are the same only where the figures are
 same-padded : (n : ℕ) → n ≤ 3 → (o p : Option (List ℕ)) → ((xs : List ℕ) → o ≡ some xs → length xs ≡ n)
     → ((ys : List ℕ) → p ≡ some ys → length ys ≡ n)
-    → same (padded o) (padded p) ≡ true → o ≡ p
+    → same-figures (three-figures o) (three-figures p) ≡ true → o ≡ p
 same-padded n h none none f g e = refl
-same-padded n h none (some ys) f g e = absurd (subst T (sym (present-same (padded none) (padded (some ys)) e)) tt)
-same-padded n h (some xs) none f g e = absurd (subst T (sym (present-same (padded (some xs)) (padded none) e)) tt)
+same-padded n h none (some ys) f g e = absurd (subst T (sym (present-same (three-figures none) (three-figures (some ys)) e)) tt)
+same-padded n h (some xs) none f g e = absurd (subst T (sym (present-same (three-figures (some xs)) (three-figures none) e)) tt)
 same-padded n h (some xs) (some ys) f g e = ap some (ext-getD 0 xs ys (f xs refl ∙ sym (g ys refl)) at)
   where
     at : (i : ℕ) → i < length xs → getD xs i 0 ≡ getD ys i 0
@@ -90,7 +90,7 @@ same-padded n h (some xs) (some ys) f g e = ap some (ext-getD 0 xs ys (f xs refl
         let ly = g ys refl in
         let k : i < length ys = omega arith in
         sym (List·getD-append xs (drop (length xs) (0 ∷ 0 ∷ 0 ∷ [])) 0 i l)
-        ∙ figure-same (padded (some xs)) (padded (some ys)) e i (omega arith)
+        ∙ figure-same (three-figures (some xs)) (three-figures (some ys)) e i (omega arith)
         ∙ List·getD-append ys (drop (length ys) (0 ∷ 0 ∷ 0 ∷ [])) 0 i k
 
 module _ (rows : List ℕ) (path : PathReduction) (before : ℕ) where
@@ -118,9 +118,9 @@ module _ (g : Graph) (fits : GraphFits g) (path : PathReduction) (legal : T (leg
   at v m = all-figures (numbers (g .edges)) path v m
 
   -- the figures that the program compares
-  compared : (v : ℕ) → same-at (numbers (g .edges)) path r v ≡ same (padded (at v r)) (padded (at v (suc r)))
+  compared : (v : ℕ) → same-at (numbers (g .edges)) path r v ≡ same-figures (three-figures (at v r)) (three-figures (at v (suc r)))
   unfolding figures-at
-  compared v = ap (λ (m : ℕ). same (padded (at v r)) (padded (at v m))) (add-one r)
+  compared v = ap (λ (m : ℕ). same-figures (three-figures (at v r)) (three-figures (at v m))) (add-one r)
 
   -- what `unchanged` says is so
   pub unchanged-means : unchanged (numbers (g .edges)) (g .vertices) path r ≡ true → Same g r (query-path path)
@@ -139,4 +139,4 @@ module _ (g : Graph) (fits : GraphFits g) (path : PathReduction) (legal : T (leg
       each : (v : ℕ) → v < g .vertices → same-at (numbers (g .edges)) path r v ≡ true
       each v h =
           let q = S v h (at v (suc r)) (at v r) (walked-figures g fits path legal v (suc r) h few) (walked-figures g fits path legal v r h (omega arith)) in
-          compared v ∙ ap (λ (o : Option (List ℕ)). same (padded (at v r)) (padded o)) q ∙ same-self (padded (at v r))
+          compared v ∙ ap (λ (o : Option (List ℕ)). same-figures (three-figures (at v r)) (three-figures o)) q ∙ same-self (three-figures (at v r))

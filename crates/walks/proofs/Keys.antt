@@ -16,23 +16,23 @@ use Rattle.walks.specs.declared.Extreme.the-variants.{Greatest, Least}
 use Rattle.walks.specs.declared.KeyRow.{KeyRow}
 use Rattle.walks.specs.declared.Measure.{Measure}
 use Rattle.walks.specs.declared.Measure.the-variants.{Bottleneck, Edges, Source, Weight}
-use Rattle.walks.specs.Keys.{Good, early, good?, kept, measure, no-key, row, table}
+use Rattle.walks.specs.Keys.{Good, early, good?, kept, measure, no-key, key-row, table}
 use Rattle.walks.specs.Walks.{Edge, extend}
 use Rattle.walks.proofs.Tests.{and-left, and-right}
 
 -- the rows by index, as the program reads them
-pub row-low : (k : ℕ) → k < 1 → no-key ≡ row k
-unfolding row
+pub row-low : (k : ℕ) → k < 1 → no-key ≡ key-row k
+unfolding key-row
 row-low zero h = refl
 row-low (suc k) h = absurd (omega arith)
 
-pub row-high : (k : ℕ) → 6 < k → no-key ≡ row k
-unfolding row
+pub row-high : (k : ℕ) → 6 < k → no-key ≡ key-row k
+unfolding key-row
 row-high zero h = refl
 row-high (suc k) h = sym (List·getD-eq-default table no-key {n = k} (omega arith))
 
-pub row-at : (k : ℕ) → 1 ≤ k → getD table (k - 1) no-key ≡ row k
-unfolding row
+pub row-at : (k : ℕ) → 1 ≤ k → getD table (k - 1) no-key ≡ key-row k
+unfolding key-row
 row-at zero h = absurd (not-suc-le-zero h)
 row-at (suc k) h = ap (λ (j : ℕ). getD table j no-key) (let e : suc k - 1 ≡ k = omega arith in e)
 
@@ -46,8 +46,8 @@ every-at f [] d t k = d
 every-at f (r ∷ rs) d t zero = and-left (f r) (every f rs) t
 every-at f (r ∷ rs) d t (suc k) = every-at f rs d (and-right (f r) (every f rs) t) k
 
-each-row : (f : KeyRow → Bool) → T (f no-key) → T (every f table) → (k : ℕ) → T (f (row k))
-unfolding row
+each-row : (f : KeyRow → Bool) → T (f no-key) → T (every f table) → (k : ℕ) → T (f (key-row k))
+unfolding key-row
 each-row f d t zero = d
 each-row f d t (suc k) = every-at f table d t k
 

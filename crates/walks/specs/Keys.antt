@@ -28,9 +28,9 @@ abbrev pub no-key : KeyRow
 no-key = record { measure = Edges; kept = Least; early = false }
 
 -- the row of a key, counted from 1
-unfoldable pub row : ℕ → KeyRow
-row zero = no-key
-row (suc k) = getD table k no-key
+unfoldable pub key-row : ℕ → KeyRow
+key-row zero = no-key
+key-row (suc k) = getD table k no-key
 
 -- "9 | code | an illegal .. key ..": a key is a number of the table
 abbrev pub known : ℕ → Bool
@@ -38,13 +38,13 @@ known k = leb 1 k && leb k 6
 
 -- the columns of a key's row: "Value of a walk", "Kept", and whether it may stand before the last
 abbrev pub measure : ℕ → Measure
-measure k = row k .measure
+measure k = key-row k .measure
 
 abbrev pub kept : ℕ → Extreme
-kept k = row k .kept
+kept k = key-row k .kept
 
 abbrev pub early : ℕ → Bool
-early k = row k .early
+early k = key-row k .early
 
 -- x is at least as good as y; the same as a test
 abbrev pub Good : Extreme → ℕ → ℕ → Type 0

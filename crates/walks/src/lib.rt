@@ -1,6 +1,6 @@
 // The table of keys (document 01, "Layouts"). The theory of walks and rounds stands in specs/ and proofs/.
 ghost use mathlib.Core.Path.{_≡_};
-ghost use Rattle.walks.specs.Keys.{row, known};
+ghost use Rattle.walks.specs.Keys.{key-row, known};
 
 // The value of a walk that a key looks at.
 pub enum Measure {
@@ -79,7 +79,7 @@ pub fn known_key(key: u8) -> bool
 
 // The row of a key, counted from 1; NO_KEY for a number that is no key's.
 pub fn key_row(key: u8) -> KeyRow
-    ensures { λ r. ⌜ r ≡ row key ⌝ }
+    ensures { λ r. ⌜ r ≡ key-row key ⌝ }
 {
     let k = key as usize;
     if k < 1 {

@@ -12,7 +12,8 @@ use Rattle.cells.proofs.relax_all.Tie as tie
 
 abbrev Inv-loop : tie.InvT-loop
 Inv-loop keys graph since stamp old new₀ m changed₀ i₀ new changed i =
-    (i ≤ m) × (length new ≡ 4 * at16 graph 5) × (new ≡ relaxed-upto keys graph since stamp old i) × (changed ≡ taken-upto keys graph since stamp old i)
+    (i ≤ m) × (length new ≡ 4 * at16 graph 5) × (new ≡ relaxed-upto keys graph since stamp old i)
+    × (changed ≡ taken-upto keys graph since stamp old i)
 
 abbrev μ-loop : tie.MeasureT-loop
 μ-loop keys graph since stamp old new₀ m changed₀ i₀ new changed i = m - i

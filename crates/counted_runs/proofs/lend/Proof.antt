@@ -18,7 +18,33 @@ use ghost.Atoms.{Atoms, sem}
 use contract.Monad.{Fun, fact}
 use contract.Lifetimes.{Lfts, AllOutlive}
 use contract.Running.{givenOf, tables, tablesOf}
-use types.Kit.{Given, Item, ‵, raw, _⊛_, ⋆, some, given, later, _$_, _∵_, !, qed, by, move, keep, use1, use2, use3, split, join, pick, learn, check, rewrite}
+use types.Kit.{
+  Given,
+  Item,
+  ‵,
+  raw,
+  _⊛_,
+  ⋆,
+  some,
+  given,
+  later,
+  _$_,
+  _∵_,
+  !,
+  qed,
+  by,
+  move,
+  keep,
+  use1,
+  use2,
+  use3,
+  split,
+  join,
+  pick,
+  learn,
+  check,
+  rewrite,
+}
 use types.Kit.{fsplit, fjoin, fpick, fpack, feqL, suffices, frame, await, done}
 use types.Tokens.{lft-new, lft-end}
 use types.Run.{look, init, forget, stop, hop, fld, from, load, addr, of-opd, and-then, no-more, assigns, land, returns}
@@ -118,7 +144,8 @@ module _ {M : Type 1} (𝓤 : URA M) (H : Heap 𝓤) (A : Atoms 𝓤) (W : Given
   abbrev Lent : Lft → ℕ → Counters → GName → Item 𝓤
   Lent κ l c γ = ‵ (MutRef (named 3) κ T.the-row .own (lent-at l γ c) (vptr l 0 ∷ [])) ⊛ ‵ (flent κ (Body (mem T.the-row) l 0 γ))
 
-  lies : (l : ℕ) (c : Counters) → Is T.the-row c (val-of c ∷ []) → ent 𝓤 (H .at fullShare T′.mir l 0 (val-of c)) (sem 𝓤 H A (mem T.the-row .lies c l 0))
+  lies : (l : ℕ) (c : Counters) → Is T.the-row c (val-of c ∷ [])
+      → ent 𝓤 (H .at fullShare T′.mir l 0 (val-of c)) (sem 𝓤 H A (mem T.the-row .lies c l 0))
   unfolding partOf
   lies l c is =
       qed W (‵ (fat fullShare T′.mir l 0 (val-of c)) ∷ []) ∵
@@ -177,7 +204,8 @@ module _ {M : Type 1} (𝓤 : URA M) (H : Heap 𝓤) (A : Atoms 𝓤) (W : Given
     Tokens = ‵ (flft κ₁ (qs .0)) ⊛ ‵ (flft κ₂ (qs .1 .0)) ⊛ ‵ (flft κ₃ (qs .1 .1 .0)) ⊛ ‵ ftrue
 
     abbrev Tokens′ : ℕ → Item 𝓤
-    Tokens′ α = ‵ (flft κ₁ (qs .0)) ⊛ ‵ (flft κ₂ (qs .1 .0)) ⊛ ‵ (flft κ₃ (qs .1 .1 .0)) ⊛ ‵ (flft (α ∷ []) fullShare) ⊛ ‵ ftrue
+    Tokens′ α = ‵ (flft κ₁ (qs .0)) ⊛ ‵ (flft κ₂ (qs .1 .0)) ⊛ ‵ (flft κ₃ (qs .1 .1 .0)) ⊛ ‵ (flft (α ∷ []) fullShare) ⊛ ‵
+        ftrue
 
     abbrev Post : Val → SProp 𝓤
     Post = walkOf 𝓤 H A lend.ended stayed clauses .post ((κs, qs, bounds, args before, vals (val-of before)), tt)
@@ -231,7 +259,8 @@ module _ {M : Type 1} (𝓤 : URA M) (H : Heap 𝓤) (A : Atoms 𝓤) (W : Given
         (P.together way plan graph limit out κ₁ κ₂ κ₃ (MutRef (named 3) (α ∷ []) T.the-row) lent (vptr l 0) 𝓤 H A W) $
         move ! (1 ∷ []) $ split ! $ move ! (1 ∷ []) $ split ! $ move ! (1 ∷ []) $ split ! $ move ! (1 ∷ []) $ split ! $
         -- [κ₃; true; κ₂; κ₁; α; the parameters]
-        move ! (4 ∷ 1 ∷ []) $ join ! $ move ! (1 ∷ 0 ∷ []) $ join ! $ move ! (1 ∷ 0 ∷ []) $ join ! $ move ! (1 ∷ 0 ∷ []) $ join ! $ join ! $ frame ! $ done !
+        move ! (4 ∷ 1 ∷ []) $ join ! $ move ! (1 ∷ 0 ∷ []) $ join ! $ move ! (1 ∷ 0 ∷ []) $ join ! $ move ! (1 ∷ 0 ∷ []) $ join ! $ join ! $
+        frame ! $ done !
 
     module _ (C : Calls 𝓤 H) (Λ : Loops 𝓤 H) (fm : FmC 𝓤 H (W .laws) C) (known : Triple 𝓤 (C counted-run-def.name) Called) where
       walk : Is D.the-row way (way-val way ∷ []) → Is (ShrSlice (named 0) κ₁ u8) plan (slice plan ∷ [])
@@ -246,7 +275,8 @@ module _ {M : Type 1} (𝓤 : URA M) (H : Heap 𝓤) (A : Atoms 𝓤) (W : Given
           (P.apart way plan graph limit out κ₁ κ₂ κ₃ T.the-row before (val-of before) 𝓤 H A W) $ split ! $ move ! (2 ∷ 0 ∷ 1 ∷ []) $
           -- [Tokens; Handed; what the counters own]
           enter ! C Λ code.function passed _ $
-          alloc1 ! (λ l₀. alloc1 ! (λ l₁. alloc1 ! (λ l₂. alloc1 ! (λ l₃. alloc1 ! (λ l₄. alloc1 ! (λ l₅. alloc1 ! (λ l₆. alloc1 ! (λ l₇.
+          alloc1 ! (λ l₀.
+          alloc1 ! (λ l₁. alloc1 ! (λ l₂. alloc1 ! (λ l₃. alloc1 ! (λ l₄. alloc1 ! (λ l₅. alloc1 ! (λ l₆. alloc1 ! (λ l₇.
           alloc1 ! (λ l₈. alloc1 ! (λ l₉. alloc1 ! (λ l₁₀. alloc1 ! (λ l₁₁. alloc1 ! (λ l₁₂. alloc0 ! $ params1 ! $
           pass1 ! (init ! 22 refl (EL.lawful D.the-type D′.the-laws 𝓤 H A W tt .typed way _ way-is .0)) $
           pass1 ! (init ! 20 refl (shr-slice-lawful 𝓤 H A W (named 0) κ₁ u8 .typed plan (slice plan ∷ []) plan-is .0)) $
@@ -266,7 +296,8 @@ module _ {M : Type 1} (𝓤 : URA M) (H : Heap 𝓤) (A : Atoms 𝓤) (W : Given
           -- the local is lent, for a lifetime α
           assigns ! (addr ! (from ! (stop !))) (from ! (stop !)) (init ! 2 refl (tt, tt)) $
           move ! (10 ∷ []) $ lft-new ! tt (λ α. move ! (1 ∷ []) $
-          use1 W (later (some (λ (γ : GName). Lent 𝓤 H A W (α ∷ []) l₇ before γ))) (lends 𝓤 H A W (α ∷ []) l₇ before counters-are) $ await ! tt $ pick ! (λ γ.
+          use1 W (later (some (λ (γ : GName). Lent 𝓤 H A W (α ∷ []) l₇ before γ))) (lends 𝓤 H A W (α ∷ []) l₇ before counters-are) $
+          await ! tt $ pick ! (λ γ.
           split ! $ move ! (2 ∷ 28 ∷ []) $ join ! $ move ! (0 ∷ 28 ∷ 1 ∷ []) $
           -- [the tokens; Handed; the lent counters; the lender's part; _12; …; _8; …; what frees _7; _6; …; _0; …; what the counters own]
           use3 W (raw (Called .pre (to-call α l₇ γ))) (goes-call α l₇ γ) $
@@ -276,7 +307,8 @@ module _ {M : Type 1} (𝓤 : URA M) (H : Heap 𝓤) (A : Atoms 𝓤) (W : Given
           (and-then ! (load ! (from ! (stop !)) (look ! 6 refl)) (and-then ! (load ! (from ! (stop !)) (look ! 4 refl)) (no-more !))))))) (λ v.
           use1 W
           (later (some (λ (n : ℕ). (Tokens′ α ⊛ ‵ (u32 .own n (v ∷ [])))
-          ⊛ raw (ensured 𝓤 H A counted-run.ended (counted-run.clauses 𝓤 H A at-mem run) (κs′ α) (args (lent-at 𝓤 H A W l₇ γ before)) tt n)))) (id⊢ 𝓤 _) $
+          ⊛ raw (ensured 𝓤 H A counted-run.ended (counted-run.clauses 𝓤 H A at-mem run) (κs′ α) (args (lent-at 𝓤 H A W l₇ γ before)) tt
+          n)))) (id⊢ 𝓤 _) $
           await ! tt $ pick ! (λ n.
           -- what it ensures, at some last list of the buffer and some last counters
           split ! $ move ! (1 ∷ []) $
@@ -297,7 +329,8 @@ module _ {M : Type 1} (𝓤 : URA M) (H : Heap 𝓤) (A : Atoms 𝓤) (W : Given
           use3 W (later (‵ (mem T.the-row .lies (zs .1 .1 .1 .1 .1 .0) l₇ 0)))
           (ref-back 𝓤 H A W T.the-row (α ∷ []) γ (zs .1 .1 .1 .1 .1 .0) l₇ 0) $ await ! tt $
           use1 W
-          (given (Is T.the-row (zs .1 .1 .1 .1 .1 .0) (val-of (zs .1 .1 .1 .1 .1 .0) ∷ [])) (‵ (fat fullShare T′.mir l₇ 0 (val-of (zs .1 .1 .1 .1 .1 .0)))))
+          (given (Is T.the-row (zs .1 .1 .1 .1 .1 .0) (val-of (zs .1 .1 .1 .1 .1 .0) ∷ []))
+          (‵ (fat fullShare T′.mir l₇ 0 (val-of (zs .1 .1 .1 .1 .1 .0)))))
           (back 𝓤 H A W l₇ (zs .1 .1 .1 .1 .1 .0)) $ learn ! (λ d-is.
           -- [_7; true; κ₃; κ₂; κ₁; the number; true; the last list; true four times; _12; …; _8; …; what frees _7; _6; …; _0; …]
           assigns ! (of-opd ! (load ! (from ! (stop !)) (look ! 0 refl))) (from ! (stop !))
@@ -310,9 +343,11 @@ module _ {M : Type 1} (𝓤 : URA M) (H : Heap 𝓤) (A : Atoms 𝓤) (W : Given
           returns ! (look ! 35 refl) $
           forget ! 0 refl $ forget ! 12 refl $ forget ! 14 refl $ forget ! 16 refl $ forget ! 18 refl $ forget ! 20 refl $ forget ! 23 refl $
           forget ! 25 refl $ forget ! 27 refl $ forget ! 29 refl $ forget ! 31 refl $ forget ! 33 refl $ forget ! 35 refl $
-          move ! (35 ∷ 36 ∷ []) $ free1 ! $ move ! (33 ∷ 34 ∷ []) $ free1 ! $ move ! (31 ∷ 32 ∷ []) $ free1 ! $ move ! (29 ∷ 30 ∷ []) $ free1 ! $
+          move ! (35 ∷ 36 ∷ []) $ free1 ! $ move ! (33 ∷ 34 ∷ []) $ free1 ! $ move ! (31 ∷ 32 ∷ []) $ free1 ! $ move ! (29 ∷ 30 ∷ []) $
+          free1 ! $
           move ! (27 ∷ 28 ∷ []) $ free1 ! $ move ! (25 ∷ 26 ∷ []) $ free1 ! $ move ! (23 ∷ 24 ∷ []) $ free1 ! $ move ! (0 ∷ 22 ∷ []) $ free1 ! $
-          move ! (19 ∷ 20 ∷ []) $ free1 ! $ move ! (17 ∷ 18 ∷ []) $ free1 ! $ move ! (15 ∷ 16 ∷ []) $ free1 ! $ move ! (13 ∷ 14 ∷ []) $ free1 ! $
+          move ! (19 ∷ 20 ∷ []) $ free1 ! $ move ! (17 ∷ 18 ∷ []) $ free1 ! $ move ! (15 ∷ 16 ∷ []) $ free1 ! $ move ! (13 ∷ 14 ∷ []) $
+          free1 ! $
           move ! (11 ∷ 12 ∷ []) $ free1 ! $ free0 ! $
           keep ! (3 ∷ 2 ∷ 1 ∷ 6 ∷ []) $ by ! (exits n (zs .1 .1 .1 .1 .0) (zs .1 .1 .1 .1 .1 .0) (is .1) d-is e l)))))))))))))))))))))))
 

@@ -1,4 +1,5 @@
--- `engine::finish` meets its contract: 15 by the law that it is known before the rounds, the answer by the law of a table that holds the values. Assumes nothing.
+-- `engine::finish` meets its contract: 15 by the law that it is known before the rounds, the answer by the law of a table that holds the values. Assumes
+-- nothing.
 use Prim.Native.Nat.{ℕ, min}
 use mathlib.Core.List.{List}
 use mathlib.Core.Path.{_≡_, refl, sym, _∙_, subst}
@@ -30,7 +31,8 @@ returns c =
     let bs : Bytes (a .plan .now) = λ i. omega (arith, c .before .before .before .before .before .before .shared-slice-known .given i) in
     let bm : Bytes (a .graph .now) = λ i. omega (arith, c .before .before .before .before .before .shared-slice-known2 .given i) in
     let k = rw (c .before .before .before .vertices .ensures, c .before .before .byte .ensures) at (c .before .judge .ensures) in
-    let e = finish-judged (a .plan .now) (a .graph .now) bs bm (passed (c .before .before .before .before .before .before .before)) (a .limit) (length (a .out .now)) in
+    let e = finish-judged (a .plan .now) (a .graph .now) bs bm (passed (c .before .before .before .before .before .before .before)) (a .limit)
+    (length (a .out .now)) in
     rw (e, ← k, ne-eqb _ _ (c .if1 .taken)) (refl, refl)
 
 most-requires : tie.Need-most-requires
@@ -38,29 +40,57 @@ most-requires c κs =
     let a = c .before .before .before .before .before .before .before .before .before .args in
     let bs : Bytes (a .plan .now) = λ i. omega (arith, c .before .before .before .before .before .before .before .before .shared-slice-known .given i) in
     let bm : Bytes (a .graph .now) = λ i. omega (arith, c .before .before .before .before .before .before .before .shared-slice-known2 .given i) in
-    omega (arith, few (a .plan .now) (a .graph .now) bs bm (passed (c .before .before .before .before .before .before .before .before .before)), c .before .before .before .before .before .vertices .ensures)
+    omega (
+      arith,
+      few (a .plan .now) (a .graph .now) bs bm (passed (c .before .before .before .before .before .before .before .before .before)),
+      c .before .before .before .before .before .vertices .ensures,
+    )
 
 run-requires : tie.Need-run-requires
 run-requires c κs =
     let start = c .before .before .before .before .before .before .before .before .before .before .before in
     let a = start .args in
-    let bs : Bytes (a .plan .now) = λ i. omega (arith, c .before .before .before .before .before .before .before .before .before .before .shared-slice-known .given i) in
-    let bm : Bytes (a .graph .now) = λ i. omega (arith, c .before .before .before .before .before .before .before .before .before .shared-slice-known2 .given i) in
+    let bs : Bytes (a .plan .now) = λ i. omega (
+      arith,
+      c .before .before .before .before .before .before .before .before .before .before
+          .shared-slice-known .given i,
+    ) in
+    let bm : Bytes (a .graph .now) = λ i. omega (
+      arith,
+      c .before .before .before .before .before .before .before .before .before .shared-slice-known2
+          .given i,
+    ) in
     let there : All (PathFits (at16 (a .graph .now) 5)) (paths-in (min (a .w .paths) 8) (a .w .table)) =
     rw (start .pre .0) (sources-there (a .plan .now) (a .graph .now) bs bm (passed start)) in
     (run-graph _ _ (passed start), search needs, rw (c .before .before .before .lesser .ensures .0) there, search needs)
 
 returns-2 : tie.Need-returns-2
 returns-2 c =
-    let start = c .before .before .before .before .before .before .before .before .before .before .before .before .before .before .before .before .before .before .before .before in
+    let start = c .before .before .before .before .before .before .before .before .before .before .before .before .before .before .before .before .before
+    .before .before .before in
     let a = start .args in
     let s = a .plan .now in
     let m = a .graph .now in
-    let bs : Bytes s = λ i. omega (arith, c .before .before .before .before .before .before .before .before .before .before .before .before .before .before .before .before .before .before .before .shared-slice-known .given i) in
-    let bm : Bytes m = λ i. omega (arith, c .before .before .before .before .before .before .before .before .before .before .before .before .before .before .before .before .before .before .shared-slice-known2 .given i) in
+    let bs : Bytes s = λ i. omega (
+      arith,
+      c .before .before .before .before .before .before .before .before .before .before .before .before .before .before
+          .before .before .before .before .before .shared-slice-known .given i,
+    ) in
+    let bm : Bytes m = λ i. omega (
+      arith,
+      c .before .before .before .before .before .before .before .before .before .before .before .before .before .before
+          .before .before .before .before .shared-slice-known2 .given i,
+    ) in
     let z = passed start in
-    let told : c .before .before .before .before .reported .result ≡ reported-of (a .limit) (c .before .before .before .before .before .before .before .before .run .result) = c .before .before .before .before .reported .ensures in
-    let left = rw (c .before .before .before .before .before .before .before .before .before .before .before .before .lesser .ensures .0, c .before .before .before .before .before .before .before .before .before .before .most .ensures, c .before .before .before .before .before .before .before .before .before .before .before .before .before .before .before .before .vertices .ensures) at (c .before .before .before .before .before .before .before .before .run .ensures) in
+    let told : c .before .before .before .before .reported .result
+    ≡ reported-of (a .limit) (c .before .before .before .before .before .before .before .before .run .result) =
+    c .before .before .before .before .reported .ensures in
+    let left = rw (
+      c .before .before .before .before .before .before .before .before .before .before .before .before .lesser .ensures .0,
+      c .before .before .before .before .before .before .before .before .before .before .most .ensures,
+      c .before .before .before .before .before .before .before .before .before .before .before .before .before .before .before .before .vertices
+          .ensures,
+    ) at (c .before .before .before .before .before .before .before .before .run .ensures) in
     let done = c .before .before .before .before .before .before .before .before .run .result in
     let figures : List ℕ = c .before .before .before .before .before .before .before .before .run .last .1 .1 .1 .1 .1 .0 in
     let ran = subst (λ (w : Progress). Ran (graph-of m) (min (w .paths) 8) (w .table) (most-of (a .limit) (at16 m 5)) done figures) (start .pre .0) left in

@@ -15,7 +15,12 @@ returns-2 c = rw (eq-eqb _ _ (c .before .before .if1 .left), ← c .before .judg
 
 returns-3 : tie.Need-returns-3
 unfolding run-code
-returns-3 c = rw (eq-eqb _ _ (c .before .before .before .before .before .if1 .left), ← c .before .before .before .before .judge .ensures, eq-eqb _ _ (c .before .before .before .if2 .left), ← c .before .before .vertices .ensures) (c .sources-code .ensures)
+returns-3 c = rw (
+  eq-eqb _ _ (c .before .before .before .before .before .if1 .left),
+  ← c .before .before .before .before .judge .ensures,
+  eq-eqb _ _ (c .before .before .before .if2 .left),
+  ← c .before .before .vertices .ensures,
+) (c .sources-code .ensures)
 
 pub judge-spec : {M : Type 1} → statement M
 judge-spec =

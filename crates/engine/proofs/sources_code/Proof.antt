@@ -29,15 +29,18 @@ mul-word c = omega arith
 array-read-word : tie.Need-array-read-word Inv-loop μ-loop
 array-read-word c = omega arith
 
-whole : (c : tie.After-lesser Inv-loop μ-loop) → sources-code (c .before .args .n) (map path-of (take (c .lesser .result) (c .before .args .t1))) ≡ sources-code (c .before .args .n) (map path-of (take (c .before .args .paths) (c .before .args .t1)))
-whole c = ap (λ (l : List ℕ). sources-code (c .before .args .n) (map path-of l)) (take-least (c .before .args .paths) 8 (c .lesser .result) (c .before .args .t1) (omega arith) (c .lesser .ensures .0))
+whole : (c : tie.After-lesser Inv-loop μ-loop) → sources-code (c .before .args .n) (map path-of (take (c .lesser .result) (c .before .args .t1)))
+    ≡ sources-code (c .before .args .n) (map path-of (take (c .before .args .paths) (c .before .args .t1)))
+whole c = ap (λ (l : List ℕ). sources-code (c .before .args .n) (map path-of l))
+    (take-least (c .before .args .paths) 8 (c .lesser .result) (c .before .args .t1) (omega arith) (c .lesser .ensures .0))
 
 returns : tie.Need-returns Inv-loop μ-loop
 returns c =
     let l = c .before .before .before .loop in
     let a = c .before .before .before .before .before .args in
     let e = source-next (a .n) (a .t1) _ (l .i) (c .before .before .loop-test .taken) (omega arith) in
-    sym (sym (whole (c .before .before .before .before)) ∙ sym (l .inv .1) ∙ e ∙ rw (← c .before .outside-code .ensures, ne-eqb _ 0 (c .if1 .taken)) refl)
+    sym (sym (whole (c .before .before .before .before)) ∙ sym (l .inv .1) ∙ e
+    ∙ rw (← c .before .outside-code .ensures, ne-eqb _ 0 (c .if1 .taken)) refl)
 
 add-i : tie.Need-add-i Inv-loop μ-loop
 add-i c = omega arith

@@ -29,7 +29,8 @@ returns c =
     let a = c .before .before .before .before .before .args in
     sym (part-full (a .part) (a .table) (l .k) (written (l .list) (l .len)) _ (c .if1 .taken))
     ∙ l .inv .2
-    ∙ ap (put-part (a .part) (a .table) 0 (a .start)) (take-least (a .count) 72 _ (a .t4) (omega arith) (c .before .before .before .before .lesser .ensures .0))
+    ∙ ap (put-part (a .part) (a .table) 0 (a .start))
+    (take-least (a .count) 72 _ (a .t4) (omega arith) (c .before .before .before .before .lesser .ensures .0))
 
 mul-node : tie.Need-mul-node Inv-loop μ-loop
 mul-node c = omega arith

@@ -38,7 +38,8 @@ keys-code-requires : tie.Need-keys-code-requires
 keys-code-requires c κs = omega (arith, c .before .before .byte .ensures .1)
 
 keys-are : (c : tie.After-keys-code)
-    → let a = c .before .before .before .before .before .before .args in c .keys-code .result ≡ keys-code (getD (a .s .now) (a .at) 256) (a .s .now) (a .at + 1)
+    → let a = c .before .before .before .before .before .before .args in c .keys-code .result
+    ≡ keys-code (getD (a .s .now) (a .at) 256) (a .s .now) (a .at + 1)
 keys-are c = c .keys-code .ensures ∙ rw (c .before .before .before .byte .ensures .0) refl
 
 returns-3 : tie.Need-returns-3

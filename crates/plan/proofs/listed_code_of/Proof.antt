@@ -39,7 +39,12 @@ first-is c = c .slot-code-of .ensures ∙ rw (c .before .byte2 .ensures .0, c .b
 returns-2 : tie.Need-returns-2
 unfolding listed-code
 returns-2 c =
-    rw (← count-is (c .before .before .before .before), eq-eqb _ _ (c .before .before .before .if1 .left), ← first-is (c .before), ne-eqb _ _ (c .if2 .taken))
+    rw (
+      ← count-is (c .before .before .before .before),
+      eq-eqb _ _ (c .before .before .before .if1 .left),
+      ← first-is (c .before),
+      ne-eqb _ _ (c .if2 .taken),
+    )
 
 add-byte-2 : tie.Need-add-byte-2
 add-byte-2 c = search needs

@@ -8,7 +8,7 @@ use Rattle.draft.specs.Steps.{empty-draft, put-list}
 use Rattle.nodes.specs.Text.{nodes-text}
 use Rattle.draft.proofs.Drafts.{drafted, put-append}
 use Rattle.wire.specs.Header.{header-bytes}
-use Rattle.plan_form.specs.Form.{form-bytes, rows-text}
+use Rattle.plan_form.specs.Form.{form-bytes, all-listed-text}
 use Rattle.plan_form.proofs.draft_of.Statement.{statement}
 use Rattle.plan_form.proofs.draft_of.Tie as tie
 
@@ -40,13 +40,13 @@ made c =
       c .before .before .before .put-two .ensures,
       c .before .before .before .before .header .ensures,
     )
-    (sym (put-append (rows-text (take (f .paths) (f .table))) (f .entries ∷ nodes-text (take (f .count) (f .nodes))) start))
+    (sym (put-append (all-listed-text (take (f .paths) (f .table))) (f .entries ∷ nodes-text (take (f .count) (f .nodes))) start))
 
 returns : tie.Need-returns
 unfolding form-bytes
 returns c =
     let f = c .before .before .before .before .before .before .before .args .form in
-    let rows = rows-text (take (f .paths) (f .table)) in
+    let rows = all-listed-text (take (f .paths) (f .table)) in
     let rest = nodes-text (take (f .count) (f .nodes)) in
     drafted (form-bytes f) (omega (arith, c .put-nodes .ensures .1, c .before .before .put-rows .ensures .1, length-append rows (f .entries ∷ rest)))
     (c .put-nodes .result) (made c)

@@ -7,13 +7,13 @@ use borrow.Author.Needs.{needs}
 use lib.ListN.{take}
 use Rattle.draft.specs.Steps.{put-list}
 use Rattle.draft.proofs.Texts.{left, put-more, put-done}
-use Rattle.plan_form.specs.Form.{row-text, rows-text}
+use Rattle.plan_form.specs.Form.{listed-text, all-listed-text}
 use Rattle.plan_form.proofs.Written.{rows-short}
 use Rattle.plan_form.proofs.put_rows.Statement.{statement}
 use Rattle.plan_form.proofs.put_rows.Tie as tie
 
 abbrev Inv-loop : tie.InvT-loop
-Inv-loop paths table n r₀ i₀ r i = (i ≤ n) × (put-list r (left row-text table n i) ≡ put-list r₀ (rows-text (take n table)))
+Inv-loop paths table n r₀ i₀ r i = (i ≤ n) × (put-list r (left listed-text table n i) ≡ put-list r₀ (all-listed-text (take n table)))
 
 abbrev μ-loop : tie.MeasureT-loop
 μ-loop paths table n r₀ i₀ r i = n - i
@@ -36,13 +36,13 @@ loop-less c = omega arith
 loop-again : tie.Need-loop-again Inv-loop μ-loop
 loop-again c =
     let l = c .before .before .loop in
-    (omega arith, rw (c .put-row .ensures) (sym (put-more row-text (l .r) _ _ (l .i) 0 (c .before .loop-test .taken) (omega arith)) ∙ l .inv .1))
+    (omega arith, rw (c .put-row .ensures) (sym (put-more listed-text (l .r) _ _ (l .i) 0 (c .before .loop-test .taken) (omega arith)) ∙ l .inv .1))
 
 returns : tie.Need-returns Inv-loop μ-loop
 returns c =
     let l = c .before .loop in
     let a = c .before .before .before .args in (
-      put-done row-text (l .r) (a .t2) _ (l .i) (a .paths) 8 (a .d) (c .loop-test .left) (omega arith) (c .before .before .lesser .ensures .0) (l .inv .1),
+      put-done listed-text (l .r) (a .t2) _ (l .i) (a .paths) 8 (a .d) (c .loop-test .left) (omega arith) (c .before .before .lesser .ensures .0) (l .inv .1),
       rows-short (a .paths) (a .t2) (omega arith),
     )
 

@@ -18,7 +18,8 @@ use Rattle.rows.proofs.results_of.Tie as tie
 
 abbrev Inv-loop : tie.InvT-loop
 Inv-loop plan at figures paths n e rows₀ next₀ k₀ rows next k =
-    (k ≤ e) × (next ≤ length plan + 2048 + k) × (next ≡ entries-end k plan at) × (rows ≡ filled 8 (result-row plan (rows-at figures paths) n at) (row Absent) k)
+    (k ≤ e) × (next ≤ length plan + 2048 + k) × (next ≡ entries-end k plan at)
+    × (rows ≡ filled 8 (result-row plan (rows-at figures paths) n at) (row Absent) k)
 
 abbrev μ-loop : tie.MeasureT-loop
 μ-loop plan at figures paths n e rows₀ next₀ k₀ rows next k = e - k

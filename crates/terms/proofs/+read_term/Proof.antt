@@ -45,7 +45,11 @@ read-term-returns-2 : (t : ℕ) → read-term-lts.Need-returns-2 (
   read-term-below t,
   read-term.Post,
 ) (read-term-at t) read-term.Post
-read-term-returns-2 t c = rw (read-none _ _ _ _ (c .if2 .taken), eq-eqb _ _ (c .before .before .before .if1 .left), ← c .before .before .term-step-of .ensures)
+read-term-returns-2 t c = rw (
+  read-none _ _ _ _ (c .if2 .taken),
+  eq-eqb _ _ (c .before .before .before .if1 .left),
+  ← c .before .before .term-step-of .ensures,
+)
 
 read-term-returns-3 : (t : ℕ) → read-term-lts.Need-returns-3 (
   term-step-of-reads.Asked,

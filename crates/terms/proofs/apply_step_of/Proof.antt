@@ -34,7 +34,12 @@ advance-requires c κs = search needs
 
 returns-2 : tie.Need-returns-2
 unfolding apply-step
-returns-2 c = rw (← c .before .before .before .byte .ensures .0, ← operator-is (c .before .before), eq-eqb _ _ (c .before .if1 .left), c .advance .ensures) refl
+returns-2 c = rw (
+  ← c .before .before .before .byte .ensures .0,
+  ← operator-is (c .before .before),
+  eq-eqb _ _ (c .before .if1 .left),
+  c .advance .ensures,
+) refl
 
 pub apply-step-of-spec : {M : Type 1} → statement M
 apply-step-of-spec =

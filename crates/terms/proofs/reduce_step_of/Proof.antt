@@ -20,7 +20,8 @@ refuse-requires c κs = search needs
 
 returns : tie.Need-returns
 unfolding reduce-step
-returns c = rw (← c .before .before .before .byte .ensures .0, ← c .before .before .code-of .ensures, ne-eqb _ _ (c .before .if1 .taken)) (c .refuse .ensures)
+returns c = rw (← c .before .before .before .byte .ensures .0, ← c .before .before .code-of .ensures, ne-eqb _ _ (c .before .if1 .taken))
+    (c .refuse .ensures)
 
 refuse-requires-2 : tie.Need-refuse-requires-2
 refuse-requires-2 c κs = search needs

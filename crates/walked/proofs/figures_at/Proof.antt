@@ -5,7 +5,7 @@ use native.Mathlib.Omega.{arith}
 use borrow.Author.Needs.{needs}
 use lib.ListN.{length, take, length-set}
 use Rattle.walked.specs.declared.Walk.{Walk}
-use Rattle.walked.specs.Walked.{figures, figures-at, padded, walks-to}
+use Rattle.walked.specs.Walked.{figures, figures-at, three-figures, walks-to}
 use Rattle.walked.proofs.Laws.{found-best, goes-first, goes-last, goes-next, goes-none, goes-on, keys-fit}
 use Rattle.walked.proofs.figures_at.Statement.{statement}
 use Rattle.walked.proofs.figures_at.Tie as tie
@@ -30,7 +30,7 @@ loop-holds c =
       search needs,
       refl,
       goes-first (a .path .keys) (c .least .result) ws (omega (arith, c .least .ensures))
-          ∙ ap (λ (n : ℕ). padded (figures (take n (a .path .keys)) ws)) (c .least .ensures),
+          ∙ ap (λ (n : ℕ). three-figures (figures (take n (a .path .keys)) ws)) (c .least .ensures),
     )
 
 standing-requires : tie.Need-standing-requires Inv-loop μ-loop

@@ -30,8 +30,8 @@ add-figures-at c = search needs
 figures-at-requires-2 : tie.Need-figures-at-requires-2 Inv-loop μ-loop
 figures-at-requires-2 c κs = search needs
 
-same-requires : tie.Need-same-requires Inv-loop μ-loop
-same-requires c κs = search needs
+same-figures-requires : tie.Need-same-figures-requires Inv-loop μ-loop
+same-figures-requires c κs = search needs
 
 add-v : tie.Need-add-v Inv-loop μ-loop
 add-v c = search needs
@@ -45,8 +45,11 @@ loop-again c =
     let v = c .before .before .before .before .before .loop .v in
     let e = same-few (a .rows .now) (a .path) (a .before) (c .before .before .before .before .before .before .least .result) v _ _
     (c .before .before .before .before .before .before .least .ensures) (c .before .before .before .figures-at .ensures)
-    (c .before .before .figures-at2 .ensures) in
-    (search needs, unchanged-next _ _ _ v (c .before .before .before .before .before .loop .inv .1) (sym (c .before .same .ensures ∙ e) ∙ c .if1 .taken))
+    (c .before .before .figures-at2 .ensures) in (
+      search needs,
+      unchanged-next _ _ _ v (c .before .before .before .before .before .loop .inv .1) (sym (c .before .same-figures .ensures ∙ e)
+          ∙ c .if1 .taken),
+    )
 
 returns : tie.Need-returns Inv-loop μ-loop
 returns c =
@@ -55,7 +58,7 @@ returns c =
     let e = same-few (a .rows .now) (a .path) (a .before) (c .before .before .before .before .before .before .least .result) v _ _
     (c .before .before .before .before .before .before .least .ensures) (c .before .before .before .figures-at .ensures)
     (c .before .before .figures-at2 .ensures) in
-    sym (unchanged-not (a .rows .now) (a .path) (a .before) v (a .n) (omega arith) (sym (c .before .same .ensures ∙ e) ∙ c .if1 .left))
+    sym (unchanged-not (a .rows .now) (a .path) (a .before) v (a .n) (omega arith) (sym (c .before .same-figures .ensures ∙ e) ∙ c .if1 .left))
 
 returns-2 : tie.Need-returns-2 Inv-loop μ-loop
 returns-2 c =
@@ -74,7 +77,7 @@ unchanged-spec =
     figures-at-requires
     add-figures-at
     figures-at-requires-2
-    same-requires
+    same-figures-requires
     add-v
     loop-less
     loop-again

@@ -1,8 +1,8 @@
--- `walked::same` meets its contract. Assumes nothing.
+-- `walked::same_figures` meets its contract. Assumes nothing.
 use borrow.Author.Needs.{needs}
 use borrow.Author.Tests.{eq-eqb, ne-eqb}
-use Rattle.walked.proofs.same.Statement.{statement}
-use Rattle.walked.proofs.same.Tie as tie
+use Rattle.walked.proofs.same_figures.Statement.{statement}
+use Rattle.walked.proofs.same_figures.Tie as tie
 
 returns : tie.Need-returns
 returns c = rw (ne-eqb _ _ (c .if1 .taken))
@@ -17,8 +17,8 @@ returns-4 : tie.Need-returns-4
 returns-4 c = rw (eq-eqb _ _ (c .before .before .before .if1 .left), eq-eqb _ _ (c .before .before .if2 .left), eq-eqb _ _ (c .before .if3 .left))
     (c .alike .ensures)
 
-pub same-spec : {M : Type 1} → statement M
-same-spec =
+pub same-figures-spec : {M : Type 1} → statement M
+same-figures-spec =
     tie.close
     (tie.spec
     (λ c. search needs)

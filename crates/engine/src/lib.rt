@@ -86,7 +86,7 @@ fn reported(limit: Limit, done: u16) -> u16
 {
     match limit {
         Limit::Quiet => done,
-        Limit::Rounds(r) => r,
+        Limit::Rounds(given) => given,
     }
 }
 

@@ -17,8 +17,8 @@ key-text n j b = cond (ltb j n) (b ∷ []) []
 unfoldable pub path-text : ℕ → List ℕ
 path-text w =
     w % 256
-    ∷ (key-text (w % 256) 0 (w / 256 % 256) ++ (key-text (w % 256) 1 (w / 65536 % 256)
-    ++ (key-text (w % 256) 2 (w / 16777216 % 256) ++ le16 (w / 4294967296))))
+    ∷ (key-text (w % 256) 0 (w / 256 % 256)
+    ++ (key-text (w % 256) 1 (w / 65536 % 256) ++ (key-text (w % 256) 2 (w / 16777216 % 256) ++ le16 (w / 4294967296))))
 
 -- the bytes of a term without those that it contains: "0x10, key count 1 to 3, the keys, a 16-bit start ..; 0x11 and a 32-bit literal; 0x12, operator, ..",
 -- "0x20, reduction, ..; 0x21 and a 32-bit literal; 0x22, operator, ..", "0x30 and a chain's index for a chain, 0x31 and an entry's index for a reduction"; "e

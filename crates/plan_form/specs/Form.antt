@@ -53,8 +53,9 @@ all-listed-text = texts listed-text
 
 -- THE BYTES OF A TYPED FORM, legal or not: "kind byte; chain count c (0 to 8) and c chains of 6 bytes ..; entry count e; e entries ..; .. a final expression"
 unfoldable pub form-bytes : Form → List ℕ
-form-bytes f = header-bytes 0x57 ++ (f .kind ∷ f .paths
-    ∷ (all-listed-text (take (f .paths) (f .table)) ++ (f .entries ∷ nodes-text (take (f .count) (f .nodes)))))
+form-bytes f =
+    header-bytes 0x57
+    ++ (f .kind ∷ f .paths ∷ (all-listed-text (take (f .paths) (f .table)) ++ (f .entries ∷ nodes-text (take (f .count) (f .nodes)))))
 
 -- "A writer judges what it is handed as the reader of its bytes would, then 15"
 unfoldable pub write-reply : Form → ℕ → Reply

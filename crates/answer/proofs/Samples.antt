@@ -1,6 +1,5 @@
 -- Answers byte by byte, written by hand from document 01: that of its first trial ("keys 2 from 0: 0, 5, 2, 5; rounds 3"); one row, absent; a number of 64
--- bits, 256
--- vertices and 512 rounds.
+-- bits, 256 vertices and 512 rounds.
 use mathlib.Core.Path.{_≡_, refl}
 use mathlib.Core.List.{[], _∷_}
 use Rattle.answer.specs.Answer.{answer-bytes, rows-bytes}

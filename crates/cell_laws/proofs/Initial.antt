@@ -27,7 +27,7 @@ use Rattle.cells.specs.declared.Cell.{Cell}
 use Rattle.cells.specs.declared.PathKeys.{PathKeys}
 use Rattle.cell_laws.specs.Steps.{figures-at, stamp-at}
 use Rattle.cell_laws.proofs.Cells.{Keys3, figures-here, figures-other, put-other, rows3, stamp-here}
-use Rattle.cell_laws.proofs.Pad.{initial-pad}
+use Rattle.cell_laws.proofs.Tripled.{initial-tripled}
 use Rattle.cell_laws.proofs.Path.{Given, Shows, path-few}
 use Rattle.cell_laws.proofs.Words.{word-keys, word-rows, word-source}
 
@@ -144,7 +144,7 @@ module _ (s : List ℕ) (w : ℕ) (g : Given s w) (l : List ℕ) (long : length 
       ∙ cell-initial (key1 w) (key2 w) (key3 w) (c .source) v
       ∙ ap (λ (b : Bool). initial b (Keys3 (key1 w) (key2 w) (key3 w)) v) (starts-is n (c .source) v h)
       ∙ ap (λ (ks : List ℕ). initial (begins v) ks v) (word-keys w (g .fits .0))
-      ∙ sym (initial-pad (begins v) (c .keys) (path-few s w g) v)
+      ∙ sym (initial-tripled (begins v) (c .keys) (path-few s w g) v)
 
   initial-stamp : (v : ℕ) → v < n → stamp-at Cells v ≡ cond (begins v) 1 0
   initial-stamp v h =

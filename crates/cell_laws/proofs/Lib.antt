@@ -1,5 +1,5 @@
 pub mod Order
-pub mod Pad
+pub mod Tripled
 pub mod Cells
 pub mod Edges
 pub mod Words

@@ -33,7 +33,7 @@ use Rattle.cells.specs.Table.{Below, any-vertex, triple, tripled, path-of}
 use Rattle.cell_laws.specs.Steps.{figures-at, numbers-at, stamp-at}
 use Rattle.cell_laws.proofs.Cells.{absent, present, rows3}
 use Rattle.cell_laws.proofs.Edges.{Gathered, Live, Mark, Setting, holds, long-upto, marks, moved, still}
-use Rattle.cell_laws.proofs.Pad.{Few, Sized, gather-pad, gather-sized, padded-same}
+use Rattle.cell_laws.proofs.Tripled.{Few, Sized, gather-tripled, gather-sized, tripled-same}
 use Rattle.cell_laws.proofs.Words.{few-keys, word-keys, word-rows}
 
 -- ---- tests
@@ -263,10 +263,10 @@ module _ (s : List ℕ) (w : ℕ) where
         next v k =
             ap (λ (js : List ℕ). gather N js live (figures-at l) v m) (word-keys w (g .fits .0))
             ∙ gather-same N (triple ks) live (figures-at l) (λ u. tripled (S u)) (x .figures) v k m (λ i j t. from-there i j)
-            ∙ sym (gather-pad N ks path-few live S sized v m)
+            ∙ sym (gather-tripled N ks path-few live S sized v m)
 
         same-again : (v : ℕ) → v < n → Gathered N s n m since (r + 2) l k1 k2 k3 v m ≡ figures-at l v → Next v ≡ S v
-        same-again v k e = padded-same ks path-few (Next v) (S v) (gather-sized N ks path-few live S sized v m) (sized v) (sym (next v k) ∙ e
+        same-again v k e = tripled-same ks path-few (Next v) (S v) (gather-sized N ks path-few live S sized v m) (sized v) (sym (next v k) ∙ e
             ∙ x .figures v k)
 
         differs : (v : ℕ) → v < n → (Gathered N s n m since (r + 2) l k1 k2 k3 v m ≡ figures-at l v → ⊥) → Next v ≡ S v → ⊥

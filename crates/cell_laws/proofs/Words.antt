@@ -12,7 +12,7 @@ use Rattle.walks.proofs.Tests.{and-left, and-right}
 use Rattle.cells.specs.Steps.{key1, key2, key3, keys-of, source-of}
 use Rattle.cells.specs.Table.{triple, path-of}
 use Rattle.cell_laws.proofs.Cells.{Keys3, rows3}
-use Rattle.cell_laws.proofs.Pad.{Few}
+use Rattle.cell_laws.proofs.Tripled.{Few}
 
 legal-length : (ks : List ℕ) → T (legal-keys ks) → T (leb 1 (length ks)) × T (leb (length ks) 3)
 legal-length ks t =

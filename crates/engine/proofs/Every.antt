@@ -122,9 +122,8 @@ module _ (g : Graph) (legal : GraphLegal g) (p : Plan) (plan-legal : PlanLegal (
 pub legal-there : (m : ℕ) (p : Plan) → PlanLegal 256 p → All (PathFits m) (p .paths) → PlanLegal m p
 legal-there m p l f = record { few-paths = l .few-paths; paths-legal = f; body-legal = l .body-legal; few-terms = l .few-terms }
 
--- DEMANDS 2 AND 3 OVER EVERY ANSWERED RUN: for all bytes and any buffer, whatever the call (`engine::pull`, `push`, the exported `run`, a counted run):
--- where its number
--- is under 65,536, the buffer has the answer of the worksheet's own outcome
+-- DEMANDS 2 AND 3 OVER EVERY ANSWERED RUN: for all bytes and any buffer, whatever the call (`engine::pull`, `push`, the exported `run`, a counted run): where
+-- its number is under 65,536, the buffer has the answer of the worksheet's own outcome
 pub every-run : (limit : Limit) → Sixteen limit → (s m : List ℕ) → Bytes s → Bytes m → (before after : List ℕ) (number : ℕ)
     → Returned (run-reply limit s m (length before)) number before after → number < 65536 → RunAnswers limit s m before after number
 every-run limit h s m bs bm before after number returned answered =

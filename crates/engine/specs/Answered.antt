@@ -18,16 +18,14 @@ use Rattle.engine.specs.declared.Limit.{Limit}
 use Rattle.engine.specs.declared.Limit.the-variants.{Quiet, Rounds}
 
 -- "the buffer begins with the answer in document 01's layout, .. the rest of the buffer is untouched": the bytes of an outcome on n vertices, and read back
--- they say
--- that outcome, so that no row and no count was cut to the width of its field
+-- they say that outcome, so that no row and no count was cut to the width of its field
 pub record AnswerIn (n kind : ℕ) (o : Outcome) (number : ℕ) (before after : List ℕ) : Type 0 where
   pub bytes : after ≡ encode n kind o ++ drop number before
   pub size : number ≡ answer-size n kind
   pub says : decode (take number after) ≡ record { vertices = n; kind = kind; outcome = o }
 
--- "in every answered run the rounds reported are the smallest count ≥ 1 whose last round changed no figure of any chain of the worksheet, never more than
--- 2 × n"; a run
--- for a given number "reports that number and answers from the values reached". The rows are the worksheet's expressions
+-- "in every answered run the rounds reported are the smallest count ≥ 1 whose last round changed no figure of any chain of the worksheet, never more than 2
+-- × n"; a run for a given number "reports that number and answers from the values reached". The rows are the worksheet's expressions
 abbrev pub PlanCorrect : Limit → Graph → Plan → Outcome → Type 0
 PlanCorrect Quiet g p o = PlanRows (PathMeans g) (g .vertices) p (o .rows) × Smallest g (p .paths) (o .rounds) × (o .rounds ≤ 2 * g .vertices)
 PlanCorrect (Rounds r) g p o = PlanRows (PathWithin g r) (g .vertices) p (o .rows) × (o .rounds ≡ r)

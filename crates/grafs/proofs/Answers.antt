@@ -1,6 +1,6 @@
 -- DEMAND 3 WHOLE, AND DEMAND 2 OVER QUERIES, over what the public functions return: a query fused, its plan run by pull or by push, is answered by its
--- unfused meaning
--- over all walks and by the smallest count of rounds, at most 2n; stopped after r rounds, by its meaning over walks of at most r edges. Assumes nothing.
+-- unfused meaning over all walks and by the smallest count of rounds, at most 2n; stopped after r rounds, by its meaning over walks of at most r edges.
+-- Assumes nothing.
 use Prim.Native.Nat.{ℕ, _≤_, _<_}
 use mathlib.Core.Path.{_≡_, refl, sym, ap, _∙_, subst}
 use mathlib.Core.List.{List, _++_}
@@ -47,8 +47,7 @@ query-correct g legal q starts Quiet = pull-correct g (legal .fits) q starts
 query-correct g legal q starts (Rounds r) = (pull-within g (legal .fits) q starts r, refl)
 
 -- FOR ALL BYTES s, m and any buffers: where the map is accepted and has each source that the query names, `fuse` answered (its number is under 65,536), and
--- the answer
--- fits its buffer, the run answers the query that the bytes s write
+-- the answer fits its buffer, the run answers the query that the bytes s write
 pub answers : (limit : Limit) → Sixteen limit → (s m : List ℕ) → Bytes s → Bytes m → graph-code m ≡ 0 → QueryFits (graph-of m) (query-of s)
     → (plan-before plan-after : List ℕ) (fused : ℕ) (before after : List ℕ) (number : ℕ)
     → Called limit s m plan-before plan-after fused before after number

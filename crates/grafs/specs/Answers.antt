@@ -26,8 +26,7 @@ pub record Called (limit : Limit) (query-bytes graph-bytes plan-before plan-afte
   pub run-call : Returned (run-reply limit (take fused plan-after) graph-bytes (length before)) number before after
 
 -- "With no number of rounds given, pull and push answer exactly the question's unfused value over all walks" and the smallest count (`Correct`); stopped
--- after r rounds,
--- "the value over the walks of no more passages than rounds done", and r is reported
+-- after r rounds, "the value over the walks of no more passages than rounds done", and r is reported
 abbrev pub QueryCorrect : Limit → Graph → Query → Outcome → Type 0
 QueryCorrect Quiet g q o = Correct g q o
 QueryCorrect (Rounds r) g q o = UnfusedWithin g r q (o .rows) × (o .rounds ≡ r)

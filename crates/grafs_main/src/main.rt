@@ -1,8 +1,6 @@
-// The program (document 01): "reads `question.lpq` and `map.lpm` (an unreadable file counts as no bytes), judges the question first, runs by pull and
-// prints a rounds
-// line, then place and value lines with `-` for absent; for kind 1 `result` and the value in their stead; or `refused` and the number alone. One space
-// parts the
-// fields and a line feed ends each line."
+// The program (document 01): "reads `question.lpq` and `map.lpm` (an unreadable file counts as no bytes), judges the question first, runs by pull and prints
+// a rounds line, then place and value lines with `-` for absent; for kind 1 `result` and the value in their stead; or `refused` and the number alone. One
+// space parts the fields and a line feed ends each line."
 use engine::Limit;
 use value::Value;
 ghost use mathlib.Core.Path.{_≡_};

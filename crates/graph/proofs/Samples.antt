@@ -33,8 +33,7 @@ abbrev row : ℕ → ℕ → ℕ → ℕ → List ℕ
 row from to low high = from ∷ 0 ∷ to ∷ 0 ∷ 0 ∷ 0 ∷ low ∷ high ∷ []
 
 -- 4: no vertex, 257 vertices, before 5; 5: 1,025 edges, before 6; 6: a byte too few, too many; 7: to is n; 8: capacities 0 and 65,535, not 65,534; 256
--- vertices; from
--- before capacity; the first row first; 1: eight bytes; 2; 3
+-- vertices; from before capacity; the first row first; 1: eight bytes; 2; 3
 pub graph-numbers : map graph-code
     (headed 0 0 255 255 [] ∷ headed 1 1 255 255 [] ∷ headed 1 0 1 4 [] ∷ headed 2 0 1 0 [] ∷ headed 2 0 0 0 (0 ∷ []) ∷ headed 2 0 1 0 (row 0 2 1 0)
     ∷ headed 2 0 1 0 (row 0 1 0 0) ∷ headed 2 0 1 0 (row 0 1 255 255) ∷ headed 2 0 1 0 (row 0 1 254 255) ∷ headed 0 1 1 0 (row 255 255 1 0)

@@ -8,8 +8,7 @@ use Rattle.walks.specs.Rounds.{same-list}
 use Rattle.meaning.specs.Query.{PathReduction, Query, Term, VertexReduction, apply, each, leaf, leaves, literal, single, written-paths}
 
 -- the expressions of a plan. Kind 0: one entry with no reduction, over the indices of path reductions (0x30). Kind 1: entries with their reductions, and a
--- final
--- expression over the indices of entries (0x31)
+-- final expression over the indices of entries (0x31)
 pub data Body : Type 0 where
   each-vertex : Term ℕ → Body
   one-result : List (VertexReduction ℕ) → Term ℕ → Body

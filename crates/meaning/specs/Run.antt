@@ -67,9 +67,8 @@ run-rounds W n p = rounds n (map W (p .paths))
 abbrev pub values-at : Way → List PathReduction → ℕ → ℕ → List Value
 values-at W cs r v = map (λ c. value (W c r v)) cs
 
--- "Each run can also be stopped after a given 16-bit number of rounds, 0 allowed; it then does that many, quiet or not, reports that number and answers
--- from the
--- values reached."
+-- "Each run can also be stopped after a given 16-bit number of rounds, 0 allowed; it then does that many, quiet or not, reports that number and answers from
+-- the values reached."
 unfoldable pub stopped : Way → ℕ → Plan → ℕ → Outcome
 stopped W n p r = record { rounds = r; rows = body-rows (p .body) (values-at W (p .paths) r) n }
 

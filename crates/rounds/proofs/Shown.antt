@@ -15,7 +15,7 @@ use Rattle.graph.proofs.Accepted.{accepted}
 use Rattle.cells.specs.Table.{Below, Sound, cell-in, changed-in, figures-in, figures-of, tripled, path-of}
 use Rattle.cell_laws.specs.Steps.{figures-at, stamp-at}
 use Rattle.cell_laws.proofs.Initial.{initial-shows}
-use Rattle.cell_laws.proofs.Pad.{Sized, cell-cut, cell-sized, cut, cut-pad, gather-sized, initial-sized}
+use Rattle.cell_laws.proofs.Tripled.{Sized, cell-cut, cell-sized, cut, cut-tripled, gather-sized, initial-sized}
 use Rattle.cell_laws.proofs.Path.{Given, Shows, Stepped, any-same, path-few, pull-steps-to, push-steps-to}
 use Rattle.rounds.specs.Run.{Begun, Round, pulled, pushed-from}
 use Rattle.rounds.specs.Steps.{initialized-at, part, step-takes, stepped, width, with-part}
@@ -66,7 +66,7 @@ module _ (s : List ℕ) (w : ℕ) (g : Given s w) (j : ℕ) (h : j < 8) where
     put-shown v k =
         cell-cut (length (c .keys)) (cell-in new j v)
         ∙ ap (cut (length (c .keys))) (three-shown v k)
-        ∙ cut-pad (c .keys) (path-few s w g) (S v) (sized v)
+        ∙ cut-tripled (c .keys) (path-few s w g) (S v) (sized v)
 
     put-stamp : (v : ℕ) → v < n → cell-in new j v .stamp ≡ stamp-at p v
     put-stamp v k = stamp-part s new j h few new-long v k ∙ ap (λ (q : List ℕ). stamp-at q v) here

@@ -14,7 +14,7 @@ use Rattle.walks.specs.Meaning.{value}
 use Rattle.meaning.specs.Query.{PathReduction}
 use Rattle.cells.specs.Table.{Sound, cell-in, figures-in, figures-of}
 use Rattle.cells.specs.declared.Cell.{Cell}
-use Rattle.cell_laws.proofs.Pad.{cell-sized, value-pad}
+use Rattle.cell_laws.proofs.Tripled.{cell-sized, value-tripled}
 use Rattle.cell_laws.proofs.Words.{few-keys}
 use Rattle.rounds.specs.Steps.{value-in}
 
@@ -39,4 +39,4 @@ unfolding figures-in
 value-shown n few c t r l j h x v k =
     read-third l j v h (omega arith) (x .long)
     ∙ ap value (x .cells v k .again)
-    ∙ value-pad (c .keys) (few-keys (c .keys) t) (figures-of (length (c .keys)) (cell-in l j v)) (cell-sized (c .keys) (few-keys (c .keys) t) (cell-in l j v))
+    ∙ value-tripled (c .keys) (few-keys (c .keys) t) (figures-of (length (c .keys)) (cell-in l j v)) (cell-sized (c .keys) (few-keys (c .keys) t) (cell-in l j v))

@@ -18,8 +18,8 @@ pub struct Row {
     pub value: Value,
 }
 
-// What a reduction has met so far: no number yet, or the value of those met. A sum too large is
-// Reached(Absent), and stays so, since an operator with an absent operand gives absent.
+// What a reduction has met so far: no number yet, or the value of those met. A sum too large is Reached(Absent), and stays so, since an operator with an
+// absent operand gives absent.
 pub enum Partial {
     Empty,
     Reached(Value),

@@ -1,6 +1,5 @@
 -- The figures of a path reduction (document 01: chain), by listing all walks of at most so many edges (document 01, "Meaning"). `rows` are the numbers of a
--- map's
--- rows, four a row: from, to, seconds, crate size; 0 past their end, and a row that is not whole is none.
+-- map's rows, four a row: from, to, seconds, crate size; 0 past their end, and a row that is not whole is none.
 use Prim.Native.Nat.{ℕ, zero, suc, _+_, _*_, _/_, min}
 use mathlib.Core.Bool.{Bool, true, false, cond, not, _&&_, _||_}
 use mathlib.Core.List.{List, [], _∷_, _++_, foldl}
@@ -42,8 +41,7 @@ walks rows zero w = w ∷ []
 walks rows (suc left) w = w ∷ with-edge rows (walks rows left) w (length rows / 4)
 
 -- "Value of a walk" in the table of keys: 1 passages walked, 2 seconds added up, 3 and 4 starting place, 5 and 6 smallest crate size. (A number that is no
--- key's
--- is as 6.)
+-- key's is as 6.)
 unfoldable pub figure-of : ℕ → Walk → ℕ
 figure-of key w =
     cond (eqb key 1) (w .edges)

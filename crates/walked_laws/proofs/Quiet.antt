@@ -1,6 +1,5 @@
--- "each figure of [a] chain at each place is the same over walks of at most r passages as over walks of at most r − 1": what `unchanged` of crate
--- `walked` tests, for
--- r up to 64. Assumes nothing.
+-- "each figure of [a] chain at each place is the same over walks of at most r passages as over walks of at most r − 1": what `unchanged` of crate `walked`
+-- tests, for r up to 64. Assumes nothing.
 use Prim.Native.Nat.{ℕ, zero, suc, _<_, _≤_, min}
 use mathlib.Core.Path.{_≡_, refl, sym, ap, _∙_, subst}
 use mathlib.Core.Bool.{Bool, true, false, _&&_}

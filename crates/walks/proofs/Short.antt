@@ -1,6 +1,5 @@
--- Every walk is matched by a short one. `erase`: a walk that visits no vertex twice, at least as good by every key but the least bottleneck. `short`: a
--- walk of fewer than
--- 2n edges, at least as good by every key: the parts before and after the narrowest edge are shortened each by itself. Assumes nothing.
+-- Every walk is matched by a short one. `erase`: a walk that visits no vertex twice, at least as good by every key but the least bottleneck. `short`: a walk
+-- of fewer than 2n edges, at least as good by every key: the parts before and after the narrowest edge are shortened each by itself. Assumes nothing.
 use Prim.Native.Nat.{ℕ, suc, _*_, _≤_, _<_, min}
 use mathlib.Core.Path.{_≡_, refl, sym, ap, subst}
 use mathlib.Core.Logic.{inl, inr}

@@ -29,8 +29,7 @@ abbrev pub edge-at : List Edge → ℕ → Edge
 edge-at es i = getD es i (edge 0 0 0 0)
 
 -- a graph as the walks of a path reduction see it: how many vertices and edges, each edge by its row number, the edges that a walk may take, the vertices
--- that it may
--- start at
+-- that it may start at
 pub record Network : Type 0 where
   pub vertices : ℕ
   pub edges : ℕ
@@ -49,8 +48,8 @@ network g usable source = record {
 }
 
 -- "A walk is a run of passages, each starting where the one before ended; places may recur. The walk of no passages exists at each place." A walk is the
--- vertex s
--- that it starts at and the list w of its edges, THE LAST FIRST, each by its row number: equal rows are different edges. It leads to v over usable edges:
+-- vertex s that it starts at and the list w of its edges, THE LAST FIRST, each by its row number: equal rows are different edges. It leads to v over usable
+-- edges:
 abbrev pub Leads : Network → ℕ → List ℕ → ℕ → Type 0
 Leads N s [] v = s ≡ v
 Leads N s (i ∷ w) v = (i < N .edges) × T (N .usable i) × (N .edge i .to ≡ v) × Leads N s w (N .edge i .from)

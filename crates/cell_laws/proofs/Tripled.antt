@@ -111,13 +111,13 @@ through-sized ks e none s = tt
 through-sized ks e (some xs) s = extend-length ks e xs s
 
 -- initial values
-pub initial-pad : (b : Bool) (ks : List ℕ) → Few ks → (v : ℕ) → tripled (initial b ks v) ≡ initial b (triple ks) v
-initial-pad false ks f v = refl
-initial-pad true [] f v = absurd f
-initial-pad true (k ∷ []) f v = refl
-initial-pad true (k ∷ (j ∷ [])) f v = refl
-initial-pad true (k ∷ (j ∷ (i ∷ []))) f v = refl
-initial-pad true (k ∷ (j ∷ (i ∷ (h ∷ ks)))) f v = absurd f
+pub initial-tripled : (b : Bool) (ks : List ℕ) → Few ks → (v : ℕ) → tripled (initial b ks v) ≡ initial b (triple ks) v
+initial-tripled false ks f v = refl
+initial-tripled true [] f v = absurd f
+initial-tripled true (k ∷ []) f v = refl
+initial-tripled true (k ∷ (j ∷ [])) f v = refl
+initial-tripled true (k ∷ (j ∷ (i ∷ []))) f v = refl
+initial-tripled true (k ∷ (j ∷ (i ∷ (h ∷ ks)))) f v = absurd f
 
 bases-length : (ks : List ℕ) (v : ℕ) → length (bases ks v) ≡ length ks
 bases-length [] v = refl
@@ -132,13 +132,13 @@ abbrev pub cut : ℕ → Option (List ℕ) → Option (List ℕ)
 cut k none = none
 cut k (some xs) = some (take k xs)
 
-pub cut-pad : (ks : List ℕ) → Few ks → (o : Option (List ℕ)) → Sized ks o → cut (length ks) (tripled o) ≡ o
-cut-pad ks f none s = refl
-cut-pad [] f (some xs) s = absurd f
-cut-pad (k ∷ []) f (some xs) s = rw (one xs s)
-cut-pad (k ∷ (j ∷ [])) f (some xs) s = rw (two xs s)
-cut-pad (k ∷ (j ∷ (i ∷ []))) f (some xs) s = rw (three xs s)
-cut-pad (k ∷ (j ∷ (i ∷ (h ∷ ks)))) f (some xs) s = absurd f
+pub cut-tripled : (ks : List ℕ) → Few ks → (o : Option (List ℕ)) → Sized ks o → cut (length ks) (tripled o) ≡ o
+cut-tripled ks f none s = refl
+cut-tripled [] f (some xs) s = absurd f
+cut-tripled (k ∷ []) f (some xs) s = rw (one xs s)
+cut-tripled (k ∷ (j ∷ [])) f (some xs) s = rw (two xs s)
+cut-tripled (k ∷ (j ∷ (i ∷ []))) f (some xs) s = rw (three xs s)
+cut-tripled (k ∷ (j ∷ (i ∷ (h ∷ ks)))) f (some xs) s = absurd f
 
 -- as many figures as there are keys
 cut-length : (ks : List ℕ) → Few ks → (a b d : ℕ) → length (take (length ks) (a ∷ b ∷ d ∷ [])) ≡ length ks
@@ -178,20 +178,20 @@ pad-same (k ∷ (j ∷ (i ∷ []))) xs ys f e g p = three xs e ∙ (rw (three xs
 pad-same (k ∷ (j ∷ (i ∷ (h ∷ ks)))) xs ys f e g p = absurd f
 
 -- THE SAME PADDED, THE SAME
-pub padded-same : (ks : List ℕ) → Few ks → (a b : Option (List ℕ)) → Sized ks a → Sized ks b → tripled a ≡ tripled b → a ≡ b
-padded-same ks f none none s t p = refl
-padded-same ks f none (some ys) s t p = absurd (let z : _≡_ {A = ℕ} 0 1 = cc in omega arith)
-padded-same ks f (some xs) none s t p = absurd (let z : _≡_ {A = ℕ} 0 1 = cc in omega arith)
-padded-same ks f (some xs) (some ys) s t p = ap some (pad-same ks xs ys f s t (cc))
+pub tripled-same : (ks : List ℕ) → Few ks → (a b : Option (List ℕ)) → Sized ks a → Sized ks b → tripled a ≡ tripled b → a ≡ b
+tripled-same ks f none none s t p = refl
+tripled-same ks f none (some ys) s t p = absurd (let z : _≡_ {A = ℕ} 0 1 = cc in omega arith)
+tripled-same ks f (some xs) none s t p = absurd (let z : _≡_ {A = ℕ} 0 1 = cc in omega arith)
+tripled-same ks f (some xs) (some ys) s t p = ap some (pad-same ks xs ys f s t (cc))
 
 -- the last figure is the value
-pub value-pad : (ks : List ℕ) → Few ks → (o : Option (List ℕ)) → Sized ks o → value (tripled o) ≡ value o
-value-pad ks f none s = refl
-value-pad [] f (some xs) s = absurd f
-value-pad (k ∷ []) f (some xs) s = rw (one xs s)
-value-pad (k ∷ (j ∷ [])) f (some xs) s = rw (two xs s)
-value-pad (k ∷ (j ∷ (i ∷ []))) f (some xs) s = rw (three xs s)
-value-pad (k ∷ (j ∷ (i ∷ (h ∷ ks)))) f (some xs) s = absurd f
+pub value-tripled : (ks : List ℕ) → Few ks → (o : Option (List ℕ)) → Sized ks o → value (tripled o) ≡ value o
+value-tripled ks f none s = refl
+value-tripled [] f (some xs) s = absurd f
+value-tripled (k ∷ []) f (some xs) s = rw (one xs s)
+value-tripled (k ∷ (j ∷ [])) f (some xs) s = rw (two xs s)
+value-tripled (k ∷ (j ∷ (i ∷ []))) f (some xs) s = rw (three xs s)
+value-tripled (k ∷ (j ∷ (i ∷ (h ∷ ks)))) f (some xs) s = absurd f
 
 -- a round edge by edge
 module _ (N : Network) (ks : List ℕ) (f : Few ks) (live : ℕ → Bool) (S : State) (sized : (u : ℕ) → Sized ks (S u)) where
@@ -210,9 +210,9 @@ module _ (N : Network) (ks : List ℕ) (f : Few ks) (live : ℕ → Bool) (S : S
   gather-sized v (suc i) = best-sized ks (gather N ks live S v i) _ (gather-sized v i) (brings-sized (live i && eqb (N .edge i .to) v) (N .edge i))
 
   -- WHAT IS GATHERED WITH PADDED KEYS IS WHAT IS GATHERED, PADDED
-  pub gather-pad : (v i : ℕ) → tripled (gather N ks live S v i) ≡ gather N (triple ks) live (λ u. tripled (S u)) v i
+  pub gather-tripled : (v i : ℕ) → tripled (gather N ks live S v i) ≡ gather N (triple ks) live (λ u. tripled (S u)) v i
   unfolding gather
-  gather-pad v zero = refl
-  gather-pad v (suc i) =
+  gather-tripled v zero = refl
+  gather-tripled v (suc i) =
       best-pad ks f (gather N ks live S v i) _ (gather-sized v i) (brings-sized (live i && eqb (N .edge i .to) v) (N .edge i))
-      ∙ ap₂ (best (triple ks)) (gather-pad v i) (brings-pad (live i && eqb (N .edge i .to) v) (N .edge i))
+      ∙ ap₂ (best (triple ks)) (gather-tripled v i) (brings-pad (live i && eqb (N .edge i .to) v) (N .edge i))

@@ -1,5 +1,5 @@
--- One path reduction's part of the table, as the program goes: initial values, and a round edge by edge. Nothing to believe: `initial-shows` and `round-steps`
--- (cell_laws) say what it is in the words of the theory.
+-- One path reduction's part of the table, as the program goes: initial values, and a round edge by edge. Nothing to believe: `initial-shows`,
+-- `pull-steps-to` and `push-steps-to` (cell_laws) say what it is in the words of the theory.
 use Prim.Native.Nat.{ℕ, zero, suc, _+_, _*_, _/_, _%_, min}
 use mathlib.Core.Bool.{Bool, true, false, cond, _||_}
 use mathlib.Core.List.{List, [], _∷_}

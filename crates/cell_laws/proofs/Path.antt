@@ -19,6 +19,7 @@ use Rattle.walks.specs.declared.Measure.{Measure}
 use Rattle.walks.specs.declared.Measure.the-variants.{Bottleneck, Edges, Source, Weight}
 use Rattle.walks.proofs.Quiet.{gather-same}
 use Rattle.walks.proofs.Same.{same-eq, same-of}
+use Rattle.walks.proofs.Steps.{gather-live}
 use Rattle.walks.proofs.Tests.{le-step}
 use Rattle.meaning.specs.Limits.{GraphLegal, PathFits}
 use Rattle.meaning.specs.Query.{network-of}
@@ -68,11 +69,11 @@ any-same (suc n) f g h = rw (h n (omega arith), any-same n f g (λ v k. h v (ome
 
 -- ---- bounds of figures
 
-all-pad : (P : ℕ → Type 0) (xs : List ℕ) → All P xs → All P (triple xs)
-all-pad P [] h = tt
-all-pad P (x ∷ []) h = (h .0, (h .0, (h .0, tt)))
-all-pad P (x ∷ (y ∷ [])) h = (h .0, (h .1 .0, (h .1 .0, tt)))
-all-pad P (x ∷ (y ∷ (z ∷ l))) h = (h .0, (h .1 .0, (h .1 .1 .0, tt)))
+all-tripled : (P : ℕ → Type 0) (xs : List ℕ) → All P xs → All P (triple xs)
+all-tripled P [] h = tt
+all-tripled P (x ∷ []) h = (h .0, (h .0, (h .0, tt)))
+all-tripled P (x ∷ (y ∷ [])) h = (h .0, (h .1 .0, (h .1 .0, tt)))
+all-tripled P (x ∷ (y ∷ (z ∷ l))) h = (h .0, (h .1 .0, (h .1 .1 .0, tt)))
 
 all-le : (a b : ℕ) → a ≤ b → (xs : List ℕ) → All (λ x. x ≤ a) xs → All (λ x. x ≤ b) xs
 all-le a b h [] f = tt
@@ -125,9 +126,9 @@ below-gathered b n N ks live S f v h (suc i) g =
 
 -- ---- edges from absent vertices bring nothing
 
-reached-padded : (o : Option (List ℕ)) → reached (tripled o) ≡ reached o
-reached-padded none = refl
-reached-padded (some xs) = refl
+reached-tripled : (o : Option (List ℕ)) → reached (tripled o) ≡ reached o
+reached-tripled none = refl
+reached-tripled (some xs) = refl
 
 brings-reached : (ks : List ℕ) (e : Edge) (S : State) (q b : Bool) → b ≡ reached (S (e .from)) → brings (b && q) ks e S ≡ brings q ks e S
 brings-reached ks e S true b p = go (S (e .from)) refl
@@ -147,13 +148,6 @@ gather-reached N ks live S v (suc i) f =
     let h = gather-reached N ks live S v i (λ j l. f j (le-step l)) in
     let e = brings-reached ks (N .edge i) S (eqb (N .edge i .to) v) (live i) (f i (omega arith)) in
     rw (h, e)
-
--- by another test that agrees
-gather-live : (N : Network) (ks : List ℕ) (live live′ : ℕ → Bool) (S : State) (v m : ℕ) → ((i : ℕ) → i < m → live i ≡ live′ i)
-    → gather N ks live S v m ≡ gather N ks live′ S v m
-unfolding gather
-gather-live N ks live live′ S v zero f = refl
-gather-live N ks live live′ S v (suc i) f = rw (gather-live N ks live live′ S v i (λ j h. f j (le-step h)), f i (omega arith))
 
 -- ---- a path reduction on an accepted graph
 
@@ -229,7 +223,7 @@ module _ (s : List ℕ) (w : ℕ) where
               let a : some (numbers-at l u) ≡ some (triple xs) = sym (present l u p) ∙ x .figures u k ∙ ap tripled e in
               let b : numbers-at l u ≡ triple xs = cc in
               subst (All (λ y. y ≤ 4294901760)) (sym b)
-              (all-pad (λ y. y ≤ 4294901760) xs (all-le (65535 * suc r) 4294901760 (omega arith) xs f))
+              (all-tripled (λ y. y ≤ 4294901760) xs (all-le (65535 * suc r) 4294901760 (omega arith) xs f))
 
       -- by the edges from vertices stamped since a round
       module _ (since : ℕ) (b : 1 ≤ since) where
@@ -331,11 +325,11 @@ module _ (s : List ℕ) (w : ℕ) where
       pull-steps-to = rw (word-rows w) (steps-as 1 (omega arith) (λ v. gather N ks (N .usable) S v (N .edges)) theory)
         where
           there : (u : ℕ) → u < n → (t : Bool) → leb 1 (stamp-at l u) ≡ t → t ≡ reached (S u)
-          there u k true p = sym (sym (reached-padded (S u)) ∙ ap reached (sym (x .figures u k) ∙ present l u (leb-true 1 (stamp-at l u) p)))
+          there u k true p = sym (sym (reached-tripled (S u)) ∙ ap reached (sym (x .figures u k) ∙ present l u (leb-true 1 (stamp-at l u) p)))
           there u k false p =
               let q = leb-false 1 (stamp-at l u) p in
               let z : stamp-at l u ≡ 0 = omega arith in
-              sym (sym (reached-padded (S u)) ∙ ap reached (sym (x .figures u k) ∙ absent l u z))
+              sym (sym (reached-tripled (S u)) ∙ ap reached (sym (x .figures u k) ∙ absent l u z))
 
           theory : (v : ℕ) → v < n → Next 1 (omega arith) v ≡ gather N ks (N .usable) S v (N .edges)
           theory v k =

@@ -1,5 +1,5 @@
--- What the cells of a path reduction's part of the table say: a vertex is absent where the stamp is 0, else it has the figures of three keys. Nothing
--- to believe: `figures-part` and `stamp-part` (rounds/proofs/Tables) say that it is what the table shows (cells/specs/Table).
+-- What the cells of a path reduction's part of the table say: a vertex is absent where the stamp is 0, else it has the figures of three keys. Nothing to
+-- believe: `figures-part` and `stamp-part` (rounds/proofs/Tables) say that it is what the table shows (cells/specs/Table).
 use Prim.Native.Nat.{ℕ, _+_, _*_}
 use mathlib.Core.Bool.{cond}
 use mathlib.Core.List.{List, [], _∷_}

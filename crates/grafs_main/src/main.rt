@@ -123,7 +123,7 @@ fn answer(query: &[u8], graph: &[u8]) {
     run(&plan[..len], graph);
 }
 
-// A longer file is answered as its first bytes are (crate first_bytes, `long-question` and `long-map`):
+// A longer file is answered as its first bytes are (crate first_bytes, `long-query` and `long-graph`):
 // - a question as 455 of them or more. Of 64 terms, at most 7 bytes each behind the first 6, nothing lies past 454; what stands there is refused for being
 // there, as a
 //   65th term (12) or as left over (6), if nothing before it is refused.

@@ -19,7 +19,7 @@ use Rattle.wire.specs.Wire.{Bytes, at16, le16}
 use Rattle.plan.specs.Plan.{plan-code}
 use Rattle.plan.specs.Text.{body-bytes, encode, entries-bytes, kind-of, listed-bytes, all-listed-bytes}
 use Rattle.plan.specs.Tree.{body-of, entry-of, listed-path, plan-of}
-use Rattle.plan.proofs.Exact.{read-sound}
+use Rattle.plan.proofs.Exact.{read-complete, read-sound}
 
 -- a path reduction: of its three key bytes as many are keys as it has
 path-back : (s : List ℕ) (c : PathReduction) → PathFits 256 c → Back listed-path listed-bytes s c
@@ -83,6 +83,10 @@ plan-back p l =
     (path-back s) (p .paths) (l .paths-legal) 7 (body-bytes (p .body)) refl in
     let d = drop-on s 7 n (all-listed-bytes (p .paths)) (body-bytes (p .body)) refl refl in
     rw (a, body-back (length (p .paths)) s (p .body) (l .body-legal) (7 + n) d) refl
+
+-- THE READER ACCEPTS EVERY LEGAL PLAN'S BYTES
+pub plan-accepted : (p : Plan) → PlanLegal 256 p → plan-code (encode p) ≡ 0
+plan-accepted p l = read-complete p l .accepted
 
 -- WHAT ACCEPTED BYTES GIVE IS LEGAL, AND THEY ARE ITS ENCODING
 pub plan-read : (s : List ℕ) → Bytes s → plan-code s ≡ 0 → PlanLegal 256 (plan-of s) × (encode (plan-of s) ≡ s)

@@ -10,7 +10,7 @@ use Rattle.term_text.proofs.Tree.{result-back, vertex-back}
 use Rattle.wire.specs.Wire.{Bytes}
 use Rattle.query.specs.Query.{encode, query-code}
 use Rattle.query.specs.Tree.{query-of}
-use Rattle.query.proofs.Exact.{read-sound}
+use Rattle.query.proofs.Exact.{read-complete, read-sound}
 
 -- THE QUERY IS GIVEN BACK
 pub query-back : (q : Query) → QueryLegal 256 q → query-of (encode q) ≡ q
@@ -19,6 +19,10 @@ query-back (each t) l =
     ap (λ (r : Read VertexTerm). each (r .tree)) (vertex-back (encode (each t)) t (l .legal) (l .shallow) 6 [] (sym (append-nil (vertex-bytes t))))
 query-back (single t) l =
     ap (λ (r : Read ResultTerm). single (r .tree)) (result-back (encode (single t)) t (l .legal) (l .shallow) 6 [] (sym (append-nil (result-bytes t))))
+
+-- THE READER ACCEPTS EVERY LEGAL QUERY'S BYTES
+pub query-accepted : (q : Query) → QueryLegal 256 q → query-code (encode q) ≡ 0
+query-accepted q l = read-complete q l .accepted
 
 -- WHAT ACCEPTED BYTES GIVE IS LEGAL, AND THEY ARE ITS ENCODING
 pub query-read : (s : List ℕ) → Bytes s → query-code s ≡ 0 → QueryLegal 256 (query-of s) × (encode (query-of s) ≡ s)

@@ -39,4 +39,5 @@ unfolding figures-in
 value-shown n few c t r l j h x v k =
     read-third l j v h (omega arith) (x .long)
     ∙ ap value (x .cells v k .again)
-    ∙ value-tripled (c .keys) (few-keys (c .keys) t) (figures-of (length (c .keys)) (cell-in l j v)) (cell-sized (c .keys) (few-keys (c .keys) t) (cell-in l j v))
+    ∙ value-tripled (c .keys) (few-keys (c .keys) t) (figures-of (length (c .keys)) (cell-in l j v))
+    (cell-sized (c .keys) (few-keys (c .keys) t) (cell-in l j v))

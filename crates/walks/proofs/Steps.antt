@@ -14,7 +14,7 @@ use Rattle.walks.proofs.Quiet.{gather-same}
 use Rattle.walks.proofs.Tests.{and-left, le-step}
 
 -- by another test that agrees
-gather-live : (N : Network) (ks : List ℕ) (live live′ : ℕ → Bool) (S : State) (v m : ℕ) → ((i : ℕ) → i < m → live i ≡ live′ i)
+pub gather-live : (N : Network) (ks : List ℕ) (live live′ : ℕ → Bool) (S : State) (v m : ℕ) → ((i : ℕ) → i < m → live i ≡ live′ i)
     → gather N ks live S v m ≡ gather N ks live′ S v m
 unfolding gather
 gather-live N ks live live′ S v zero f = refl

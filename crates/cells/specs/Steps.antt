@@ -1,6 +1,7 @@
 -- One path reduction's part of the table, as the program goes: initial values, and a round edge by edge. Nothing to believe: `initial-shows`,
 -- `pull-steps-to` and `push-steps-to` (cell_laws) say what it is in the words of the theory.
 use Prim.Native.Nat.{ℕ, zero, suc, _+_, _*_, _/_, _%_, min}
+use mathlib.Core.Path.{_≡_}
 use mathlib.Core.Bool.{Bool, true, false, cond, _||_}
 use mathlib.Core.List.{List, [], _∷_}
 use lib.Dec.{ltb, eqb}
@@ -12,6 +13,7 @@ use Rattle.walks.specs.declared.KeyRow.{KeyRow}
 use Rattle.walks.specs.Keys.{key-row}
 use Rattle.walks.specs.Walks.{Edge, base, edge, extend}
 use Rattle.graph.specs.Graph.{edge-in}
+use Rattle.wire.specs.Wire.{at16}
 use Rattle.cells.specs.declared.Cell.{Cell}
 use Rattle.cells.specs.declared.PathKeys.{PathKeys}
 
@@ -105,3 +107,10 @@ unfoldable pub taken-upto : PathKeys → List ℕ → ℕ → ℕ → List ℕ �
 taken-upto ks s since stamp old zero = false
 taken-upto ks s since stamp old (suc i) =
     taken-upto ks s since stamp old i || taken ks (edge-in s i) since old (relaxed-upto ks s since stamp old i)
+
+-- what walking one edge leaves in the cells, and what it says; what all edges leave
+abbrev pub Relaxed : PathKeys → Edge → ℕ → ℕ → List ℕ → List ℕ → Bool → List ℕ → Type 0
+Relaxed ks e since stamp old before says after = (says ≡ taken ks e since old before) × (after ≡ relaxed ks e since stamp old before)
+
+abbrev pub RelaxedAll : PathKeys → List ℕ → ℕ → ℕ → List ℕ → Bool → List ℕ → Type 0
+RelaxedAll ks s since stamp old says after = (says ≡ taken-upto ks s since stamp old (at16 s 7)) × (after ≡ relaxed-upto ks s since stamp old (at16 s 7))

@@ -14,7 +14,7 @@ ghost use Rattle.walks.specs.Walks.{base};
 ghost use Rattle.wire.specs.Wire.{at16};
 ghost use Rattle.graph.specs.Graph.{graph-code, edge-in};
 ghost use Rattle.cells.specs.Steps.{ahead, key-or-before, keys-of, source-of, starts-here, initial-cell, numbers, initialized};
-ghost use Rattle.cells.specs.Steps.{onward, through, displaces, taken, relaxed, relaxed-upto, taken-upto};
+ghost use Rattle.cells.specs.Steps.{onward, through, displaces, Relaxed, RelaxedAll};
 
 // The keys of a path reduction by their rows.
 pub struct PathKeys {
@@ -299,10 +299,7 @@ fn relax(
         (graph-code (now graph) ≡ 0) × (i < at16 (now graph) 7)
         × (length (now old) ≡ 4 * at16 (now graph) 5) × (length (now new) ≡ 4 * at16 (now graph) 5)
         ⌝ }
-    ensures { λ r. ⌜
-        (r ≡ taken keys (edge-in (now (graph .entry)) i) since (now (old .entry)) (now (new .entry)))
-        × (now (new .exit) ≡ relaxed keys (edge-in (now (graph .entry)) i) since stamp (now (old .entry)) (now (new .entry)))
-        ⌝ }
+    ensures { λ r. ⌜ Relaxed keys (edge-in (now (graph .entry)) i) since stamp (now (old .entry)) (now (new .entry)) r (now (new .exit)) ⌝ }
 {
     let f = 4 * from_at(graph, i);
     if old[f + 3] < since {
@@ -329,10 +326,7 @@ fn relax_all(
     new: &mut [u32],
 ) -> bool
     requires { ⌜ (graph-code (now graph) ≡ 0) × (length (now old) ≡ 4 * at16 (now graph) 5) × (now new ≡ now old) ⌝ }
-    ensures { λ r. ⌜
-        (r ≡ taken-upto keys (now (graph .entry)) since stamp (now (old .entry)) (at16 (now (graph .entry)) 7))
-        × (now (new .exit) ≡ relaxed-upto keys (now (graph .entry)) since stamp (now (old .entry)) (at16 (now (graph .entry)) 7))
-        ⌝ }
+    ensures { λ r. ⌜ RelaxedAll keys (now (graph .entry)) since stamp (now (old .entry)) r (now (new .exit)) ⌝ }
 {
     let m = read16(graph, 7);
     let mut changed = false;
@@ -370,9 +364,7 @@ fn step_from(
         (graph-code (now graph) ≡ 0) × (length (now part) ≡ 4 * at16 (now graph) 5) × (length (now before) ≡ 4 * at16 (now graph) 5)
         ⌝ }
     ensures { λ r. ⌜
-        (r ≡ taken-upto (keys-of word) (now (graph .entry)) since stamp (now (part .entry)) (at16 (now (graph .entry)) 7))
-        × (now (part .exit) ≡ relaxed-upto (keys-of word) (now (graph .entry)) since stamp (now (part .entry)) (at16 (now (graph .entry)) 7))
-        × (now (before .exit) ≡ now (part .entry))
+        RelaxedAll (keys-of word) (now (graph .entry)) since stamp (now (part .entry)) r (now (part .exit)) × (now (before .exit) ≡ now (part .entry))
         ⌝ }
 {
     let keys = path_keys(word);
@@ -383,10 +375,7 @@ fn step_from(
 // The same with room of its own for the figures of the round before.
 pub fn step(word: u64, graph: &[u8], since: u32, stamp: u32, part: &mut [u32]) -> bool
     requires { ⌜ (graph-code (now graph) ≡ 0) × (length (now part) ≡ 4 * at16 (now graph) 5) ⌝ }
-    ensures { λ r. ⌜
-        (r ≡ taken-upto (keys-of word) (now (graph .entry)) since stamp (now (part .entry)) (at16 (now (graph .entry)) 7))
-        × (now (part .exit) ≡ relaxed-upto (keys-of word) (now (graph .entry)) since stamp (now (part .entry)) (at16 (now (graph .entry)) 7))
-        ⌝ }
+    ensures { λ r. ⌜ RelaxedAll (keys-of word) (now (graph .entry)) since stamp (now (part .entry)) r (now (part .exit)) ⌝ }
 {
     let mut room = [0u32; 1024];
     let w = part.len();

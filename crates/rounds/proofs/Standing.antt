@@ -22,7 +22,7 @@ use Rattle.wire.specs.Wire.{at16}
 use Rattle.graph.specs.Graph.{graph-of}
 use Rattle.cells.specs.Table.{Sound, any-vertex, cell-in, changed-in, figures-in, figures-of, path-of}
 use Rattle.cell_laws.proofs.Path.{Given, T-true, any-same, below-more, path-network, path-ordered}
-use Rattle.rounds.specs.Run.{Begun, Others, Round, Stands, Turned, pulled, pushed-from}
+use Rattle.rounds.specs.Run.{Advanced, Begun, Others, PullRound, PushRound, Round, Stands, Turned, pulled, pushed-from}
 
 -- a sound table stays so with a later round
 sound-later : (n : ℕ) (c : PathReduction) (r : ℕ) (l : List ℕ) (j : ℕ) → Sound n c r l j → Sound n c (suc r) l j
@@ -125,19 +125,14 @@ module _ (s : List ℕ) (w : ℕ) (g : Given s w) (j : ℕ) where
 
     -- BY PULL
     pub pull-stands : (l′ : List ℕ) (b : Bool)
-        → Round (graph-of s) (path-of w) r j (pulled (network-of (graph-of s) (path-of w)) (path-of w .keys) (figures-in (path-of w) l j)) l l′ b
-        → Stands (graph-of s) (path-of w) (suc r) j 0 l′ × (b ≡ not (unchanged (pull (graph-of s) (path-of w)) r (at16 s 5)))
-        × Others (at16 s 5) j l l′
+        → PullRound (graph-of s) (path-of w) r j l l′ b → Advanced (graph-of s) (path-of w) r j l l′ b
     pull-stands l′ b y =
         let t = pull-steps N (c .keys) (path-network s w g) r S (x .figures) in
         (next-stands (pulled N (c .keys) S) t l′ b y, next-changed (pulled N (c .keys) S) t l′ b y, y .others)
 
     -- BY PUSH
     pub push-stands : (l′ : List ℕ) (b : Bool)
-        → Round (graph-of s) (path-of w) r j
-        (pushed-from (network-of (graph-of s) (path-of w)) (path-of w .keys) (figures-in (path-of w) l j) (changed-in r l j)) l l′ b
-        → Stands (graph-of s) (path-of w) (suc r) j 0 l′ × (b ≡ not (unchanged (pull (graph-of s) (path-of w)) r (at16 s 5)))
-        × Others (at16 s 5) j l l′
+        → PushRound (graph-of s) (path-of w) r j l l′ b → Advanced (graph-of s) (path-of w) r j l l′ b
     push-stands l′ b y =
         let t =
         push-steps N (c .keys) (path-network s w g) r S (x .figures) (path-ordered s w g) (changed-in r l j)

@@ -40,12 +40,27 @@ pub record Round (g : Graph) (c : PathReduction) (r j : ℕ) (next : State) (old
   pub others : Others (g .vertices) j old new
   pub sound : Sound (g .vertices) c (suc r) new j
 
+-- A PULL ROUND, AND A PUSH ROUND: of any figures, and of any marks
+abbrev pub PullRound : Graph → PathReduction → ℕ → ℕ → List ℕ → List ℕ → Bool → Type 0
+PullRound g c r j old new says = Round g c r j (pulled (network-of g c) (c .keys) (figures-in c old j)) old new says
+
+abbrev pub PushRound : Graph → PathReduction → ℕ → ℕ → List ℕ → List ℕ → Bool → Type 0
+PushRound g c r j old new says = Round g c r j (pushed-from (network-of g c) (c .keys) (figures-in c old j) (changed-in r old j)) old new says
+
 -- the path reduction c with index j AFTER r ROUNDS. It may rest (flag 1) where the round after r changes nothing; then it is no longer marked
 pub record Stands (g : Graph) (c : PathReduction) (r j flag : ℕ) (l : List ℕ) : Type 0 where
   pub figures : (v : ℕ) → v < g .vertices → figures-in c l j v ≡ pull g c r v
   pub marks : (flag ≡ 1 → ⊥) → (v : ℕ) → v < g .vertices → changed-in r l j v ≡ marked (network-of g c) (c .keys) r .changed v
   pub rests : flag ≡ 1 → T (unchanged (pull g c) r (g .vertices))
   pub sound : Sound (g .vertices) c r l j
+
+-- one that does not rest goes on by a round, and says whether any vertex changed
+abbrev pub Advanced : Graph → PathReduction → ℕ → ℕ → List ℕ → List ℕ → Bool → Type 0
+Advanced g c r j old new says = Stands g c (suc r) j 0 new × (says ≡ not (unchanged (pull g c) r (g .vertices))) × Others (g .vertices) j old new
+
+-- before its turn, among the flags `rest` of all
+abbrev pub Waits : Graph → PathReduction → ℕ → ℕ → List ℕ → List ℕ → Type 0
+Waits g c r j rest l = (length rest ≡ 8) × Stands g c r j (getD rest j 0) l
 
 -- the turn of one in the round after r, among the flags `rest` of all
 pub record Turned (g : Graph) (c : PathReduction) (r j : ℕ) (rest rest′ old new : List ℕ) (says : Bool) : Type 0 where

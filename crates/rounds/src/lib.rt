@@ -3,16 +3,13 @@
 ghost use mathlib.Core.Path.{_≡_};
 ghost use mathlib.Core.Bool.{not};
 ghost use Prim.Native.Nat.{suc, _<_, _≤_};
-ghost use lib.ListN.{length, getD, replicate};
+ghost use lib.ListN.{length, replicate};
 ghost use Rattle.walks.specs.Lists.{All};
-ghost use Rattle.walks.specs.Rounds.{unchanged};
 ghost use Rattle.meaning.specs.Limits.{PathFits};
-ghost use Rattle.meaning.specs.Query.{network-of};
-ghost use Rattle.meaning.specs.Run.{pull};
 ghost use Rattle.wire.specs.Wire.{at16};
 ghost use Rattle.graph.specs.Graph.{graph-code, graph-of};
-ghost use Rattle.cells.specs.Table.{Sound, changed-in, figures-in, path-of, paths-in};
-ghost use Rattle.rounds.specs.Run.{AllStand, Begun, Others, Ran, Round, Stands, Turned, pulled, pushed-from, quiet-after};
+ghost use Rattle.cells.specs.Table.{Sound, path-of, paths-in};
+ghost use Rattle.rounds.specs.Run.{Advanced, AllStand, Begun, PullRound, PushRound, Ran, Stands, Turned, Waits, quiet-after};
 ghost use Rattle.rounds.specs.Steps.{initialized-at, stepped, step-takes};
 
 // How many vertices an accepted graph has.
@@ -83,11 +80,7 @@ fn pull_round(word: u64, graph: &[u8], j: usize, r: u16, figures: &mut [u32]) ->
         (graph-code (now graph) ≡ 0) × (j < 8) × PathFits (at16 (now graph) 5) (path-of word) × (r < 65535)
         × Sound (at16 (now graph) 5) (path-of word) r (now figures) j
         ⌝ }
-    ensures { λ b. ⌜
-        Round (graph-of (now (graph .entry))) (path-of word) r j
-        (pulled (network-of (graph-of (now (graph .entry))) (path-of word)) (path-of word .keys) (figures-in (path-of word) (now (figures .entry)) j))
-        (now (figures .entry)) (now (figures .exit)) b
-        ⌝ }
+    ensures { λ b. ⌜ PullRound (graph-of (now (graph .entry))) (path-of word) r j (now (figures .entry)) (now (figures .exit)) b ⌝ }
 {
     step_at(word, graph, j, 1, r as u32 + 2, figures)
 }
@@ -98,12 +91,7 @@ fn push_round(word: u64, graph: &[u8], j: usize, r: u16, figures: &mut [u32]) ->
         (graph-code (now graph) ≡ 0) × (j < 8) × PathFits (at16 (now graph) 5) (path-of word) × (r < 65535)
         × Sound (at16 (now graph) 5) (path-of word) r (now figures) j
         ⌝ }
-    ensures { λ b. ⌜
-        Round (graph-of (now (graph .entry))) (path-of word) r j
-        (pushed-from (network-of (graph-of (now (graph .entry))) (path-of word)) (path-of word .keys)
-        (figures-in (path-of word) (now (figures .entry)) j) (changed-in r (now (figures .entry)) j))
-        (now (figures .entry)) (now (figures .exit)) b
-        ⌝ }
+    ensures { λ b. ⌜ PushRound (graph-of (now (graph .entry))) (path-of word) r j (now (figures .entry)) (now (figures .exit)) b ⌝ }
 {
     step_at(word, graph, j, r as u32 + 1, r as u32 + 2, figures)
 }
@@ -116,11 +104,7 @@ fn advance(push: bool, word: u64, graph: &[u8], j: usize, r: u16, figures: &mut 
         (graph-code (now graph) ≡ 0) × (j < 8) × PathFits (at16 (now graph) 5) (path-of word) × (r < 65535)
         × Stands (graph-of (now graph)) (path-of word) r j 0 (now figures)
         ⌝ }
-    ensures { λ b. ⌜
-        Stands (graph-of (now (graph .entry))) (path-of word) (suc r) j 0 (now (figures .exit))
-        × (b ≡ not (unchanged (pull (graph-of (now (graph .entry))) (path-of word)) r (at16 (now (graph .entry)) 5)))
-        × Others (at16 (now (graph .entry)) 5) j (now (figures .entry)) (now (figures .exit))
-        ⌝ }
+    ensures { λ b. ⌜ Advanced (graph-of (now (graph .entry))) (path-of word) r j (now (figures .entry)) (now (figures .exit)) b ⌝ }
 {
     if push {
         return push_round(word, graph, j, r, figures);
@@ -139,8 +123,8 @@ fn turn(
     figures: &mut [u32],
 ) -> bool
     requires { ⌜
-        (graph-code (now graph) ≡ 0) × (j < 8) × PathFits (at16 (now graph) 5) (path-of word) × (r < 65535) × (length (now rest) ≡ 8)
-        × Stands (graph-of (now graph)) (path-of word) r j (getD (now rest) j 0) (now figures)
+        (graph-code (now graph) ≡ 0) × (j < 8) × PathFits (at16 (now graph) 5) (path-of word) × (r < 65535)
+        × Waits (graph-of (now graph)) (path-of word) r j (now rest) (now figures)
         ⌝ }
     ensures { λ b. ⌜
         Turned (graph-of (now (graph .entry))) (path-of word) r j (now (rest .entry)) (now (rest .exit)) (now (figures .entry)) (now (figures .exit)) b

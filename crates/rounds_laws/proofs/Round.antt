@@ -17,7 +17,7 @@ use Rattle.meaning.specs.Limits.{GraphFits, PathFits}
 use Rattle.meaning.specs.Query.{PathReduction, network-of}
 use Rattle.meaning.proofs.Rounds.{network-fits, path-in-order}
 use Rattle.cells.specs.Table.{changed-in, figures-in}
-use Rattle.rounds.specs.Run.{Begun, Round, pulled, pushed-from}
+use Rattle.rounds.specs.Run.{Begun, PullRound, PushRound}
 
 module _ (g : Graph) (fits : GraphFits g) (c : PathReduction) (legal : PathFits (g .vertices) c) (j : ℕ) where
   abbrev N : Network
@@ -49,14 +49,14 @@ module _ (g : Graph) (fits : GraphFits g) (c : PathReduction) (legal : PathFits 
   module _ (r : ℕ) (old new : List ℕ) (says : Bool)
       (before : (v : ℕ) → v < g .vertices → Figures (network-of g c) (c .keys) (Within (network-of g c) r v) (figures-in c old j v)) where
     -- A ROUND BY PULL, whatever the marks are
-    pub pull-round-value : Round g c r j (pulled (network-of g c) (c .keys) (figures-in c old j)) old new says
+    pub pull-round-value : PullRound g c r j old new says
         → (v : ℕ) → v < g .vertices → Figures (network-of g c) (c .keys) (Within (network-of g c) (suc r) v) (figures-in c new j v)
     pull-round-value x =
         over-state (suc r) new (λ v h. x .figures v h ∙ pull-steps N (c .keys) network r (figures-in c old j) (state-over r old before) v h)
 
     -- A ROUND BY PUSH, where the vertices marked are those that round r changed
     pub push-round-value : ((u : ℕ) → u < g .vertices → changed-in r old j u ≡ marked (network-of g c) (c .keys) r .changed u)
-        → Round g c r j (pushed-from (network-of g c) (c .keys) (figures-in c old j) (changed-in r old j)) old new says
+        → PushRound g c r j old new says
         → (v : ℕ) → v < g .vertices → Figures (network-of g c) (c .keys) (Within (network-of g c) (suc r) v) (figures-in c new j v)
     push-round-value m x =
         over-state (suc r) new

@@ -22,7 +22,7 @@ returns : tie.Need-returns
 returns c =
     let e = c .before .before .before .before .before .before .before .copy .ensures in
     let k = c .before .before .before .before .before .before .before .before .before .before .path-keys .ensures in
-    (rw (e, k) at (c .before .before .relax-all .ensures .0), rw (e, k) at (c .before .before .relax-all .ensures .1), e)
+    (rw (e, k) at (c .before .before .relax-all .ensures), e)
 
 pub step-from-spec : {M : Type 1} → statement M
 step-from-spec =

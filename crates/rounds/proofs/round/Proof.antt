@@ -41,8 +41,7 @@ turn-requires c κs =
       omega (arith, s .pre .1),
       legal-at (PathFits (at16 (a .graph .now) 5)) (a .t4) (a .paths) (s .pre .2) (l .j) h (omega (arith, s .pre .1)),
       s .pre .3,
-      l .inv .2 .flags,
-      l .inv .2 .waits (l .j) (omega arith) h,
+      (l .inv .2 .flags, l .inv .2 .waits (l .j) (omega arith) h),
     )
 
 add-j : tie.Need-add-j Inv-loop μ-loop

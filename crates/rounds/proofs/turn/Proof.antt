@@ -12,12 +12,12 @@ returns c =
     let a = s .args in
     let known = c .before .before .before .before .shared-slice-known in
     turn-rests (a .graph .now) (a .word) (record { bytes = λ i. omega (arith, known .given i); accepted = s .pre .0; fits = s .pre .2 }) (a .j)
-    (a .r) (a .rest .now) (a .figures .now) (c .if1 .taken) (s .pre .5)
+    (a .r) (a .rest .now) (a .figures .now) (c .if1 .taken) (s .pre .4 .1)
 
 advance-requires : tie.Need-advance-requires
 advance-requires c κs =
     let s = c .before .before .before .before .before .before in
-    (s .pre .0, s .pre .1, s .pre .2, s .pre .3, stands-awake _ _ _ _ _ _ _ (c .before .if1 .left) (λ e. omega arith) (s .pre .5))
+    (s .pre .0, s .pre .1, s .pre .2, s .pre .3, stands-awake _ _ _ _ _ _ _ (c .before .if1 .left) (λ e. omega arith) (s .pre .4 .1))
 
 returns-2 : tie.Need-returns-2
 returns-2 c =
@@ -35,7 +35,7 @@ returns-3 c =
     let known = c .before .before .before .before .before .before .before .before .before .shared-slice-known in
     let t = c .before .before .before .advance .ensures in
     turn-settles (a .graph .now) (a .word) (record { bytes = λ i. omega (arith, known .given i); accepted = s .pre .0; fits = s .pre .2 }) (a .j)
-    (a .r) (a .rest .now) (a .figures .now) _ (omega (arith, s .pre .1, s .pre .4)) (t .0) (sym (c .if2 .left) ∙ t .1) (t .2)
+    (a .r) (a .rest .now) (a .figures .now) _ (omega (arith, s .pre .1, s .pre .4 .0)) (t .0) (sym (c .if2 .left) ∙ t .1) (t .2)
 
 pub turn-spec : {M : Type 1} → statement M
 turn-spec =

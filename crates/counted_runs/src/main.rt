@@ -3,6 +3,7 @@
 use counted::Way;
 use counters::Counters;
 use engine::Limit;
+ghost use mathlib.Core.Path.{_≡_};
 ghost use Prim.Native.Nat.{_≤_};
 ghost use lib.ListN.{length};
 ghost use Rattle.engine.specs.Run.{run-reply};
@@ -74,7 +75,9 @@ fn lend(
     }
 }
 
-fn run(files: u8, way: Way, limit: Limit, out: &mut [u8], counters: Counters) -> Left {
+fn run(files: u8, way: Way, limit: Limit, out: &mut [u8], counters: Counters) -> Left
+    ensures { λ _. ⌜ length (now (out .exit)) ≡ length (now (out .entry)) ⌝ }
+{
     let plan = b"LPW\x01\0\x01\x01\x01\x01\0\0\0\0\x01\x02\x30\0\x31\0";
     let source_9 = b"LPW\x01\0\x01\x01\x01\x01\0\0\x09\0\x01\x02\x30\0\x31\0";
     let graph =

@@ -372,12 +372,16 @@ fn step_from(
     relax_all(keys, graph, since, stamp, before, part)
 }
 
-// The same with room of its own for the figures of the round before.
+// The same with room of its own for the figures of the round before: zeroing it costs as much as a round on a small graph, so 32 vertices have less of it.
 pub fn step(word: u64, graph: &[u8], since: u32, stamp: u32, part: &mut [u32]) -> bool
     requires { ⌜ (graph-code (now graph) ≡ 0) × (length (now part) ≡ 4 * at16 (now graph) 5) ⌝ }
     ensures { λ r. ⌜ RelaxedAll (keys-of word) (now (graph .entry)) since stamp (now (part .entry)) r (now (part .exit)) ⌝ }
 {
-    let mut room = [0u32; 1024];
     let w = part.len();
+    if w <= 128 {
+        let mut little = [0u32; 128];
+        return step_from(word, graph, since, stamp, part, &mut little[..w]);
+    }
+    let mut room = [0u32; 1024];
     step_from(word, graph, since, stamp, part, &mut room[..w])
 }

@@ -351,37 +351,23 @@ fn copy(src: &[u32], dst: &mut [u32])
     }
 }
 
-// A round of the path reduction of this number, in place; `before` keeps the figures of the round before. Whether a vertex changed.
-fn step_from(
+// A round of the path reduction of this number, in place; the figures of the round before are left in `work`. Whether a vertex changed.
+pub fn step(
     word: u64,
     graph: &[u8],
     since: u32,
     stamp: u32,
     part: &mut [u32],
-    before: &mut [u32],
+    work: &mut [u32],
 ) -> bool
     requires { ⌜
-        (graph-code (now graph) ≡ 0) × (length (now part) ≡ 4 * at16 (now graph) 5) × (length (now before) ≡ 4 * at16 (now graph) 5)
+        (graph-code (now graph) ≡ 0) × (length (now part) ≡ 4 * at16 (now graph) 5) × (length (now work) ≡ 4 * at16 (now graph) 5)
         ⌝ }
     ensures { λ r. ⌜
-        RelaxedAll (keys-of word) (now (graph .entry)) since stamp (now (part .entry)) r (now (part .exit)) × (now (before .exit) ≡ now (part .entry))
+        RelaxedAll (keys-of word) (now (graph .entry)) since stamp (now (part .entry)) r (now (part .exit)) × (now (work .exit) ≡ now (part .entry))
         ⌝ }
 {
     let keys = path_keys(word);
-    copy(part, before);
-    relax_all(keys, graph, since, stamp, before, part)
-}
-
-// The same with room of its own for the figures of the round before: zeroing it costs as much as a round on a small graph, so 32 vertices have less of it.
-pub fn step(word: u64, graph: &[u8], since: u32, stamp: u32, part: &mut [u32]) -> bool
-    requires { ⌜ (graph-code (now graph) ≡ 0) × (length (now part) ≡ 4 * at16 (now graph) 5) ⌝ }
-    ensures { λ r. ⌜ RelaxedAll (keys-of word) (now (graph .entry)) since stamp (now (part .entry)) r (now (part .exit)) ⌝ }
-{
-    let w = part.len();
-    if w <= 128 {
-        let mut little = [0u32; 128];
-        return step_from(word, graph, since, stamp, part, &mut little[..w]);
-    }
-    let mut room = [0u32; 1024];
-    step_from(word, graph, since, stamp, part, &mut room[..w])
+    copy(part, work);
+    relax_all(keys, graph, since, stamp, work, part)
 }

@@ -1,8 +1,8 @@
 // Rounds of all path reductions of a plan on one flat table (document 01: pull run, push run). Path reduction j has the numbers from
-// 1,024 * j on (crate cells).
+// 1,024 * j on (crate cells). `work` is room for the figures of the round before, lent once: what is left in it is free, and it is as long as it was.
 ghost use mathlib.Core.Path.{_≡_};
 ghost use mathlib.Core.Bool.{not};
-ghost use Prim.Native.Nat.{suc, _<_, _≤_};
+ghost use Prim.Native.Nat.{suc, _*_, _<_, _≤_};
 ghost use lib.ListN.{length, replicate};
 ghost use Rattle.walks.specs.Lists.{All};
 ghost use Rattle.meaning.specs.Limits.{PathFits};
@@ -61,55 +61,95 @@ fn initialize_all(graph: &[u8], paths: usize, table: [u64; 8], figures: &mut [u3
 // ---- a round of one path reduction
 
 // Over the edges from vertices stamped since a round, in its part of the table. Whether a vertex changed.
-fn step_at(word: u64, graph: &[u8], j: usize, since: u32, stamp: u32, figures: &mut [u32]) -> bool
-    requires { ⌜ (graph-code (now graph) ≡ 0) × (j < 8) × (length (now figures) ≡ 8192) ⌝ }
+fn step_at(
+    word: u64,
+    graph: &[u8],
+    j: usize,
+    since: u32,
+    stamp: u32,
+    figures: &mut [u32],
+    work: &mut [u32],
+) -> bool
+    requires { ⌜ (graph-code (now graph) ≡ 0) × (j < 8) × (length (now figures) ≡ 8192) × (length (now work) ≡ 4 * at16 (now graph) 5) ⌝ }
     ensures { λ r. ⌜
         (r ≡ step-takes (now (graph .entry)) word j since stamp (now (figures .entry)))
         × (now (figures .exit) ≡ stepped (now (graph .entry)) word j since stamp (now (figures .entry)))
+        × (length (now (work .exit)) ≡ length (now (work .entry)))
         ⌝ }
 {
     let n = vertices(graph);
     let from = 1024 * j;
     let end = from + 4 * n;
-    cells::step(word, graph, since, stamp, &mut figures[from..end])
+    cells::step(word, graph, since, stamp, &mut figures[from..end], work)
 }
 
 // BY PULL, the round after r: over all edges. (Those from absent vertices, which have stamp 0, bring nothing.)
-fn pull_round(word: u64, graph: &[u8], j: usize, r: u16, figures: &mut [u32]) -> bool
+fn pull_round(
+    word: u64,
+    graph: &[u8],
+    j: usize,
+    r: u16,
+    figures: &mut [u32],
+    work: &mut [u32],
+) -> bool
     requires { ⌜
         (graph-code (now graph) ≡ 0) × (j < 8) × PathFits (at16 (now graph) 5) (path-of word) × (r < 65535)
-        × Sound (at16 (now graph) 5) (path-of word) r (now figures) j
+        × Sound (at16 (now graph) 5) (path-of word) r (now figures) j × (length (now work) ≡ 4 * at16 (now graph) 5)
         ⌝ }
-    ensures { λ b. ⌜ PullRound (graph-of (now (graph .entry))) (path-of word) r j (now (figures .entry)) (now (figures .exit)) b ⌝ }
+    ensures { λ b. ⌜
+        PullRound (graph-of (now (graph .entry))) (path-of word) r j (now (figures .entry)) (now (figures .exit)) b
+        × (length (now (work .exit)) ≡ length (now (work .entry)))
+        ⌝ }
 {
-    step_at(word, graph, j, 1, r as u32 + 2, figures)
+    step_at(word, graph, j, 1, r as u32 + 2, figures, work)
 }
 
 // BY PUSH: over the edges from vertices that round r changed.
-fn push_round(word: u64, graph: &[u8], j: usize, r: u16, figures: &mut [u32]) -> bool
+fn push_round(
+    word: u64,
+    graph: &[u8],
+    j: usize,
+    r: u16,
+    figures: &mut [u32],
+    work: &mut [u32],
+) -> bool
     requires { ⌜
         (graph-code (now graph) ≡ 0) × (j < 8) × PathFits (at16 (now graph) 5) (path-of word) × (r < 65535)
-        × Sound (at16 (now graph) 5) (path-of word) r (now figures) j
+        × Sound (at16 (now graph) 5) (path-of word) r (now figures) j × (length (now work) ≡ 4 * at16 (now graph) 5)
         ⌝ }
-    ensures { λ b. ⌜ PushRound (graph-of (now (graph .entry))) (path-of word) r j (now (figures .entry)) (now (figures .exit)) b ⌝ }
+    ensures { λ b. ⌜
+        PushRound (graph-of (now (graph .entry))) (path-of word) r j (now (figures .entry)) (now (figures .exit)) b
+        × (length (now (work .exit)) ≡ length (now (work .entry)))
+        ⌝ }
 {
-    step_at(word, graph, j, r as u32 + 1, r as u32 + 2, figures)
+    step_at(word, graph, j, r as u32 + 1, r as u32 + 2, figures, work)
 }
 
 // ---- rounds of all
 
 // The next state of a path reduction that does not rest, by push or by pull. Whether a vertex changed.
-fn advance(push: bool, word: u64, graph: &[u8], j: usize, r: u16, figures: &mut [u32]) -> bool
+fn advance(
+    push: bool,
+    word: u64,
+    graph: &[u8],
+    j: usize,
+    r: u16,
+    figures: &mut [u32],
+    work: &mut [u32],
+) -> bool
     requires { ⌜
         (graph-code (now graph) ≡ 0) × (j < 8) × PathFits (at16 (now graph) 5) (path-of word) × (r < 65535)
-        × Stands (graph-of (now graph)) (path-of word) r j 0 (now figures)
+        × Stands (graph-of (now graph)) (path-of word) r j 0 (now figures) × (length (now work) ≡ 4 * at16 (now graph) 5)
         ⌝ }
-    ensures { λ b. ⌜ Advanced (graph-of (now (graph .entry))) (path-of word) r j (now (figures .entry)) (now (figures .exit)) b ⌝ }
+    ensures { λ b. ⌜
+        Advanced (graph-of (now (graph .entry))) (path-of word) r j (now (figures .entry)) (now (figures .exit)) b
+        × (length (now (work .exit)) ≡ length (now (work .entry)))
+        ⌝ }
 {
     if push {
-        return push_round(word, graph, j, r, figures);
+        return push_round(word, graph, j, r, figures, work);
     }
-    pull_round(word, graph, j, r, figures)
+    pull_round(word, graph, j, r, figures, work)
 }
 
 // The turn of path reduction j in the round after r: one that is quiet rests, and stays as it is. Whether a vertex changed.
@@ -121,19 +161,21 @@ fn turn(
     r: u16,
     rest: &mut [u8],
     figures: &mut [u32],
+    work: &mut [u32],
 ) -> bool
     requires { ⌜
         (graph-code (now graph) ≡ 0) × (j < 8) × PathFits (at16 (now graph) 5) (path-of word) × (r < 65535)
-        × Waits (graph-of (now graph)) (path-of word) r j (now rest) (now figures)
+        × Waits (graph-of (now graph)) (path-of word) r j (now rest) (now figures) × (length (now work) ≡ 4 * at16 (now graph) 5)
         ⌝ }
     ensures { λ b. ⌜
         Turned (graph-of (now (graph .entry))) (path-of word) r j (now (rest .entry)) (now (rest .exit)) (now (figures .entry)) (now (figures .exit)) b
+        × (length (now (work .exit)) ≡ length (now (work .entry)))
         ⌝ }
 {
     if rest[j] == 1 {
         return false;
     }
-    if advance(push, word, graph, j, r, figures) {
+    if advance(push, word, graph, j, r, figures, work) {
         return true;
     }
     rest[j] = 1;
@@ -149,21 +191,22 @@ fn round(
     r: u16,
     rest: &mut [u8],
     figures: &mut [u32],
+    work: &mut [u32],
 ) -> bool
     requires { ⌜
         (graph-code (now graph) ≡ 0) × (paths ≤ 8) × All (PathFits (at16 (now graph) 5)) (paths-in paths table) × (r < 65535)
-        × AllStand (graph-of (now graph)) paths table r (now rest) (now figures)
+        × AllStand (graph-of (now graph)) paths table r (now rest) (now figures) × (length (now work) ≡ 4 * at16 (now graph) 5)
         ⌝ }
     ensures { λ b. ⌜
         AllStand (graph-of (now (graph .entry))) paths table (suc r) (now (rest .exit)) (now (figures .exit))
-        × (b ≡ not (quiet-after (graph-of (now (graph .entry))) paths table r))
+        × (b ≡ not (quiet-after (graph-of (now (graph .entry))) paths table r)) × (length (now (work .exit)) ≡ length (now (work .entry)))
         ⌝ }
 {
     let mut changed = false;
     let mut j: usize = 0;
     while j < paths {
         let word = table[j];
-        let moved = turn(push, word, graph, j, r, rest, figures);
+        let moved = turn(push, word, graph, j, r, rest, figures, work);
         changed = changed | moved;
         j += 1;
     }
@@ -178,17 +221,19 @@ fn rounds(
     table: [u64; 8],
     limit: u16,
     figures: &mut [u32],
+    work: &mut [u32],
 ) -> u16
     requires { ⌜
         (graph-code (now graph) ≡ 0) × (paths ≤ 8) × All (PathFits (at16 (now graph) 5)) (paths-in paths table)
-        × AllStand (graph-of (now graph)) paths table 0 (replicate 8 0) (now figures)
+        × AllStand (graph-of (now graph)) paths table 0 (replicate 8 0) (now figures) × (length (now work) ≡ 4 * at16 (now graph) 5)
         ⌝ }
-    ensures { λ r. ⌜ Ran (graph-of (now (graph .entry))) paths table limit r (now (figures .exit)) ⌝ }
+    ensures { λ r. ⌜ Ran (graph-of (now (graph .entry))) paths table limit r (now (figures .exit))
+        × (length (now (work .exit)) ≡ length (now (work .entry))) ⌝ }
 {
     let mut rest = [0u8; 8];
     let mut r: u16 = 0;
     while r < limit {
-        let changed = round(push, graph, paths, table, r, &mut rest, figures);
+        let changed = round(push, graph, paths, table, r, &mut rest, figures, work);
         r += 1;
         if !changed {
             return r;
@@ -212,6 +257,8 @@ pub fn run(
         ⌝ }
     ensures { λ r. ⌜ Ran (graph-of (now (graph .entry))) paths table limit r (now (figures .exit)) ⌝ }
 {
+    let mut room = [0u32; 1024];
+    let w = 4 * vertices(graph);
     initialize_all(graph, paths, table, figures);
-    rounds(push, graph, paths, table, limit, figures)
+    rounds(push, graph, paths, table, limit, figures, &mut room[..w])
 }

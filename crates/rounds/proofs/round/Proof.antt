@@ -1,7 +1,7 @@
 -- `rounds::round` meets its contract: the first j path reductions had their turn. Assumes nothing.
 use native.Mathlib.Omega.{arith}
 use Prim.Native.Nat.{ℕ, _≤_, _<_, _-_}
-use mathlib.Core.Path.{_≡_, sym, _∙_}
+use mathlib.Core.Path.{_≡_, refl, sym, _∙_}
 use native.Mathlib.Numerals.{add-one}
 use lib.ListN.{length}
 use Rattle.meaning.specs.Limits.{PathFits}
@@ -12,17 +12,17 @@ use Rattle.rounds.proofs.round.Statement.{statement}
 use Rattle.rounds.proofs.round.Tie as tie
 
 abbrev Inv-loop : tie.InvT-loop
-Inv-loop push graph paths r rest₀ figures₀ table changed₀ j₀ rest figures changed j =
-    (b : paths ≤ 8) × (j ≤ paths) × Upto (graph-of graph) paths table b r j rest figures changed
+Inv-loop push graph paths r rest₀ figures₀ work₀ table changed₀ j₀ rest figures work changed j =
+    (b : paths ≤ 8) × (j ≤ paths) × Upto (graph-of graph) paths table b r j rest figures changed × (length work ≡ length work₀)
 
 abbrev μ-loop : tie.MeasureT-loop
-μ-loop push graph paths r rest₀ figures₀ table changed₀ j₀ rest figures changed j = paths - j
+μ-loop push graph paths r rest₀ figures₀ work₀ table changed₀ j₀ rest figures work changed j = paths - j
 
 loop-holds : tie.Need-loop-holds Inv-loop μ-loop
 loop-holds c =
-    let s = c .before .before .before in
+    let s = c .before .before .before .before in
     let a = s .args in
-    (s .pre .1, omega arith, upto-none (graph-of (a .graph .now)) (a .paths) (a .t4) (s .pre .1) (a .r) (a .rest .now) (a .figures .now) (s .pre .4))
+    (s .pre .1, omega arith, upto-none (graph-of (a .graph .now)) (a .paths) (a .t4) (s .pre .1) (a .r) (a .rest .now) (a .figures .now) (s .pre .4), refl)
 
 mul-word : tie.Need-mul-word Inv-loop μ-loop
 mul-word c = omega (arith, c .before .loop .inv .0)
@@ -32,9 +32,9 @@ array-read-word c = omega (arith, c .before .loop .inv .0)
 
 turn-requires : tie.Need-turn-requires Inv-loop μ-loop
 turn-requires c κs =
-    let s = c .before .before .before .before .before .before .before in
+    let s = c .before .before .before .before .before .before .before .before .before in
     let a = s .args in
-    let l = c .before .before .before .loop in
+    let l = c .before .before .before .before .loop in
     let e : length {A = ℕ} (a .t4) ≡ 8 = s .good .1 .1 .1 .0 .1 .0 .1 in
     let h : l .j < a .paths = omega arith in (
       s .pre .0,
@@ -42,40 +42,41 @@ turn-requires c κs =
       legal-at (PathFits (at16 (a .graph .now) 5)) (a .t4) (a .paths) (s .pre .2) (l .j) h (omega (arith, s .pre .1)),
       s .pre .3,
       (l .inv .2 .flags, l .inv .2 .waits (l .j) (omega arith) h),
+      l .inv .3 ∙ s .pre .5,
     )
-
-add-j : tie.Need-add-j Inv-loop μ-loop
-add-j c = omega arith
-
-loop-less : tie.Need-loop-less Inv-loop μ-loop
-loop-less c = omega arith
 
 loop-again : tie.Need-loop-again Inv-loop μ-loop
 loop-again c =
-    let s = c .before .before .before .before .before .before .before .before .before .before .before .before in
+    let s = c .before .before .before .before .before .before .before .before .before .before .before .before .before .before .before .before in
     let a = s .args in
-    let l = c .before .before .before .before .before .before .before .before .loop in
-    let t = c .before .before .before .before .turn in
+    let l = c .before .before .before .before .before .before .before .before .before .before .before .loop in
+    let t = c .before .before .before .before .before .before .turn in
     let e : length {A = ℕ} (a .t4) ≡ 8 = s .good .1 .1 .1 .0 .1 .0 .1 in
     let h : l .j < a .paths = omega arith in (
       l .inv .0,
       omega arith,
       rw (add-one (l .j))
           (upto-more (graph-of (a .graph .now)) (a .paths) (a .t4) (l .inv .0) (a .r) (l .j) h (omega (arith, s .pre .1)) (l .rest) _ (l .figures) _
-          (l .changed) (t .result) (l .inv .2) (t .kept .1 .1 .1 .1 .1 .0 ∙ l .inv .2 .flags) (t .ensures)),
+          (l .changed) (t .result) (l .inv .2) (t .kept .1 .1 .1 .1 .1 .0 ∙ l .inv .2 .flags) (t .ensures .0)),
+      t .ensures .1 ∙ l .inv .3,
     )
 
 same-length : tie.Need-same-length Inv-loop μ-loop
-same-length c = c .before .loop .inv .2 .flags ∙ sym (c .before .before .before .before .before .pre .4 .flags)
+same-length c = c .before .loop .inv .2 .flags ∙ sym (c .before .before .before .before .before .before .pre .4 .flags)
 
 same-length-2 : tie.Need-same-length-2 Inv-loop μ-loop
-same-length-2 c = c .before .loop .inv .2 .long ∙ sym (c .before .before .before .before .before .pre .4 .long)
+same-length-2 c = c .before .loop .inv .2 .long ∙ sym (c .before .before .before .before .before .before .pre .4 .long)
+
+same-length-3 : tie.Need-same-length-3 Inv-loop μ-loop
+same-length-3 c = c .before .loop .inv .3
 
 returns : tie.Need-returns Inv-loop μ-loop
 returns c =
-    let a = c .before .before .before .before .before .args in
+    let a = c .before .before .before .before .before .before .args in
     let l = c .before .loop in
-    upto-all (graph-of (a .graph .now)) (a .paths) (a .t4) (l .inv .0) (a .r) (l .j) (l .rest) (l .figures) (l .changed) (omega (arith, l .inv .1)) (l .inv .2)
+    let u = upto-all (graph-of (a .graph .now)) (a .paths) (a .t4) (l .inv .0) (a .r) (l .j) (l .rest) (l .figures) (l .changed) (omega (arith, l .inv .1))
+    (l .inv .2) in
+    (u .0, u .1, l .inv .3)
 
 pub round-spec : {M : Type 1} → statement M
 round-spec =
@@ -87,9 +88,10 @@ round-spec =
     mul-word
     array-read-word
     turn-requires
-    add-j
-    loop-less
+    (λ c. omega arith)
+    (λ c. omega arith)
     loop-again
     same-length
     same-length-2
+    same-length-3
     returns)

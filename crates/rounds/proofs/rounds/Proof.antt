@@ -2,7 +2,8 @@
 use native.Mathlib.Omega.{arith}
 use borrow.Author.Tests.{not-true, not-false}
 use Prim.Native.Nat.{_≤_, _-_}
-use mathlib.Core.Path.{sym, _∙_}
+use mathlib.Core.Path.{_≡_, refl, sym, _∙_}
+use lib.ListN.{length}
 use native.Mathlib.Nat.{not-suc-le-zero}
 use native.Mathlib.Numerals.{add-one}
 use Rattle.graph.specs.Graph.{graph-of}
@@ -12,66 +13,68 @@ use Rattle.rounds.proofs.rounds.Statement.{statement}
 use Rattle.rounds.proofs.rounds.Tie as tie
 
 abbrev Inv-loop : tie.InvT-loop
-Inv-loop push graph paths table limit figures₀ rest₀ r₀ figures rest r =
+Inv-loop push graph paths table limit figures₀ work₀ rest₀ r₀ figures work rest r =
     (b : paths ≤ 8) × (r ≤ limit) × AllStand (graph-of graph) paths table r rest figures × Unquiet (graph-of graph) paths table b r
+    × (length work ≡ length work₀)
 
 abbrev μ-loop : tie.MeasureT-loop
-μ-loop push graph paths table limit figures₀ rest₀ r₀ figures rest r = limit - r
+μ-loop push graph paths table limit figures₀ work₀ rest₀ r₀ figures work rest r = limit - r
 
 loop-holds : tie.Need-loop-holds Inv-loop μ-loop
 loop-holds c =
-    let s = c .before .before in
-    (s .pre .1, omega arith, s .pre .3, λ q h. absurd (not-suc-le-zero h))
+    let s = c .before .before .before in
+    (s .pre .1, omega arith, s .pre .3, λ q h. absurd (not-suc-le-zero h), refl)
 
 slice-aggregate-round : tie.Need-slice-aggregate-round Inv-loop μ-loop
 slice-aggregate-round c = sym (c .before .before .loop .inv .2 .flags)
 
 round-requires : tie.Need-round-requires Inv-loop μ-loop
 round-requires c κs =
-    let s = c .before .before .before .before .before .before in
-    (s .pre .0, s .pre .1, s .pre .2, omega arith, c .before .before .before .loop .inv .2)
-
-add-r : tie.Need-add-r Inv-loop μ-loop
-add-r c = omega arith
+    let s = c .before .before .before .before .before .before .before .before in
+    let l = c .before .before .before .before .loop in
+    (s .pre .0, s .pre .1, s .pre .2, omega arith, l .inv .2, l .inv .4 ∙ s .pre .4)
 
 same-length : tie.Need-same-length Inv-loop μ-loop
-same-length c =
-    c .before .before .before .before .round .ensures .0 .long
-    ∙ sym (c .before .before .before .before .before .before .before .before .before .before .before .pre .3 .long)
+same-length c = c .before .before .before .before .before .before .round .ensures .0 .long
+    ∙ sym (c .before .before .before .before .before .before .before .before .before .before .before .before .before .before .before .pre .3 .long)
+
+same-length-2 : tie.Need-same-length-2 Inv-loop μ-loop
+same-length-2 c = c .before .before .before .before .before .before .round .ensures .2
+    ∙ c .before .before .before .before .before .before .before .before .before .before .before .loop .inv .4
 
 returns : tie.Need-returns Inv-loop μ-loop
 returns c =
-    let a = c .before .before .before .before .before .before .before .before .before .before .before .args in
-    let l = c .before .before .before .before .before .before .before .before .loop in
-    let t = c .before .before .before .before .round in
-    rw (add-one (l .r))
-    (ran-quiet (graph-of (a .graph .now)) (a .paths) (a .table) (l .inv .0) (a .limit) (l .r) _ _ (omega arith) (t .ensures .0) (l .inv .3)
-    (sym (not-true (t .result) (c .if1 .taken)) ∙ t .ensures .1))
-
-loop-less : tie.Need-loop-less Inv-loop μ-loop
-loop-less c = omega arith
+    let a = c .before .before .before .before .before .before .before .before .before .before .before .before .before .before .before .args in
+    let l = c .before .before .before .before .before .before .before .before .before .before .before .loop in
+    let t = c .before .before .before .before .before .before .round in (
+      rw (add-one (l .r))
+          (ran-quiet (graph-of (a .graph .now)) (a .paths) (a .table) (l .inv .0) (a .limit) (l .r) _ _ (omega arith) (t .ensures .0) (l .inv .3)
+          (sym (not-true (t .result) (c .if1 .taken)) ∙ t .ensures .1)),
+      t .ensures .2 ∙ l .inv .4,
+    )
 
 loop-again : tie.Need-loop-again Inv-loop μ-loop
 loop-again c =
-    let a = c .before .before .before .before .before .before .before .before .before .before .before .args in
-    let l = c .before .before .before .before .before .before .before .before .loop in
-    let t = c .before .before .before .before .round in (
+    let a = c .before .before .before .before .before .before .before .before .before .before .before .before .before .before .before .args in
+    let l = c .before .before .before .before .before .before .before .before .before .before .before .loop in
+    let t = c .before .before .before .before .before .before .round in (
       l .inv .0,
       omega arith,
       rw (add-one (l .r)) (t .ensures .0),
       rw (add-one (l .r))
           (unquiet-more (graph-of (a .graph .now)) (a .paths) (a .table) (l .inv .0) (l .r) (l .inv .3)
           (sym (not-false (t .result) (c .if1 .left)) ∙ t .ensures .1)),
+      t .ensures .2 ∙ l .inv .4,
     )
 
-same-length-2 : tie.Need-same-length-2 Inv-loop μ-loop
-same-length-2 c = c .before .loop .inv .2 .long ∙ sym (c .before .before .before .before .pre .3 .long)
+same-length-3 : tie.Need-same-length-3 Inv-loop μ-loop
+same-length-3 c = c .before .loop .inv .2 .long ∙ sym (c .before .before .before .before .before .pre .3 .long)
 
 returns-2 : tie.Need-returns-2 Inv-loop μ-loop
 returns-2 c =
-    let a = c .before .before .before .before .args in
+    let a = c .before .before .before .before .before .args in
     let l = c .before .loop in
-    ran-spent (graph-of (a .graph .now)) (a .paths) (a .table) (l .inv .0) (a .limit) (l .r) _ _ (omega (arith, l .inv .1)) (l .inv .2) (l .inv .3)
+    (ran-spent (graph-of (a .graph .now)) (a .paths) (a .table) (l .inv .0) (a .limit) (l .r) _ _ (omega (arith, l .inv .1)) (l .inv .2) (l .inv .3), l .inv .4)
 
 pub rounds-spec : {M : Type 1} → statement M
 rounds-spec =
@@ -82,10 +85,12 @@ rounds-spec =
     loop-holds
     slice-aggregate-round
     round-requires
-    add-r
+    (λ c. omega arith)
     same-length
-    returns
-    loop-less
-    loop-again
     same-length-2
+    returns
+    (λ c. omega arith)
+    loop-again
+    same-length-3
+    (λ c. c .before .loop .inv .4)
     returns-2)

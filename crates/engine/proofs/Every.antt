@@ -5,7 +5,6 @@ use mathlib.Core.Path.{_≡_, refl, sym, ap, _∙_, subst}
 use mathlib.Core.Bool.{Bool, true, false, cond}
 use mathlib.Core.List.{List, _++_}
 use native.Mathlib.Omega.{arith}
-use borrow.Author.Tests.{le-ltb}
 use lib.Dec.{ltb}
 use lib.ListN.{length, drop}
 use lib.Seq.{getD-take, take-at}
@@ -26,12 +25,12 @@ use Rattle.plan.specs.Tree.{plan-of}
 use Rattle.value.proofs.Held.{AllHeld}
 use Rattle.walks.specs.Lists.{All}
 use Rattle.walks.specs.Walks.{Graph}
-use Rattle.wire.specs.Wire.{Bytes, Reply, Returned, at16, done, fitted, refused, reply-buffer, reply-number}
+use Rattle.wire.specs.Wire.{Bytes, Reply, Returned, at16, done, fitted, refused, reply-number}
 use Rattle.engine.specs.declared.Limit.{Limit}
 use Rattle.engine.specs.declared.Limit.the-variants.{Quiet, Rounds}
 use Rattle.engine.specs.Answered.{AnswerIn, PlanCorrect, RunAnswers}
 use Rattle.engine.specs.Run.{Sixteen, outcome, run-reply}
-use Rattle.engine.proofs.Meant.{Accepted, run-means, run-passed}
+use Rattle.engine.proofs.Meant.{run-means, run-passed}
 
 -- ---- a call that was answered
 

@@ -1,5 +1,5 @@
 -- THE TABLE THAT THE RUN IN CODE LEAVES holds the values after the rounds reported: from what `rounds::run` ensures (`Ran`). Assumes nothing.
-use Prim.Native.Nat.{ℕ, _*_, _≤_, _<_, min}
+use Prim.Native.Nat.{ℕ, _*_, _<_, min}
 use mathlib.Core.Path.{_≡_, refl, sym, ap, _∙_, subst}
 use mathlib.Core.List.{List, map}
 use native.Mathlib.Omega.{arith}

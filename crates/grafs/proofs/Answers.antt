@@ -20,8 +20,8 @@ use Rattle.engine.proofs.Meant.{run-answers}
 use Rattle.fusion.proofs.Exact.{fuse-answered}
 use Rattle.graph.specs.Graph.{graph-code, graph-of}
 use Rattle.graph.proofs.Exact as graph
-use Rattle.meaning.specs.Limits.{GraphLegal, PlanLegal, QueryFits, QueryLegal}
-use Rattle.meaning.specs.Plan.{Plan, fuse}
+use Rattle.meaning.specs.Limits.{GraphLegal, QueryFits, QueryLegal}
+use Rattle.meaning.specs.Plan.{fuse}
 use Rattle.meaning.specs.Query.{Query, each, single}
 use Rattle.meaning.specs.Run.{stopped}
 use Rattle.meaning.proofs.Limits.{fuse-legal}
@@ -32,7 +32,7 @@ use Rattle.query.specs.Query as query
 use Rattle.query.specs.Tree.{query-of}
 use Rattle.query.proofs.Tree.{query-read}
 use Rattle.walks.specs.Walks.{Graph}
-use Rattle.wire.specs.Wire.{Bytes, Reply, Returned, at16, done, reply-buffer, reply-number}
+use Rattle.wire.specs.Wire.{Bytes, Reply, Returned, at16, reply-buffer, reply-number}
 use Rattle.grafs.specs.Answers.{Answers, Called, QueryCorrect, query-kind}
 
 -- fusing keeps the kind

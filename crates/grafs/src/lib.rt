@@ -1,6 +1,5 @@
 // The two calls of the C service (document 01): "a result under 65,536 is the bytes written and 65,536 plus a number is a refusal".
 use engine::Limit;
-ghost use mathlib.Core.Path.{_≡_};
 ghost use lib.ListN.{length};
 ghost use Rattle.engine.specs.declared.Limit.the-variants.{Quiet};
 ghost use Rattle.engine.specs.Run.{run-reply};

@@ -7,7 +7,6 @@ use Rattle.query.specs.Tree.{query-of}
 use Rattle.plan.specs.Plan.{body-scan, plan-code, entries-scan, entry-scan, final-scan, moved, plan-scan, listed-code, listed-scan, listed-step, listed-word}
 use Rattle.fusion.specs.Fusion.{fuse-reply}
 use Rattle.term_text.specs.Tree.{written-path, reduction-of, term-of}
-use Rattle.wire.specs.Wire.{done}
 use Rattle.path_fields.specs.Paths.{keys-code, path-code, path-word}
 use Rattle.terms.specs.Terms.{
   advanced,

@@ -1,10 +1,5 @@
 -- `rounds::step_at` meets its contract. Assumes nothing.
 use Rattle.rounds.proofs.Parts.{step-put, step-said}
-use Prim.Native.Nat.{ℕ}
-use mathlib.Core.Path.{ap, _∙_}
-use mathlib.Core.List.{List}
-use native.Mathlib.Omega.{arith}
-use lib.ListN.{length}
 use borrow.Author.Needs.{needs}
 use Rattle.rounds.proofs.step_at.Statement.{statement}
 use Rattle.rounds.proofs.step_at.Tie as tie

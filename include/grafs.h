@@ -1,9 +1,16 @@
 /* The two calls of the tag desk: a question is fused into a worksheet, a worksheet is run on a map and leaves an answer.
+ * docs/FORMATS.md has the four formats byte by byte; grafs_build.h writes and reads them.
  *
  * A result under GRAFS_REFUSAL is the number of bytes written, and they stand first in `out`; the rest of `out` is as it was.
  * Otherwise the result is GRAFS_REFUSAL plus a number of enum grafs_number, and not one byte of `out` has changed.
- * Both calls end for all bytes, keep nothing between calls, and read their inputs only.
- * The buffers of one call must not overlap. A null pointer may go with length 0. */
+ * Both calls end for all bytes and read their inputs only. The buffers of one call must not overlap. A null pointer may go with length 0.
+ *
+ * Threads: calls may be made from any number of threads at once; nothing is kept between calls, and nothing is shared but what the callers lend.
+ * Memory: no heap. The archive has no data of its own that can be written, and calls nothing but memcpy and memset.
+ * Stack: GRAFS_FUSE_STACK and GRAFS_RUN_STACK below.
+ *
+ * Names: a program that has a `run` or a `fuse` of its own defines GRAFS_PREFIXED before it includes this file and links libgrafs_prefixed.a
+ * instead of libgrafs.a: there the same two functions are grafs_fuse and grafs_run, in C and at link time, and no other name is taken. */
 #ifndef GRAFS_H
 #define GRAFS_H
 
@@ -16,9 +23,20 @@ extern "C" {
 
 #define GRAFS_REFUSAL 65536u
 
+/* No longer question or map is accepted: one of more bytes is refused whatever they are. */
+#define GRAFS_QUESTION_MAX 294
+#define GRAFS_MAP_MAX 8201
+
 /* Lent so many bytes, no call refuses by GRAFS_BUFFER_SHORT. */
 #define GRAFS_WORKSHEET_MAX 560
 #define GRAFS_ANSWER_MAX 2314
+
+/* A thread that has so many bytes of stack left can make the call. Measured: 24 KB and 56 KB; the rest is margin. */
+#define GRAFS_FUSE_STACK 49152
+#define GRAFS_RUN_STACK 98304
+
+/* What a start is for 'anywhere'. */
+#define GRAFS_ANYWHERE 65535
 
 enum grafs_number {
     GRAFS_DONE = 0,          /* everything written */
@@ -40,11 +58,67 @@ enum grafs_number {
     GRAFS_NO_SUCH_ROW = 16   /* an index not below its count */
 };
 
+/* The kind of a question, a worksheet, an answer. */
+enum grafs_kind {
+    GRAFS_KIND_EACH = 0,  /* a value at each place */
+    GRAFS_KIND_RESULT = 1 /* one result */
+};
+
+/* The first byte of a term. */
+enum grafs_term {
+    GRAFS_TERM_CHAIN = 0x10,           /* place terms: a chain */
+    GRAFS_TERM_PLACE_LITERAL = 0x11,
+    GRAFS_TERM_PLACE_OPERATOR = 0x12,
+    GRAFS_TERM_REDUCTION = 0x20,       /* result terms: a reduction over places */
+    GRAFS_TERM_RESULT_LITERAL = 0x21,
+    GRAFS_TERM_RESULT_OPERATOR = 0x22,
+    GRAFS_TERM_CHAIN_INDEX = 0x30,     /* in a worksheet only: a chain by its index */
+    GRAFS_TERM_ENTRY_INDEX = 0x31      /* in a worksheet only: an entry by its index */
+};
+
+/* What a chain compares walks by. The last two stand last in a chain only. */
+enum grafs_key {
+    GRAFS_KEY_PASSAGES = 1,    /* passages walked, least */
+    GRAFS_KEY_SECONDS = 2,     /* seconds added up, least */
+    GRAFS_KEY_FIRST_START = 3, /* starting place, least */
+    GRAFS_KEY_LAST_START = 4,  /* starting place, greatest */
+    GRAFS_KEY_WIDEST = 5,      /* smallest crate size, greatest */
+    GRAFS_KEY_NARROWEST = 6    /* smallest crate size, least */
+};
+
+enum grafs_operator {
+    GRAFS_OP_MIN = 1,
+    GRAFS_OP_MAX = 2,
+    GRAFS_OP_PLUS = 3,
+    GRAFS_OP_MINUS = 4,
+    GRAFS_OP_TIMES = 5,
+    GRAFS_OP_DIVIDE = 6,
+    GRAFS_OP_EQUAL = 7,
+    GRAFS_OP_LESS = 8,
+    GRAFS_OP_GREATER = 9,
+    GRAFS_OP_AND = 10,
+    GRAFS_OP_OR = 11
+};
+
+enum grafs_reduction {
+    GRAFS_REDUCE_MIN = 1,
+    GRAFS_REDUCE_MAX = 2,
+    GRAFS_REDUCE_SUM = 3,
+    GRAFS_REDUCE_AND = 4,
+    GRAFS_REDUCE_OR = 5
+};
+
+#ifdef GRAFS_PREFIXED
+#define GRAFS_CALL(name) grafs_##name
+#else
+#define GRAFS_CALL(name) name
+#endif
+
 /* The question (LPQ) is judged, then 15; the worksheet (LPW) is written to out. */
-uint32_t fuse(const uint8_t *question, size_t question_len, uint8_t *out, size_t out_len);
+uint32_t GRAFS_CALL(fuse)(const uint8_t *question, size_t question_len, uint8_t *out, size_t out_len);
 
 /* The worksheet (LPW), the map (LPM) and the starts are judged, then 15; the answer (LPA) is written to out. */
-uint32_t run(const uint8_t *worksheet, size_t worksheet_len, const uint8_t *map, size_t map_len, uint8_t *out, size_t out_len);
+uint32_t GRAFS_CALL(run)(const uint8_t *worksheet, size_t worksheet_len, const uint8_t *map, size_t map_len, uint8_t *out, size_t out_len);
 
 #ifdef __cplusplus
 }

@@ -1,65 +1,100 @@
-/* A question is fused once, and its worksheet is run on two maps.
+/* A tag desk in small: two questions are fused once and run on a map whose passages close and reopen.
  *
- *     rt staticlib grafs && gcc -Iinclude examples/service.c target/staticlib/libgrafs.a -o service && ./service */
+ *     make lib && gcc -Iinclude examples/service.c build/libgrafs.a -o build/service && build/service */
 #include <stdio.h>
-#include "grafs.h"
+#include "grafs_build.h"
 
-/* Seconds from place 0 (kind 0, one chain of key 2). */
-static const uint8_t question[] = { 'L', 'P', 'Q', 1, 0, 0, 0x10, 1, 2, 0, 0 };
+typedef struct {
+    unsigned from, to, seconds, crate;
+    int closed;
+} passage;
 
-/* Map A of document 01, and one place with no passage. */
-static const uint8_t map_a[] = {
-    'L', 'P', 'M', 1, 0, 4, 0, 4, 0,
-    0, 0, 1, 0, 5, 0, 10, 0,
-    0, 0, 2, 0, 2, 0, 4, 0,
-    2, 0, 1, 0, 3, 0, 20, 0,
-    1, 0, 3, 0, 0, 0, 7, 0,
-};
-static const uint8_t map_b[] = { 'L', 'P', 'M', 1, 0, 1, 0, 0, 0 };
+static passage passages[] = { { 0, 1, 9, 10, 0 }, { 0, 2, 2, 4, 0 }, { 2, 1, 3, 20, 0 }, { 1, 3, 4, 7, 0 } };
 
-static unsigned at16(const uint8_t *p) { return p[0] | (unsigned)p[1] << 8; }
+typedef struct {
+    uint8_t bytes[GRAFS_WORKSHEET_MAX];
+    uint32_t len;
+} worksheet;
 
-static uint64_t at64(const uint8_t *p)
+/* How many seconds is each place from place 0? */
+static size_t ask_each(uint8_t *bytes, size_t room)
 {
-    uint64_t x = 0;
-    for (int i = 7; i >= 0; i--)
-        x = x << 8 | p[i];
-    return x;
+    grafs_question q = grafs_begin_question(bytes, room, GRAFS_KIND_EACH);
+    grafs_chain1(&q, GRAFS_KEY_SECONDS, 0);
+    return grafs_end_question(&q);
 }
 
-/* The rows of an answer: a byte, 1 for a number and 0 for absent, and 64 bits. */
-static void print_answer(const uint8_t *answer)
+/* How much farther is the farthest place than 5 seconds? */
+static size_t ask_farthest(uint8_t *bytes, size_t room)
 {
-    unsigned rows = answer[9] == 0 ? at16(answer + 5) : 1;
-    printf("rounds %u\n", at16(answer + 7));
-    for (unsigned i = 0; i < rows; i++) {
-        const uint8_t *row = answer + 10 + 9 * i;
-        if (row[0])
-            printf("%u %llu\n", i, (unsigned long long)at64(row + 1));
+    grafs_question q = grafs_begin_question(bytes, room, GRAFS_KIND_RESULT);
+    grafs_result_operator(&q, GRAFS_OP_MINUS);
+    grafs_reduction(&q, GRAFS_REDUCE_MAX);
+    grafs_chain1(&q, GRAFS_KEY_SECONDS, 0);
+    grafs_result_literal(&q, 5);
+    return grafs_end_question(&q);
+}
+
+/* A question of so many bytes, fused. A refused one leaves no bytes, and every run refuses these. */
+static worksheet fused(const uint8_t *question, size_t len)
+{
+    worksheet w;
+    char text[GRAFS_TEXT_MAX];
+    uint32_t n = fuse(question, len, w.bytes, sizeof w.bytes);
+    w.len = n < GRAFS_REFUSAL ? n : 0;
+    printf("fuse: %s\n", grafs_name(grafs_number_of(n)));
+    grafs_worksheet_text(w.bytes, w.len, text, sizeof text);
+    fputs(text, stdout);
+    return w;
+}
+
+/* The map of the passages that are open now. */
+static size_t map_now(uint8_t *bytes, size_t room)
+{
+    grafs_map m = grafs_begin_map(bytes, room, 4);
+    for (size_t i = 0; i < sizeof passages / sizeof *passages; i++)
+        if (!passages[i].closed)
+            grafs_passage(&m, passages[i].from, passages[i].to, passages[i].seconds, passages[i].crate);
+    return grafs_end_map(&m);
+}
+
+static void print_answer(const grafs_answer *a)
+{
+    printf("  rounds %u\n", a->rounds);
+    for (unsigned i = 0; i < a->rows; i++) {
+        uint64_t x;
+        if (a->kind == GRAFS_KIND_EACH)
+            printf("  place %u ", i);
         else
-            printf("%u -\n", i);
+            printf("  result ");
+        if (grafs_answer_row(a, i, &x) == GRAFS_ROW_NUMBER)
+            printf("%llu\n", (unsigned long long)x);
+        else
+            printf("-\n");
     }
 }
 
-static int run_on(const uint8_t *worksheet, size_t len, const uint8_t *map, size_t map_len)
+static void run_now(const worksheet *w)
 {
-    uint8_t answer[GRAFS_ANSWER_MAX];
-    uint32_t n = run(worksheet, len, map, map_len, answer, sizeof answer);
-    if (n >= GRAFS_REFUSAL) {
-        printf("refused %u\n", (unsigned)(n - GRAFS_REFUSAL));
-        return 1;
-    }
-    print_answer(answer);
-    return 0;
+    uint8_t map[GRAFS_MAP_MAX], bytes[GRAFS_ANSWER_MAX];
+    grafs_answer a;
+    uint32_t n = run(w->bytes, w->len, map, map_now(map, sizeof map), bytes, sizeof bytes);
+    if (grafs_read_answer(&a, bytes, n))
+        print_answer(&a);
+    else
+        printf("  refused %u %s\n", (unsigned)grafs_number_of(n), grafs_name(grafs_number_of(n)));
 }
 
 int main(void)
 {
-    uint8_t worksheet[GRAFS_WORKSHEET_MAX];
-    uint32_t len = fuse(question, sizeof question, worksheet, sizeof worksheet);
-    if (len >= GRAFS_REFUSAL) {
-        printf("refused %u\n", (unsigned)(len - GRAFS_REFUSAL));
-        return 1;
+    uint8_t question[GRAFS_QUESTION_MAX];
+    worksheet each = fused(question, ask_each(question, sizeof question));
+    worksheet farthest = fused(question, ask_farthest(question, sizeof question));
+    for (int turn = 0; turn < 3; turn++) {
+        passages[1].closed = turn == 1;
+        puts(turn == 1 ? "0 to 2 closed" : "all open");
+        run_now(&each);
+        run_now(&farthest);
     }
-    return run_on(worksheet, len, map_a, sizeof map_a) | run_on(worksheet, len, map_b, sizeof map_b);
+    return 0;
 }

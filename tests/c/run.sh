@@ -1,11 +1,13 @@
 #!/bin/sh
-# The C test of the two exported calls, plain and under the address sanitizer, the example service against its stored output, and what is exported.
-# The last line is 'N passed, M failed'.
+# The C tests: the two exported calls, the builders and readers of grafs_build.h as C and as C++, what grafs.h says of stack and threads, a program with a `run`
+# of its own, the examples against their stored output, what the archive holds, and an installed copy. The last line is 'N passed, M failed'.
 set -u
 cd "$(dirname "$0")/../.." || exit 2
 dir=$(mktemp -d) || exit 2
 trap 'rm -rf "$dir"' EXIT
-lib=target/staticlib/libgrafs.a
+lib=build/libgrafs.a
+prefixed=build/libgrafs_prefixed.a
+cases='crates/cases/data/cases.bin crates/cases/data/runs.bin'
 passed=0
 failed=0
 
@@ -20,16 +22,56 @@ check() { # NAME COMMAND..
     fi
 }
 
-compile() { gcc -std=c11 -Wall -Wextra -Werror -Iinclude "$@" "$lib"; }
-plain() { compile -O2 tests/c/test.c -o "$dir/test" && "$dir/test"; }
-sanitized() { compile -g -fsanitize=address,undefined tests/c/test.c -o "$dir/test_san" && "$dir/test_san"; }
-service() { compile -O2 examples/service.c -o "$dir/service" && "$dir/service" | diff - examples/service.out; }
-exported() { nm -g --defined-only "$lib" | awk '$2 == "T" { print $3 }' | sort | tr '\n' ' ' | grep -qx 'fuse run '; }
+warnings='-Wall -Wextra -Wpedantic -Wconversion -Wshadow -Werror -Iinclude'
+c() { gcc -std=c11 $warnings "$@"; }
+cxx() { g++ -std=c++11 -x c++ $warnings "$@"; }
+sanitize='-g -fsanitize=address,undefined -fno-sanitize-recover=all'
 
-rt staticlib grafs >/dev/null || exit 1
-check 'the calls' plain
-check 'the calls under the sanitizers' sanitized
+calls() { c -O2 tests/c/test.c "$lib" -o "$dir/test" && "$dir/test"; }
+calls_sanitized() { c $sanitize tests/c/test.c "$lib" -o "$dir/test" && "$dir/test"; }
+builders() { c -O2 tests/c/build.c "$lib" -o "$dir/build" && "$dir/build" $cases; }
+builders_sanitized() { c $sanitize tests/c/build.c "$lib" -o "$dir/build" && "$dir/build" $cases; }
+builders_in_cxx() { cxx $sanitize tests/c/build.c -x none "$lib" -o "$dir/build" && "$dir/build" $cases; }
+limits() { c -O2 tests/c/limits.c "$lib" -pthread -o "$dir/limits" && "$dir/limits"; }
+own_names() { c -O2 -DGRAFS_PREFIXED tests/c/own_names.c "$prefixed" -o "$dir/own" && "$dir/own"; }
+own_names_in_cxx() { cxx -O2 -DGRAFS_PREFIXED tests/c/own_names.c -x none "$prefixed" -o "$dir/own" && "$dir/own"; }
+service() { c -O2 examples/service.c "$lib" -o "$dir/service" && "$dir/service" | diff - examples/service.out; }
+
+# The files that the example writes are those on which the program is tried.
+files() {
+    c -O2 examples/files.c -o "$dir/files" && (cd "$dir" && ./files) &&
+        cmp "$dir/question.lpq" crates/grafs_main/data/question.lpq && cmp "$dir/map.lpm" crates/grafs_main/data/map.lpm
+}
+
+# exported ARCHIVE NAMES: just these functions; nothing that can be written, and no function but two is asked for.
+exported() { nm "$1" | awk 'NF == 3 && $2 ~ /[A-Z]/ { print $2 $3 }' | sort | tr '\n' ' ' | grep -qx "$2"; }
+asked_for() { nm -u "$1" | awk '$1 == "U" { print $2 }' | sort | tr '\n' ' ' | grep -qx 'memcpy memset '; }
+no_data() { ! size -A "$1" | awk '$2 > 0' | grep -E '^\.(data|bss|tdata|tbss)'; }
+
+# An installed copy, used elsewhere by its pkg-config files.
+flags() { PKG_CONFIG_PATH="$dir/usr/lib/pkgconfig" pkg-config --cflags --libs "$1"; }
+elsewhere() { gcc service.c $(flags grafs) -o service && gcc own_names.c $(flags grafs_prefixed) -o own && ./own; }
+installed() {
+    make -s install PREFIX="$dir/usr" >"$dir/log" 2>&1 || { cat "$dir/log"; return 1; }
+    mkdir "$dir/far" && cp examples/service.c tests/c/own_names.c tests/c/check.h "$dir/far" && (cd "$dir/far" && elsewhere) &&
+        "$dir/far/service" | diff - examples/service.out
+}
+
+make -s lib 2>"$dir/log" || { cat "$dir/log"; exit 1; }
+check 'the calls' calls
+check 'the calls under the sanitizers' calls_sanitized
+check 'the builders' builders
+check 'the builders under the sanitizers' builders_sanitized
+check 'the builders in C++' builders_in_cxx
+check 'stack, threads, the longest question' limits
+check 'a program with a run of its own' own_names
+check 'a program with a run of its own, in C++' own_names_in_cxx
 check 'the example service' service
-check 'exactly two functions are exported' exported
+check 'the example that writes files' files
+check 'exactly two functions are exported' exported "$lib" 'Tfuse Trun '
+check 'exactly two functions are exported, by their other names' exported "$prefixed" 'Tgrafs_fuse Tgrafs_run '
+check 'nothing but memcpy and memset is asked for' asked_for "$lib"
+check 'the archive has no data that can be written' no_data "$lib"
+check 'an installed copy' installed
 echo "$passed passed, $failed failed"
 [ "$failed" = 0 ]

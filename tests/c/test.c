@@ -1,32 +1,9 @@
 /* The two exported calls, from C: stored bytes in, stored bytes out, each with every lent length from 0 to some bytes more than needed.
  * The rest of the buffer, the bytes before and behind it, and the inputs must be as they were. */
-#include <stdio.h>
-#include <stdlib.h>
-#include <string.h>
+#include "check.h"
 #include "grafs.h"
 
 enum { GUARD = 64, FILL = 0xa5 };
-
-static unsigned tried, failed;
-
-static void expect(int held, const char *name, size_t lent)
-{
-    tried++;
-    if (held)
-        return;
-    failed++;
-    printf("differs: %s, lent %zu\n", name, lent);
-}
-
-/* A copy on the heap of just its length, so that a sanitizer sees any step outside. */
-static uint8_t *copy_of(const uint8_t *bytes, size_t len)
-{
-    uint8_t *p = malloc(len ? len : 1);
-    if (!p)
-        exit(2);
-    memcpy(p, bytes, len);
-    return p;
-}
 
 static int all(const uint8_t *p, size_t len)
 {
@@ -50,9 +27,7 @@ typedef struct {
 static void try_with(const test_case *c, size_t lent)
 {
     uint8_t *first = copy_of(c->first, c->first_len), *map = copy_of(c->map ? c->map : (const uint8_t *)"", c->map_len);
-    uint8_t *room = malloc(lent + 2 * GUARD), *out = room + GUARD;
-    if (!room)
-        exit(2);
+    uint8_t *room = room_of(lent + 2 * GUARD), *out = room + GUARD;
     memset(room, FILL, lent + 2 * GUARD);
     uint32_t n = c->map ? run(first, c->first_len, map, c->map_len, out, lent) : fuse(first, c->first_len, out, lent);
     uint32_t number = c->number ? c->number : lent < c->want_len ? GRAFS_BUFFER_SHORT : GRAFS_DONE;

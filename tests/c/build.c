@@ -1,0 +1,268 @@
+/* grafs_build.h on the case files of crate `cases`: every accepted question and map is built again, byte for byte, in every shorter room and in
+ * longer ones; every answer is read, and what was read is laid out again; every worksheet is shown, whatever its bytes. The calls are made on
+ * them too. Buffers stand on the heap in their exact lengths, so that a sanitizer sees any step outside. Compiled as C and as C++. */
+#include "case_files.h"
+
+static const char *const names[] = { "done", "short", "mark", "version", "places", "passages", "length", "no such place", "crate", "code", "key order",
+    "deep", "terms", "start", "full sheet", "buffer short", "no such row" };
+
+static size_t built, read_back, shown;
+
+/* ---------------------------------------------------------------------------------------------------------------------- questions and maps */
+/* The term that starts here, written again; returns where it ends. */
+static const uint8_t *term_again(grafs_question *q, const uint8_t *p)
+{
+    switch (p[0]) {
+    case GRAFS_TERM_CHAIN:
+        if (p[1] == 1)
+            grafs_chain1(q, p[2], grafs_get(p + 3, 2));
+        else
+            grafs_chain(q, p + 2, p[1], grafs_get(p + 2 + p[1], 2));
+        return p + 4 + p[1];
+    case GRAFS_TERM_PLACE_LITERAL:
+        grafs_place_literal(q, grafs_get(p + 1, 4));
+        return p + 5;
+    case GRAFS_TERM_RESULT_LITERAL:
+        grafs_result_literal(q, grafs_get(p + 1, 4));
+        return p + 5;
+    case GRAFS_TERM_PLACE_OPERATOR:
+        grafs_place_operator(q, p[1]);
+        return term_again(q, term_again(q, p + 2));
+    case GRAFS_TERM_RESULT_OPERATOR:
+        grafs_result_operator(q, p[1]);
+        return term_again(q, term_again(q, p + 2));
+    default:
+        grafs_reduction(q, p[1]);
+        return term_again(q, p + 2);
+    }
+}
+
+static size_t question_again(const uint8_t *bytes, uint8_t *room, size_t len)
+{
+    grafs_question q = grafs_begin_question(room, len, bytes[5]);
+    term_again(&q, bytes + 6);
+    return grafs_end_question(&q);
+}
+
+static size_t map_again(const uint8_t *bytes, uint8_t *room, size_t len)
+{
+    grafs_map m = grafs_begin_map(room, len, grafs_get(bytes + 5, 2));
+    size_t rows = (size_t)grafs_get(bytes + 7, 2);
+    for (const uint8_t *p = bytes + 9; rows > 0; rows--, p += 8)
+        grafs_passage(&m, grafs_get(p, 2), grafs_get(p + 2, 2), grafs_get(p + 4, 2), grafs_get(p + 6, 2));
+    return grafs_end_map(&m);
+}
+
+/* In every room from none to three bytes too many; what has no room is left out, what has some is there. The longest map is tried in fewer. */
+static void try_built(const file_case *c, size_t index)
+{
+    size_t step = c->len > 4096 ? 97 : 1;
+    for (size_t room = c->len % step; room <= c->len + 3; room += room < c->len ? step : 1) {
+        uint8_t *out = room_of(room);
+        memset(out, 0xa5, room);
+        size_t n = c->kind == CASE_MAP ? map_again(c->bytes, out, room) : question_again(c->bytes, out, room);
+        expect(n == (room < c->len ? 0 : c->len), "length built", index);
+        if (room >= c->len)
+            expect(!memcmp(out, c->bytes, c->len), "bytes built", index);
+        for (size_t i = c->len; i < room; i++)
+            expect(out[i] == 0xa5, "behind what was built", index);
+        free(out);
+    }
+    built++;
+}
+
+/* ---------------------------------------------------------------------------------------------------------------------- answers */
+static void lay_row(uint8_t *out, const grafs_answer *a, size_t i)
+{
+    uint64_t x = 0;
+    enum grafs_row row = grafs_answer_row(a, i, &x);
+    expect(row != GRAFS_ROW_NONE, "a row of an answer", i);
+    out[0] = row == GRAFS_ROW_NUMBER;
+    for (int k = 0; k < 8; k++, x >>= 8)
+        out[1 + k] = (uint8_t)(x & 255);
+}
+
+/* What the reader says of an answer, as bytes. */
+static size_t answer_again(const uint8_t *bytes, size_t len, uint8_t *out)
+{
+    grafs_answer a;
+    uint64_t x = 7;
+    if (!grafs_read_answer(&a, bytes, len))
+        return 0;
+    memcpy(out, "LPA\1\0", 5);
+    out[5] = (uint8_t)(a.places & 255), out[6] = (uint8_t)(a.places >> 8);
+    out[7] = (uint8_t)(a.rounds & 255), out[8] = (uint8_t)(a.rounds >> 8);
+    out[9] = (uint8_t)a.kind;
+    for (size_t i = 0; i < a.rows; i++)
+        lay_row(out + 10 + 9 * i, &a, i);
+    expect(grafs_answer_row(&a, a.rows, &x) == GRAFS_ROW_NONE && grafs_answer_row(&a, SIZE_MAX, &x) == GRAFS_ROW_NONE && x == 7, "no such row", len);
+    return 10 + 9 * (size_t)a.rows;
+}
+
+/* Read whole, cut anywhere, a byte too long, and with a byte changed that no answer has so. */
+static void try_answer(const uint8_t *bytes, size_t len, size_t index)
+{
+    static const struct {
+        size_t at;
+        uint8_t byte;
+    } wrong[] = { { 0, 'M' }, { 1, 'Q' }, { 2, 'W' }, { 3, 2 }, { 4, 1 }, { 6, 2 }, { 9, 2 }, { 10, 2 } };
+    uint8_t out[GRAFS_ANSWER_MAX + 1];
+    expect(answer_again(bytes, len, out) == len && !memcmp(out, bytes, len), "an answer read", index);
+    for (size_t cut = 0; cut < len; cut++) {
+        uint8_t *part = copy_of(bytes, cut);
+        expect(answer_again(part, cut, out) == 0, "an answer cut", index);
+        free(part);
+    }
+    for (size_t i = 0; i < sizeof wrong / sizeof *wrong; i++) {
+        uint8_t *changed = copy_of(bytes, len);
+        changed[wrong[i].at] = wrong[i].byte;
+        expect(answer_again(changed, len, out) == 0, "an answer changed", wrong[i].at);
+        free(changed);
+    }
+    memcpy(out, bytes, len);
+    out[len] = 0;
+    expect(!answer_again(out, len + 1, out), "an answer and a byte", index);
+    read_back++;
+}
+
+/* An absent row has nothing but 0; a refusal is no length. */
+static void try_no_answers(void)
+{
+    const uint8_t absent[19] = { 'L', 'P', 'A', 1, 0, 1, 0, 1, 0, 1, 0, 0, 0, 0, 0, 0, 0, 0, 1 };
+    grafs_answer a;
+    expect(!grafs_read_answer(&a, absent, sizeof absent), "absent with a number", 0);
+    expect(!grafs_read_answer(&a, absent, GRAFS_REFUSAL + GRAFS_BUFFER_SHORT), "a refusal for a length", 0);
+    expect(!grafs_read_answer(&a, NULL, 0), "no bytes", 0);
+}
+
+/* ---------------------------------------------------------------------------------------------------------------------- worksheets */
+/* The text in every room up to its length, and closed by a 0 in each. A worksheet that is short has none. */
+static void try_text(const uint8_t *bytes, size_t len, uint32_t number, size_t index)
+{
+    uint8_t *sheet = copy_of(bytes, len);
+    char whole[GRAFS_TEXT_MAX];
+    size_t size = grafs_worksheet_text(sheet, len, whole, sizeof whole);
+    expect(number == GRAFS_DONE ? size > 0 && size < GRAFS_TEXT_MAX : number > GRAFS_VERSION || size == 0, "a worksheet's text", index);
+    expect(strlen(whole) == (size < sizeof whole ? size : sizeof whole - 1), "a text's length", index);
+    for (size_t room = 0; room <= strlen(whole); room++) {
+        char *text = (char *)room_of(room);
+        expect(grafs_worksheet_text(sheet, len, text, room) == size, "a text cut", index);
+        expect(room == 0 || (strlen(text) == room - 1 && !memcmp(text, whole, room - 1)), "a text cut", index);
+        free(text);
+    }
+    free(sheet);
+    shown++;
+}
+
+static void try_one_text(const char *name, const uint8_t *bytes, size_t len, const char *expected)
+{
+    char text[GRAFS_TEXT_MAX];
+    size_t size = grafs_worksheet_text(bytes, len, text, sizeof text);
+    expect(size == strlen(expected) && !strcmp(text, expected), name, 0);
+}
+
+static void try_texts(void)
+{
+    const uint8_t marked[] = { 'L', 'P', 'W', 1, 0, 1, 1, 1, 1, 0, 0, 0, 0, 1, 2, 0x30, 0, 0x31, 0 };
+    const uint8_t each[] = { 'L', 'P', 'W', 1, 0, 0, 2, 3, 3, 4, 5, 255, 255, 2, 2, 6, 0, 255, 0, 1, 0, 0x12, 1, 0x12, 9, 0x30, 0, 0x30, 1, 0x11, 255, 255,
+        255, 255 };
+    const uint8_t none[] = { 'L', 'P', 'W', 1, 0, 1, 0, 0, 0x22, 10, 0x22, 5, 0x21, 0, 0, 0, 0, 0x21, 7, 0, 0, 0, 0x22, 11, 0x21, 1, 0, 0, 0, 0x21, 2, 0, 0, 0 };
+    try_one_text("the byte case as text", marked, sizeof marked,
+        "chain 0: least passages, from 0\n"
+        "entry 0: max over places of chain 0\n"
+        "result: entry 0\n");
+    try_one_text("each place as text", each, sizeof each,
+        "chain 0: least start, greatest start, greatest crate, from anywhere\n"
+        "chain 1: least seconds, least crate, from 255\n"
+        "each place: min((chain 0 > chain 1), 4294967295)\n");
+    try_one_text("no chain as text", none, sizeof none, "result: ((0 * 7) and (1 or 2))\n");
+    try_one_text("a refusal for a length", marked, GRAFS_REFUSAL + GRAFS_BUFFER_SHORT, "");
+    try_one_text("no worksheet", marked, 0, "");
+}
+
+/* ---------------------------------------------------------------------------------------------------------------------- the calls */
+/* A question is refused by its number or fused, and what is fused can be shown. */
+static void try_fuse(const file_case *c, size_t index)
+{
+    uint8_t *question = copy_of(c->bytes, c->len), out[GRAFS_WORKSHEET_MAX];
+    uint32_t n = fuse(question, c->len, out, sizeof out);
+    expect(grafs_number_of(n) == c->number && (n < GRAFS_REFUSAL) == (c->number == GRAFS_DONE), "fuse", index);
+    if (n < GRAFS_REFUSAL)
+        try_text(out, n, GRAFS_DONE, index);
+    free(question);
+}
+
+static void try_run(const run_case *r, uint32_t number, size_t index)
+{
+    uint8_t *plan = copy_of(r->plan, r->plan_len), *graph = copy_of(r->graph, r->graph_len), *out = room_of(r->lent);
+    uint32_t n = run(plan, r->plan_len, graph, r->graph_len, out, r->lent);
+    expect(n == (number == GRAFS_DONE ? r->answer_len : GRAFS_REFUSAL + number), "run", index);
+    expect(number != GRAFS_DONE || !memcmp(out, r->answer, r->answer_len), "an answer's bytes", index);
+    free(plan), free(graph), free(out);
+}
+
+static void try_case(const file_case *c, size_t index)
+{
+    if (c->number == GRAFS_DONE && (c->kind == CASE_MAP || c->kind == CASE_QUESTION))
+        try_built(c, index);
+    if (c->kind == CASE_QUESTION)
+        try_fuse(c, index);
+    if (c->kind == CASE_WORKSHEET)
+        try_text(c->bytes, c->len, c->number, index);
+    if (c->kind < CASE_RUN)
+        return;
+    run_case r = run_case_of(c);
+    if (r.call < 2)
+        try_run(&r, c->number, index);
+    if (c->number == GRAFS_DONE && r.call == 0)
+        try_answer(r.answer, r.answer_len, index);
+}
+
+/* ---------------------------------------------------------------------------------------------------------------------- numbers */
+static void try_names(void)
+{
+    for (uint32_t i = 0; i < sizeof names / sizeof *names; i++)
+        expect(!strcmp(grafs_name(i), names[i]), "a name", i);
+    expect(!strcmp(grafs_name(17), "no such number") && !strcmp(grafs_name(UINT32_MAX), "no such number"), "no name", 17);
+    expect(grafs_number_of(0) == 0 && grafs_number_of(65535) == 0 && grafs_number_of(65536) == 0 && grafs_number_of(65552) == 16, "a result's number", 0);
+}
+
+/* A number that its field cannot take makes no file: never another number in its place. */
+static void try_wide(void)
+{
+    uint8_t out[GRAFS_MAP_MAX];
+    for (int i = 0; i < 8; i++) {
+        grafs_question q = grafs_begin_question(out, sizeof out, i == 0 ? 256 : 0);
+        grafs_chain1(&q, i == 1 ? 257 : 1, i == 2 ? 65536 : i == 3 ? (uint64_t)-1 : 0);
+        grafs_place_literal(&q, i == 4 ? 4294967296u : 4294967295u);
+        grafs_place_operator(&q, i == 5 ? 259 : 3);
+        grafs_reduction(&q, i == 6 ? UINT64_C(1) << 40 : 3);
+        expect((grafs_end_question(&q) == 0) == (i < 7), "a question's number too wide", (size_t)i);
+    }
+    for (int i = 0; i < 6; i++) {
+        grafs_map m = grafs_begin_map(out, sizeof out, i == 0 ? 65536 : 4);
+        grafs_passage(&m, i == 1 ? 65536 : 1, i == 2 ? 65537 : 1, i == 3 ? 65536 : 1, i == 4 ? 65536 + 7 : 1);
+        expect((grafs_end_map(&m) == 0) == (i < 5), "a map's number too wide", (size_t)i);
+    }
+    static uint8_t large[9 + 8 * 65536];
+    grafs_map m = grafs_begin_map(large, sizeof large, 1);
+    for (int i = 0; i < 65535; i++)
+        grafs_passage(&m, 0, 0, 0, 1);
+    expect(grafs_end_map(&m) == 9 + 8 * 65535, "as many passages as can be counted", 65535);
+    grafs_passage(&m, 0, 0, 0, 1);
+    expect(grafs_end_map(&m) == 0, "a passage more", 65536);
+}
+
+int main(int argc, char **argv)
+{
+    if (argc != 3)
+        return 2;
+    size_t cases = each_case(argv[1], try_case) + each_case(argv[2], try_case);
+    try_no_answers();
+    try_texts();
+    try_names();
+    try_wide();
+    expect(built > 60 && read_back > 100 && shown > 200, "enough of each", 0);
+    printf("c: %zu cases: %zu built, %zu answers read, %zu worksheets shown; %u comparisons, %u differ\n", cases, built, read_back, shown, tried, failed);
+    return failed != 0;
+}

@@ -206,7 +206,7 @@ typedef struct {
     const uint8_t *bytes;
     size_t len, at;
     char *text;
-    size_t room, size; /* as for grafs_bytes; the last byte of the room is kept for the 0 */
+    size_t room, size; /* as for grafs_bytes */
     int wrong;         /* whether something is no worksheet's */
 } grafs_printer;
 
@@ -223,7 +223,7 @@ static inline uint64_t grafs_next(grafs_printer *p, unsigned width)
 static inline void grafs_say(grafs_printer *p, const char *words)
 {
     for (; *words; words++, p->size++)
-        if (p->size + 1 < p->room)
+        if (p->size < p->room)
             p->text[p->size] = *words;
 }
 

@@ -131,18 +131,23 @@ static void try_no_answers(void)
     const uint8_t absent[19] = { 'L', 'P', 'A', 1, 0, 1, 0, 1, 0, 1, 0, 0, 0, 0, 0, 0, 0, 0, 1 };
     grafs_answer a;
     expect(!grafs_read_answer(&a, absent, sizeof absent), "absent with a number", 0);
-    expect(!grafs_read_answer(&a, absent, GRAFS_REFUSAL + GRAFS_BUFFER_SHORT), "a refusal for a length", 0);
+    uint8_t *head = copy_of(absent, 5);
+    expect(!grafs_read_answer(&a, head, GRAFS_REFUSAL + GRAFS_BUFFER_SHORT), "a refusal for a length", 0);
+    free(head);
     expect(!grafs_read_answer(&a, NULL, 0), "no bytes", 0);
 }
 
 /* ---------------------------------------------------------------------------------------------------------------------- worksheets */
-/* The text in every room up to its length, and closed by a 0 in each. A worksheet that is short has none. */
+/* Whether bytes refused by this number have no text: those that are no worksheet as a whole. Single fields are tried below. */
+static int no_text(uint32_t number) { return (number >= GRAFS_SHORT && number <= GRAFS_VERSION) || number == GRAFS_LENGTH || number == GRAFS_DEEP; }
+
+/* The text in every room up to its length, and closed by a 0 in each. */
 static void try_text(const uint8_t *bytes, size_t len, uint32_t number, size_t index)
 {
     uint8_t *sheet = copy_of(bytes, len);
     char whole[GRAFS_TEXT_MAX];
     size_t size = grafs_worksheet_text(sheet, len, whole, sizeof whole);
-    expect(number == GRAFS_DONE ? size > 0 && size < GRAFS_TEXT_MAX : number > GRAFS_VERSION || size == 0, "a worksheet's text", index);
+    expect(number == GRAFS_DONE ? size > 0 && size < GRAFS_TEXT_MAX : !no_text(number) || size == 0, "a worksheet's text", index);
     expect(strlen(whole) == (size < sizeof whole ? size : sizeof whole - 1), "a text's length", index);
     for (size_t room = 0; room <= strlen(whole); room++) {
         char *text = (char *)room_of(room);
@@ -176,8 +181,24 @@ static void try_texts(void)
         "chain 1: least seconds, least crate, from 255\n"
         "each place: min((chain 0 > chain 1), 4294967295)\n");
     try_one_text("no chain as text", none, sizeof none, "result: ((0 * 7) and (1 or 2))\n");
-    try_one_text("a refusal for a length", marked, GRAFS_REFUSAL + GRAFS_BUFFER_SHORT, "");
-    try_one_text("no worksheet", marked, 0, "");
+    uint8_t *head = copy_of(marked, 5);
+    try_one_text("a refusal for a length", head, GRAFS_REFUSAL + GRAFS_BUFFER_SHORT, "");
+    try_one_text("no worksheet", head, 0, "");
+    free(head);
+}
+
+/* The marked worksheet with one byte that it cannot have there. */
+static void try_wrong_texts(void)
+{
+    static const struct {
+        size_t at;
+        uint8_t byte;
+    } wrong[] = { { 5, 2 }, { 6, 2 }, { 7, 0 }, { 7, 4 }, { 8, 0 }, { 8, 7 }, { 13, 2 }, { 14, 0 }, { 14, 6 }, { 15, 0x31 }, { 17, 0x30 }, { 15, 0x10 } };
+    for (size_t i = 0; i < sizeof wrong / sizeof *wrong; i++) {
+        uint8_t sheet[] = { 'L', 'P', 'W', 1, 0, 1, 1, 1, 1, 0, 0, 0, 0, 1, 2, 0x30, 0, 0x31, 0 };
+        sheet[wrong[i].at] = wrong[i].byte;
+        try_one_text("a wrong worksheet", sheet, sizeof sheet, "");
+    }
 }
 
 /* ---------------------------------------------------------------------------------------------------------------------- the calls */
@@ -260,6 +281,7 @@ int main(int argc, char **argv)
     size_t cases = each_case(argv[1], try_case) + each_case(argv[2], try_case);
     try_no_answers();
     try_texts();
+    try_wrong_texts();
     try_names();
     try_wide();
     expect(built > 60 && read_back > 100 && shown > 200, "enough of each", 0);

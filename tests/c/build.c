@@ -171,7 +171,8 @@ static void try_texts(void)
     const uint8_t marked[] = { 'L', 'P', 'W', 1, 0, 1, 1, 1, 1, 0, 0, 0, 0, 1, 2, 0x30, 0, 0x31, 0 };
     const uint8_t each[] = { 'L', 'P', 'W', 1, 0, 0, 2, 3, 3, 4, 5, 255, 255, 2, 2, 6, 0, 255, 0, 1, 0, 0x12, 1, 0x12, 9, 0x30, 0, 0x30, 1, 0x11, 255, 255,
         255, 255 };
-    const uint8_t none[] = { 'L', 'P', 'W', 1, 0, 1, 0, 0, 0x22, 10, 0x22, 5, 0x21, 0, 0, 0, 0, 0x21, 7, 0, 0, 0, 0x22, 11, 0x21, 1, 0, 0, 0, 0x21, 2, 0, 0, 0 };
+    const uint8_t none[] = { 'L', 'P', 'W', 1, 0, 1, 0, 0, 0x22, 10, 0x22, 5, 0x21, 0, 0, 0, 0, 0x21, 7, 0, 0, 0, 0x22, 11, 0x21, 1, 0, 0, 0, 0x21, 2, 0, 0,
+        0 };
     try_one_text("the byte case as text", marked, sizeof marked,
         "chain 0: least passages, from 0\n"
         "entry 0: max over places of chain 0\n"
@@ -199,6 +200,43 @@ static void try_wrong_texts(void)
         sheet[wrong[i].at] = wrong[i].byte;
         try_one_text("a wrong worksheet", sheet, sizeof sheet, "");
     }
+}
+
+/* So many terms of a final expression, an odd number, in a tree of little depth: greatest literals. */
+static void put_final(grafs_bytes *b, unsigned terms)
+{
+    unsigned left = (terms - 1) / 2 | 1;
+    grafs_put(b, terms == 1 ? GRAFS_TERM_RESULT_LITERAL : GRAFS_TERM_RESULT_OPERATOR, 1);
+    if (terms == 1) {
+        grafs_put(b, 4294967295u, 4);
+        return;
+    }
+    grafs_put(b, GRAFS_OP_AND, 1);
+    put_final(b, left);
+    put_final(b, terms - 1 - left);
+}
+
+/* The longest worksheet that a run takes, 299 bytes, with the longest words: eight chains, seven entries of a literal, 57 terms of a final expression. */
+static void try_longest_text(void)
+{
+    const uint8_t map[] = { 'L', 'P', 'M', 1, 0, 1, 0, 0, 0 };
+    uint8_t sheet[GRAFS_WORKSHEET_MAX], answer[GRAFS_ANSWER_MAX];
+    grafs_bytes b = grafs_begin(sheet, sizeof sheet, 'W');
+    grafs_put(&b, GRAFS_KIND_RESULT, 1);
+    grafs_put(&b, 8, 1);
+    for (int i = 0; i < 8; i++) {
+        grafs_put(&b, 0x04040403, 4); /* three keys, each the greatest start */
+        grafs_put(&b, GRAFS_ANYWHERE, 2);
+    }
+    grafs_put(&b, 7, 1);
+    for (int i = 0; i < 7; i++) {
+        grafs_put(&b, GRAFS_REDUCE_MAX, 1);
+        grafs_put(&b, GRAFS_TERM_PLACE_LITERAL, 1);
+        grafs_put(&b, 4294967295u, 4);
+    }
+    put_final(&b, 57);
+    expect(grafs_end(&b) == 299 && run(sheet, 299, map, sizeof map, answer, sizeof answer) == 19, "the longest worksheet", grafs_end(&b));
+    try_text(sheet, grafs_end(&b), GRAFS_DONE, 0);
 }
 
 /* ---------------------------------------------------------------------------------------------------------------------- the calls */
@@ -282,6 +320,7 @@ int main(int argc, char **argv)
     try_no_answers();
     try_texts();
     try_wrong_texts();
+    try_longest_text();
     try_names();
     try_wide();
     expect(built > 60 && read_back > 100 && shown > 200, "enough of each", 0);

@@ -57,7 +57,7 @@ installed() {
         "$dir/far/service" | diff - examples/service.out
 }
 
-make -s lib 2>"$dir/log" || { cat "$dir/log"; exit 1; }
+make -s lib || exit 1
 check 'the calls' calls
 check 'the calls under the sanitizers' calls_sanitized
 check 'the builders' builders

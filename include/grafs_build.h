@@ -19,12 +19,12 @@ static inline const char *grafs_name(uint32_t number)
 }
 
 /* ---------------------------------------------------------------------------------------------------------------------- bytes
- * A file as it is written, piece by piece. What finds no room is counted and left out. */
+ * A file as it is written, piece by piece. What finds no room is counted and left out. The functions of this part serve those below. */
 typedef struct {
     uint8_t *bytes;
     size_t room;
-    size_t size;   /* of the whole file, with what found no room */
-    int too_wide;  /* whether some number was greater than its field takes */
+    size_t size;  /* of the whole file, with what found no room */
+    int too_wide; /* whether some number was greater than its field takes */
 } grafs_bytes;
 
 static inline void grafs_set(grafs_bytes *b, size_t at, uint64_t x)
@@ -68,7 +68,8 @@ static inline grafs_question grafs_begin_question(uint8_t *bytes, size_t room, u
     return q;
 }
 
-/* The length of the question. It is 0 where the room was too short or a number too great for its field; every call refuses 0 bytes. */
+/* The length of the question. It is 0 where the room was too short, and then q->file.size bytes would do, or a number too great for its field
+ * (q->file.too_wide). Every call refuses 0 bytes. */
 static inline size_t grafs_end_question(const grafs_question *q) { return grafs_end(&q->file); }
 
 /* Place terms. A chain has one to three keys and a start, a place or GRAFS_ANYWHERE. */
@@ -267,22 +268,22 @@ static inline void grafs_say_chain(grafs_printer *p)
 }
 
 /* An expression, of a depth up to `deepest`: the final one over entries, any other over chains. */
-static inline void grafs_say_expression(grafs_printer *p, int final, int deepest)
+static inline void grafs_say_expression(grafs_printer *p, int over_entries, int deepest)
 {
     static const char *const before[] = { "min(", "max(", "(", "(", "(", "(", "(", "(", "(", "(", "(" };
     static const char *const between[] = { ", ", ", ", " + ", " - ", " * ", " / ", " = ", " < ", " > ", " and ", " or " };
     uint64_t tag = grafs_next(p, 1);
-    if (tag == (final ? GRAFS_TERM_ENTRY_INDEX : GRAFS_TERM_CHAIN_INDEX)) {
-        grafs_say(p, final ? "entry " : "chain ");
+    if (tag == (over_entries ? GRAFS_TERM_ENTRY_INDEX : GRAFS_TERM_CHAIN_INDEX)) {
+        grafs_say(p, over_entries ? "entry " : "chain ");
         grafs_say_number(p, grafs_next(p, 1));
-    } else if (tag == (final ? GRAFS_TERM_RESULT_LITERAL : GRAFS_TERM_PLACE_LITERAL)) {
+    } else if (tag == (over_entries ? GRAFS_TERM_RESULT_LITERAL : GRAFS_TERM_PLACE_LITERAL)) {
         grafs_say_number(p, grafs_next(p, 4));
-    } else if (tag == (final ? GRAFS_TERM_RESULT_OPERATOR : GRAFS_TERM_PLACE_OPERATOR) && deepest > 1) {
+    } else if (tag == (over_entries ? GRAFS_TERM_RESULT_OPERATOR : GRAFS_TERM_PLACE_OPERATOR) && deepest > 1) {
         uint64_t op = grafs_next(p, 1);
         grafs_say_word(p, before, 11, op);
-        grafs_say_expression(p, final, deepest - 1);
+        grafs_say_expression(p, over_entries, deepest - 1);
         grafs_say_word(p, between, 11, op);
-        grafs_say_expression(p, final, deepest - 1);
+        grafs_say_expression(p, over_entries, deepest - 1);
         grafs_say(p, ")");
     } else {
         p->wrong = 1;

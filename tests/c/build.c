@@ -53,11 +53,10 @@ static size_t map_again(const uint8_t *bytes, uint8_t *room, size_t len)
     return grafs_end_map(&m);
 }
 
-/* In every room from none to three bytes too many; what has no room is left out, what has some is there. The longest map is tried in fewer. */
+/* In every room from none to three bytes too many. */
 static void try_built(const file_case *c, size_t index)
 {
-    size_t step = c->len > 4096 ? 97 : 1;
-    for (size_t room = c->len % step; room <= c->len + 3; room += room < c->len ? step : 1) {
+    for (size_t room = 0; room <= c->len + 3; room++) {
         uint8_t *out = room_of(room);
         memset(out, 0xa5, room);
         size_t n = c->kind == CASE_MAP ? map_again(c->bytes, out, room) : question_again(c->bytes, out, room);

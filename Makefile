@@ -12,19 +12,21 @@ LIBRARIES = build/libgrafs.a build/libgrafs_prefixed.a
 .PHONY: all lib program try test install clean
 all: lib program
 
-# rt knows what has changed. What it says goes to build/rt.log and is shown where it fails; its lines of progress come by themselves.
-RT = rt_log() { rt "$$@" >build/rt.log || { cat build/rt.log; false; }; }; rt_log
+# Proves crates: rt knows what has changed. Its lines of progress are shown, and all that it says where it fails.
+PROVE = prove() { { rt check "$$@"; echo $$? >build/status; } 2>&1 | tee build/log | sed -un '/^rt: /{/unchanged/!p}'; \
+	test "$$(cat build/status)" = 0 || { cat build/log; false; }; }; prove
 
 # The archive, and the same with names that a program with a `run` of its own can link. Copies: .ci/run removes target/.
 lib:
 	@mkdir -p build
-	@$(RT) staticlib grafs
+	@$(PROVE) grafs
+	@rt staticlib grafs >build/log 2>&1 || { cat build/log; false; }
 	cp target/staticlib/libgrafs.a build/libgrafs.a
 	$(OBJCOPY) --redefine-sym fuse=grafs_fuse --redefine-sym run=grafs_run build/libgrafs.a build/libgrafs_prefixed.a
 
 program:
 	@mkdir -p build
-	@$(RT) check grafs_main
+	@$(PROVE) grafs_main
 	cp target/bin/grafs_main build/grafs_main
 
 try:

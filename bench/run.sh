@@ -1,14 +1,14 @@
 #!/bin/sh
 # bench/run.sh [LIB.a [BATCHES]]: the library beside plain C on six questions and four maps: that all give the same bytes, then instructions, then times.
-# Without LIB.a it builds target/staticlib/libgrafs.a, which proves first all that it stands on: minutes, but for what is proved already.
+# Without LIB.a it makes build/libgrafs.a, which proves first all that it stands on: minutes, but for what is proved already.
 # Needs gcc and, for the instructions, valgrind. The program stays in target/bench. Not part of the gate; docs/BENCHMARKS.md says what the columns are.
 set -eu
 [ $# = 0 ] || lib=$(realpath "$1")
 batches=${2:-101}
 cd "$(dirname "$0")/.."
 if [ $# = 0 ]; then
-    rt staticlib grafs
-    lib=target/staticlib/libgrafs.a
+    make -s lib
+    lib=build/libgrafs.a
 fi
 dir=target/bench
 mkdir -p "$dir"

@@ -4,9 +4,9 @@
 set -eu
 cd "$(dirname "$0")/../.."
 cases=${1:?cases}
-rt staticlib grafs >/dev/null
+make -s lib
 dir=$(mktemp -d)
 trap 'rm -rf "$dir"' EXIT
 gcc -std=gnu11 -O2 -g -Wall -Wextra -Werror -fsanitize=address,undefined -fno-sanitize-recover=all -Iinclude \
-    tests/differential/driver.c tests/differential/plain.c target/staticlib/libgrafs.a -o "$dir/driver"
+    tests/differential/driver.c tests/differential/plain.c build/libgrafs.a -o "$dir/driver"
 "$dir/driver" "$cases" "${2:-0}"

@@ -10,8 +10,8 @@ page=${page:-docs/FORMATS.md}
 dir=$(mktemp -d) || exit 2
 trap 'rm -rf "$dir"' EXIT
 if [ -z "$lib" ]; then
-    rt staticlib grafs >/dev/null || exit 1
-    lib=target/staticlib/libgrafs.a
+    make -s lib || exit 1
+    lib=build/libgrafs.a
 fi
 LC_ALL=C awk -f tests/formats/page.awk include/grafs.h "$page" >"$dir/page.inc" || exit 1
 gcc -std=c11 -Wall -Wextra -Werror -Iinclude -I"$dir" tests/formats/check.c "$lib" -o "$dir/check" || exit 1

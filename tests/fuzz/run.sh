@@ -6,12 +6,12 @@ cd "$(dirname "$0")/../.."
 seconds=${1:?seconds}
 seed=${2:-1}
 tests/fuzz/install.sh
-rt staticlib grafs >/dev/null
+make -s lib
 work=target/fuzz
 mkdir -p "$work/corpus" "$work/found"
 python3 tests/fuzz/seeds.py "$work/seeds"
 clang-14 -std=c11 -O2 -g -Wall -Wextra -Werror -fsanitize=fuzzer,address,undefined -fno-sanitize-recover=all -Iinclude \
-    tests/fuzz/fuzz.c target/staticlib/libgrafs.a -o "$work/fuzz"
+    tests/fuzz/fuzz.c build/libgrafs.a -o "$work/fuzz"
 # -timeout: a call that does not end is a finding too
 exec "$work/fuzz" -max_total_time="$seconds" -seed="$seed" -max_len=9600 -len_control=20 -timeout=10 -print_final_stats=1 -verbosity=1 \
     -dict=tests/fuzz/words.dict -artifact_prefix="$work/found/" "$work/corpus" "$work/seeds"

@@ -1,13 +1,14 @@
 #!/bin/sh
-# Wrong variants of definitions and of code, and the check that refuses each (docs/PROOFS.md, "What rules what out"). Not part of the gate; crates/CRATE/must-fail has
-# those that are.
+# Wrong variants of definitions and of code, and the check that refuses each (docs/RULED_OUT.md, "What rules what out"). Not part of the gate;
+# crates/CRATE/must-fail has those that are.
 #
 #   tests/wrong/run.sh [CRATE | CRATE/LABEL]..      all, or those of some crates, or some
 #
-# CRATE.edits has a paragraph for each: a comment (what is wrong), 'edit: LABEL', and a must-fail edit's lines; these may also mend the text of a proof whose law stays
-# true, so that the check comes to one that does not. Each is applied to a copy of the repository. The crate itself is checked ('rt dev', whose incremental folder is
-# kept), and while all is proved the crates that stand on it ('rt check'), up the layers, to the first that refuses. Crates that the edit does not reach are not proved
-# again: their libraries are taken from target/ ('rt check' first). RT is the command in place of 'rt'. Copies and logs stand in target/wrong/CRATE.
+# CRATE.edits has a paragraph for each: a comment (what is wrong), 'edit: LABEL', and a must-fail edit's lines; these may also mend the text of a proof whose
+# law stays true, so that the check comes to one that does not. Each is applied to a copy of the repository. The crate itself is checked ('rt dev', whose
+# incremental folder is kept), and while all is proved the crates that stand on it ('rt check'), up the layers, to the first that refuses. Crates that the
+# edit does not reach are not proved again: their libraries are taken from target/ ('rt check' first). RT is the command in place of 'rt'. Copies and logs
+# stand in target/wrong/CRATE.
 set -u
 here=$(cd "$(dirname "$0")" && pwd -P)
 root=$(cd "$here/../.." && pwd -P)
@@ -84,7 +85,8 @@ prepare() { # CRATE
         ln -s "$root/target/rlib/$d.rlib" "$work/target/rlib/$d.rlib"
         cp "$root/target/stamp/$d" "$work/target/stamp/$d"
     done
-    [ -d "$work/target/inc/$1" ] || (cd "$work" && RT_JOBS=1 $rt dev "$1") >"$work/.log" 2>&1 || { echo "$1 is not proved as it is: see $work/.log" >&2; exit 2; }
+    [ -d "$work/target/inc/$1" ] || (cd "$work" && RT_JOBS=1 $rt dev "$1") >"$work/.log" 2>&1 ||
+        { echo "$1 is not proved as it is: see $work/.log" >&2; exit 2; }
 }
 
 try() { # CRATE LABEL

@@ -120,6 +120,8 @@ uint32_t GRAFS_CALL(fuse)(const uint8_t *question, size_t question_len, uint8_t 
 /* The worksheet (LPW), the map (LPM) and the starts are judged, then 15; the answer (LPA) is written to out. */
 uint32_t GRAFS_CALL(run)(const uint8_t *worksheet, size_t worksheet_len, const uint8_t *map, size_t map_len, uint8_t *out, size_t out_len);
 
+#undef GRAFS_CALL
+
 #ifdef __cplusplus
 }
 #endif

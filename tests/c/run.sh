@@ -1,6 +1,7 @@
 #!/bin/sh
-# The C tests: the two exported calls, the builders and readers of grafs_build.h as C and as C++, what grafs.h says of stack and threads, a program with a `run`
-# of its own, the examples against their stored output, what the archive holds, and an installed copy. The last line is 'N passed, M failed'.
+# The C tests: the two exported calls, the builders and readers of grafs_build.h as C and as C++, what grafs.h says of stack and threads, a program with a
+# `run` of its own, the examples against their stored output, the C in the pages, what the archive holds, and an installed copy. The last line is 'N passed,
+# M failed'.
 set -u
 cd "$(dirname "$0")/../.." || exit 2
 dir=$(mktemp -d) || exit 2
@@ -37,6 +38,14 @@ own_names() { c -O2 -DGRAFS_PREFIXED tests/c/own_names.c "$prefixed" -o "$dir/ow
 own_names_in_cxx() { cxx -O2 -DGRAFS_PREFIXED tests/c/own_names.c -x none "$prefixed" -o "$dir/own" && "$dir/own"; }
 service() { c -O2 examples/service.c "$lib" -o "$dir/service" && "$dir/service" | diff - examples/service.out; }
 
+# The C in a page, as it stands there: the README's as a program, what docs/FORMATS.md declares beside the header.
+c_of() { sed -n '/^```c$/,/^```$/p' "$1" | grep -v '^```'; }
+pages() {
+    { printf '#include <stdio.h>\n#include "grafs_build.h"\nint main(void)\n{\n'; c_of README.md; echo '}'; } >"$dir/readme.c"
+    { echo '#include "grafs.h"'; c_of docs/FORMATS.md; echo 'int main(void) { return fuse(NULL, 0, NULL, 0) != GRAFS_REFUSAL + 1; }'; } >"$dir/formats.c"
+    c "$dir/readme.c" "$lib" -o "$dir/readme" && "$dir/readme" && c "$dir/formats.c" "$lib" -o "$dir/formats" && "$dir/formats"
+}
+
 # The files that the example writes are those on which the program is tried.
 files() {
     c -O2 examples/files.c -o "$dir/files" && (cd "$dir" && ./files) &&
@@ -68,6 +77,7 @@ check 'a program with a run of its own' own_names
 check 'a program with a run of its own, in C++' own_names_in_cxx
 check 'the example service' service
 check 'the example that writes files' files
+check 'the C in the pages' pages
 check 'exactly two functions are exported' exported "$lib" 'Tfuse Trun '
 check 'exactly two functions are exported, by their other names' exported "$prefixed" 'Tgrafs_fuse Tgrafs_run '
 check 'nothing but memcpy and memset is asked for' asked_for "$lib"

@@ -7,7 +7,6 @@
 
 enum { RADIUS, DRR, WSP, NWR, TRUST3, MAX8, QUESTIONS };
 enum { RANDOM, CYCLE, GRID, MAP_A, MAPS };
-enum { MOST_PLACES = 256, MOST_PASSAGES = 1024, MOST_CHAINS = 8 };
 
 typedef struct {
     const char *name, *about;
@@ -52,7 +51,7 @@ INLINE int read_map(const sample *map, chart *c)
         return 0;
     memcpy(counts, map->bytes + 5, sizeof counts);
     *c = (chart){ counts[0], counts[1], map->bytes + 9 };
-    if (c->n - 1 >= MOST_PLACES || c->m > MOST_PASSAGES || map->len != 9 + 8 * (size_t)c->m)
+    if (c->n - 1 >= GRAFS_PLACES_MAX || c->m > GRAFS_PASSAGES_MAX || map->len != 9 + 8 * (size_t)c->m)
         return 0;
     for (unsigned i = 0; i < c->m; i++) {
         passage p = row_at(c, i);
@@ -72,7 +71,7 @@ typedef struct {
 } chain;
 
 /* All chains of place 0, then of place 1, ..; aligned, so that copying takes the same instructions wherever they stand. */
-typedef uint64_t words[MOST_PLACES * MOST_CHAINS] __attribute__((aligned(64)));
+typedef uint64_t words[GRAFS_PLACES_MAX * GRAFS_CHAINS_MAX] __attribute__((aligned(64)));
 
 #define BIT(n) (UINT64_C(1) << (n))
 #define NO_WALK BIT(62) /* and all above */

@@ -58,7 +58,7 @@ static void join(int operator, value *a, const value *b, unsigned n)
 }
 
 /* The term at p, over n places with the rows of the chains, or once with those of the entries; what stands behind it. */
-static const uint8_t *evaluate(const uint8_t *p, value rows[][MOST_PLACES], unsigned n, value *out)
+static const uint8_t *evaluate(const uint8_t *p, value rows[][GRAFS_PLACES_MAX], unsigned n, value *out)
 {
     int what = *p++, number = *p++;
     if (what == GRAFS_TERM_CHAIN_INDEX || what == GRAFS_TERM_ENTRY_INDEX) {
@@ -72,7 +72,7 @@ static const uint8_t *evaluate(const uint8_t *p, value rows[][MOST_PLACES], unsi
             out[v] = (value){ literal, 1 };
         return p + 3;
     }
-    value right[MOST_PLACES];
+    value right[GRAFS_PLACES_MAX];
     p = evaluate(p, rows, n, out);
     p = evaluate(p, rows, n, right);
     join(number, out, right, n);
@@ -82,8 +82,8 @@ static const uint8_t *evaluate(const uint8_t *p, value rows[][MOST_PLACES], unsi
 uint32_t desk_run(const uint8_t *worksheet, const sample *map, uint8_t *out, size_t lent)
 {
     static words new;
-    static value leaf[MOST_CHAINS][MOST_PLACES], entry[MOST_CHAINS][MOST_PLACES], term[MOST_PLACES];
-    chain c[MOST_CHAINS];
+    static value leaf[GRAFS_CHAINS_MAX][GRAFS_PLACES_MAX], entry[GRAFS_CHAINS_MAX][GRAFS_PLACES_MAX], term[GRAFS_PLACES_MAX];
+    chain c[GRAFS_CHAINS_MAX];
     chart m;
     unsigned kind = worksheet[5], count = worksheet[6];
     const uint8_t *p = worksheet + 7;

@@ -69,7 +69,7 @@ static void put_any(grafs_map *map, unsigned from, unsigned to)
 
 static void put_random(grafs_map *map, unsigned n)
 {
-    for (int i = 0; i < MOST_PASSAGES; i++) {
+    for (int i = 0; i < GRAFS_PASSAGES_MAX; i++) {
         unsigned from = below(n);
         put_any(map, from, below(n));
     }

@@ -1,4 +1,4 @@
-/* What grafs.h says beside the calls: the stack that a call takes, calls from several threads at once, the longest question.
+/* What grafs.h says beside the calls: the limits, the longest question, the stack that a call takes, calls from several threads at once.
  * On the heaviest questions and maps: every limit reached, 256 places in a ring that take 512 rounds, 1,024 passages. */
 #define _DEFAULT_SOURCE /* for anonymous pages */
 #include <pthread.h>
@@ -6,13 +6,14 @@
 #include "check.h"
 #include "grafs_build.h"
 
-enum { TERMS = 64, PAINT = 0x5a, THREADS = 8, TURNS = 40 };
+enum { PAINT = 0x5a, THREADS = 8, TURNS = 40 };
 
 static uint8_t question[GRAFS_QUESTION_MAX], deep[GRAFS_QUESTION_MAX], plan[GRAFS_WORKSHEET_MAX], deep_plan[GRAFS_WORKSHEET_MAX];
 static uint8_t graph[GRAFS_MAP_MAX], answer[GRAFS_ANSWER_MAX], deep_answer[GRAFS_ANSWER_MAX];
 static size_t question_len, deep_len, graph_len;
 static uint32_t plan_len, deep_plan_len, answer_len, deep_answer_len;
 
+/* ---------------------------------------------------------------------------------------------------------------------- limits */
 /* So many place terms, an odd number, in a tree of little depth; the chains are eight of three keys, in turn. */
 static void put_tree(grafs_question *q, unsigned terms, unsigned *chain)
 {
@@ -28,21 +29,22 @@ static void put_tree(grafs_question *q, unsigned terms, unsigned *chain)
     put_tree(q, terms - 1 - left, chain);
 }
 
-/* One reduction of 63 place terms: 64 terms, and no question is longer. */
-static size_t longest_question(uint8_t *bytes, size_t room)
+/* So many terms: with a reduction over them where the number is even. Of 64, there is no longer question. */
+static size_t with_terms(unsigned terms, uint8_t *bytes, size_t room)
 {
-    unsigned chain = 0;
-    grafs_question q = grafs_begin_question(bytes, room, GRAFS_KIND_RESULT);
-    grafs_reduction(&q, GRAFS_REDUCE_SUM);
-    put_tree(&q, TERMS - 1, &chain);
+    unsigned chain = 0, even = terms % 2 == 0;
+    grafs_question q = grafs_begin_question(bytes, room, even ? GRAFS_KIND_RESULT : GRAFS_KIND_EACH);
+    if (even)
+        grafs_reduction(&q, GRAFS_REDUCE_SUM);
+    put_tree(&q, terms - even, &chain);
     return grafs_end_question(&q);
 }
 
-/* Depth 16, a chain at the bottom. */
-static size_t deepest_question(uint8_t *bytes, size_t room)
+/* So deep, a chain at the bottom. */
+static size_t with_depth(unsigned depth, uint8_t *bytes, size_t room)
 {
     grafs_question q = grafs_begin_question(bytes, room, GRAFS_KIND_EACH);
-    for (int i = 0; i < 15; i++) {
+    for (unsigned i = 1; i < depth; i++) {
         grafs_place_operator(&q, GRAFS_OP_PLUS);
         grafs_place_literal(&q, 1);
     }
@@ -50,20 +52,78 @@ static size_t deepest_question(uint8_t *bytes, size_t room)
     return grafs_end_question(&q);
 }
 
-/* A ring with one narrow passage, each passage four times. */
-static size_t longest_map(uint8_t *bytes, size_t room)
+static size_t with_keys(unsigned keys, uint8_t *bytes, size_t room)
 {
-    grafs_map m = grafs_begin_map(bytes, room, 256);
-    for (unsigned i = 0; i < 1024; i++)
-        grafs_passage(&m, i % 256, (i + 1) % 256, 1, i % 256 == 255 ? 2 : 9);
+    const uint8_t passages[] = { 1, 1, 1, 1 };
+    grafs_question q = grafs_begin_question(bytes, room, GRAFS_KIND_EACH);
+    grafs_chain(&q, passages, keys, 0);
+    return grafs_end_question(&q);
+}
+
+static size_t with_chains(unsigned chains, uint8_t *bytes, size_t room)
+{
+    grafs_question q = grafs_begin_question(bytes, room, GRAFS_KIND_EACH);
+    for (unsigned i = 0; i < chains; i++) {
+        if (i + 1 < chains)
+            grafs_place_operator(&q, GRAFS_OP_PLUS);
+        grafs_chain1(&q, GRAFS_KEY_PASSAGES, i);
+    }
+    return grafs_end_question(&q);
+}
+
+static size_t with_reductions(unsigned reductions, uint8_t *bytes, size_t room)
+{
+    grafs_question q = grafs_begin_question(bytes, room, GRAFS_KIND_RESULT);
+    for (unsigned i = 0; i < reductions; i++) {
+        if (i + 1 < reductions)
+            grafs_result_operator(&q, GRAFS_OP_PLUS);
+        grafs_reduction(&q, GRAFS_REDUCE_SUM);
+        grafs_place_literal(&q, 1);
+    }
+    return grafs_end_question(&q);
+}
+
+/* A ring with one narrow passage. */
+static size_t map_of(unsigned places, unsigned passages, uint8_t *bytes, size_t room)
+{
+    grafs_map m = grafs_begin_map(bytes, room, places);
+    for (unsigned i = 0; i < passages; i++)
+        grafs_passage(&m, i % places, (i + 1) % places, 1, i % places == places - 1 ? 2 : 9);
     return grafs_end_map(&m);
+}
+
+/* As many as the limit says are fused, one more is refused by its number. */
+static void try_limit(const char *name, size_t (*with)(unsigned, uint8_t *, size_t), unsigned most, uint32_t number)
+{
+    uint8_t bytes[2 * GRAFS_QUESTION_MAX], out[GRAFS_WORKSHEET_MAX];
+    expect(grafs_number_of(fuse(bytes, with(most, bytes, sizeof bytes), out, sizeof out)) == GRAFS_DONE, name, most);
+    expect(fuse(bytes, with(most + 1, bytes, sizeof bytes), out, sizeof out) == GRAFS_REFUSAL + number, name, most + 1);
+}
+
+static uint32_t run_on(unsigned places, unsigned passages)
+{
+    const uint8_t sheet[] = { 'L', 'P', 'W', 1, 0, 1, 0, 0, GRAFS_TERM_RESULT_LITERAL, 0, 0, 0, 0 };
+    uint8_t map[GRAFS_MAP_MAX + 8], out[GRAFS_ANSWER_MAX];
+    return grafs_number_of(run(sheet, sizeof sheet, map, map_of(places, passages, map, sizeof map), out, sizeof out));
+}
+
+static void try_limits(void)
+{
+    try_limit("terms", with_terms, GRAFS_TERMS_MAX, GRAFS_TERMS);
+    try_limit("depth", with_depth, GRAFS_DEPTH_MAX, GRAFS_DEEP);
+    try_limit("keys", with_keys, GRAFS_KEYS_MAX, GRAFS_CODE);
+    try_limit("chains", with_chains, GRAFS_CHAINS_MAX, GRAFS_FULL_SHEET);
+    try_limit("reductions", with_reductions, GRAFS_REDUCTIONS_MAX, GRAFS_FULL_SHEET);
+    expect(run_on(GRAFS_PLACES_MAX, GRAFS_PASSAGES_MAX) == GRAFS_DONE, "places and passages", 0);
+    expect(run_on(GRAFS_PLACES_MAX + 1, 0) == GRAFS_PLACES, "places", GRAFS_PLACES_MAX + 1);
+    expect(run_on(1, GRAFS_PASSAGES_MAX + 1) == GRAFS_PASSAGES, "passages", GRAFS_PASSAGES_MAX + 1);
 }
 
 /* The most bytes of a term of so many terms, a place term or a result term, by trying every way to divide them. */
 static void longest_terms(void)
 {
-    size_t place[TERMS + 1] = { 0 }, result[TERMS + 1] = { 0 }, most = 0;
-    for (size_t terms = 1; terms <= TERMS; terms++) {
+    size_t place[GRAFS_TERMS_MAX + 1] = { 0 }, result[GRAFS_TERMS_MAX + 1] = { 0 }, most = 0;
+    for (size_t terms = 1; terms <= GRAFS_TERMS_MAX; terms++) {
         place[terms] = terms == 1 ? 7 : 0;              /* a chain of three keys; a literal has 5 */
         result[terms] = terms == 1 ? 5 : place[terms - 1] ? 2 + place[terms - 1] : 0;
         for (size_t left = 1; left + 1 < terms; left++) {
@@ -166,12 +226,13 @@ static void try_threads(void)
 
 int main(void)
 {
-    question_len = longest_question(question, sizeof question);
-    deep_len = deepest_question(deep, sizeof deep);
-    graph_len = longest_map(graph, sizeof graph);
+    question_len = with_terms(GRAFS_TERMS_MAX, question, sizeof question);
+    deep_len = with_depth(GRAFS_DEPTH_MAX, deep, sizeof deep);
+    graph_len = map_of(GRAFS_PLACES_MAX, GRAFS_PASSAGES_MAX, graph, sizeof graph);
     expect(question_len == GRAFS_QUESTION_MAX, "the longest question", question_len);
     expect(graph_len == GRAFS_MAP_MAX, "the longest map", graph_len);
     longest_terms();
+    try_limits();
     plan_len = fuse(question, question_len, plan, sizeof plan);
     deep_plan_len = fuse(deep, deep_len, deep_plan, sizeof deep_plan);
     answer_len = run(plan, plan_len, graph, graph_len, answer, sizeof answer);

@@ -24,13 +24,13 @@ extern "C" {
 #define GRAFS_REFUSAL 65536u
 
 /* The limits of the formats: one more is refused. */
-#define GRAFS_PLACES_MAX 256     /* of a map */
-#define GRAFS_PASSAGES_MAX 1024  /* of a map */
-#define GRAFS_TERMS_MAX 64       /* of a question, and of all expressions of a worksheet */
-#define GRAFS_DEPTH_MAX 16       /* of terms in one another */
-#define GRAFS_KEYS_MAX 3         /* of a chain */
-#define GRAFS_CHAINS_MAX 8       /* different ones of a question */
-#define GRAFS_REDUCTIONS_MAX 8   /* of a question, as often as they are written */
+#define GRAFS_PLACES_MAX 256    /* of a map */
+#define GRAFS_PASSAGES_MAX 1024 /* of a map */
+#define GRAFS_TERMS_MAX 64      /* of a question, and of all expressions of a worksheet */
+#define GRAFS_DEPTH_MAX 16      /* of terms in one another */
+#define GRAFS_KEYS_MAX 3        /* of a chain */
+#define GRAFS_CHAINS_MAX 8      /* different ones of a question; chains of a worksheet */
+#define GRAFS_REDUCTIONS_MAX 8  /* of a question, as often as they are written; entries of a worksheet */
 
 /* No longer question or map is accepted: one of more bytes is refused whatever they are. */
 #define GRAFS_QUESTION_MAX 294

@@ -182,7 +182,7 @@ static inline int grafs_read_answer(grafs_answer *a, const uint8_t *bytes, size_
         return 0;
     unsigned places = (unsigned)grafs_get(bytes + 5, 2), kind = bytes[9];
     unsigned rows = kind == GRAFS_KIND_EACH ? places : 1;
-    if (places < 1 || places > 256 || kind > GRAFS_KIND_RESULT || len != 10 + 9 * (size_t)rows)
+    if (places < 1 || places > GRAFS_PLACES_MAX || kind > GRAFS_KIND_RESULT || len != 10 + 9 * (size_t)rows)
         return 0;
     for (size_t i = 0; i < rows; i++) {
         const uint8_t *row = bytes + 10 + 9 * i;
@@ -251,8 +251,8 @@ static inline void grafs_say_chain(grafs_printer *p)
 {
     static const char *const words[] = { "least passages", "least seconds", "least start", "greatest start", "greatest crate", "least crate" };
     uint64_t count = grafs_next(p, 1);
-    p->wrong |= count < 1 || count > 3;
-    for (uint64_t i = 0; i < 3; i++) {
+    p->wrong |= count < 1 || count > GRAFS_KEYS_MAX;
+    for (uint64_t i = 0; i < GRAFS_KEYS_MAX; i++) {
         uint64_t key = grafs_next(p, 1);
         if (i < count) {
             grafs_say_word(p, words, 6, key);
@@ -310,7 +310,7 @@ static inline void grafs_say_entries(grafs_printer *p, uint64_t kind)
             grafs_say_word(p, words, 5, reduction);
             grafs_say(p, " over places of ");
         }
-        grafs_say_expression(p, 0, 16);
+        grafs_say_expression(p, 0, GRAFS_DEPTH_MAX);
         grafs_say(p, "\n");
     }
 }
@@ -328,7 +328,7 @@ static inline void grafs_say_worksheet(grafs_printer *p)
     grafs_say_entries(p, kind);
     if (kind != GRAFS_KIND_EACH) {
         grafs_say(p, "result: ");
-        grafs_say_expression(p, 1, 16);
+        grafs_say_expression(p, 1, GRAFS_DEPTH_MAX);
         grafs_say(p, "\n");
     }
     p->wrong |= p->at != p->len;

@@ -57,14 +57,13 @@ static size_t map_again(const uint8_t *bytes, uint8_t *room, size_t len)
 static void try_built(const file_case *c, size_t index)
 {
     for (size_t room = 0; room <= c->len + 3; room++) {
-        uint8_t *out = room_of(room);
-        memset(out, 0xa5, room);
+        uint8_t *out = filled_room(room);
         size_t n = c->kind == CASE_MAP ? map_again(c->bytes, out, room) : question_again(c->bytes, out, room);
         expect(n == (room < c->len ? 0 : c->len), "length built", index);
         if (room >= c->len)
             expect(!memcmp(out, c->bytes, c->len), "bytes built", index);
-        for (size_t i = c->len; i < room; i++)
-            expect(out[i] == 0xa5, "behind what was built", index);
+        if (room > c->len)
+            expect(still_filled(out + c->len, room - c->len), "behind what was built", index);
         free(out);
     }
     built++;
@@ -242,20 +241,22 @@ static void try_longest_text(void)
 /* A question is refused by its number or fused, and what is fused can be shown. */
 static void try_fuse(const file_case *c, size_t index)
 {
-    uint8_t *question = copy_of(c->bytes, c->len), out[GRAFS_WORKSHEET_MAX];
-    uint32_t n = fuse(question, c->len, out, sizeof out);
-    expect(grafs_number_of(n) == c->number && (n < GRAFS_REFUSAL) == (c->number == GRAFS_DONE), "fuse", index);
-    if (n < GRAFS_REFUSAL)
-        try_text(out, n, GRAFS_DONE, index);
-    free(question);
+    uint8_t *question = copy_of(c->bytes, c->len), *out = filled_room(GRAFS_WORKSHEET_MAX);
+    uint32_t n = fuse(question, c->len, out, GRAFS_WORKSHEET_MAX), done = n < GRAFS_REFUSAL ? n : 0;
+    expect(grafs_number_of(n) == c->number && (done > 0) == (c->number == GRAFS_DONE), "fuse", index);
+    expect(still_filled(out + done, GRAFS_WORKSHEET_MAX - done), "behind a worksheet", index);
+    if (done > 0)
+        try_text(out, done, GRAFS_DONE, index);
+    free(question), free(out);
 }
 
 static void try_run(const run_case *r, uint32_t number, size_t index)
 {
-    uint8_t *plan = copy_of(r->plan, r->plan_len), *graph = copy_of(r->graph, r->graph_len), *out = room_of(r->lent);
+    uint8_t *plan = copy_of(r->plan, r->plan_len), *graph = copy_of(r->graph, r->graph_len), *out = filled_room(r->lent);
     uint32_t n = run(plan, r->plan_len, graph, r->graph_len, out, r->lent);
     expect(n == (number == GRAFS_DONE ? r->answer_len : GRAFS_REFUSAL + number), "run", index);
-    expect(number != GRAFS_DONE || !memcmp(out, r->answer, r->answer_len), "an answer's bytes", index);
+    expect(!memcmp(out, r->answer, r->answer_len), "an answer's bytes", index);
+    expect(still_filled(out + r->answer_len, r->lent - r->answer_len), "behind an answer", index);
     free(plan), free(graph), free(out);
 }
 

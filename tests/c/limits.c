@@ -10,7 +10,8 @@ enum { PAINT = 0x5a, THREADS = 8, TURNS = 40 };
 
 static uint8_t question[GRAFS_QUESTION_MAX], deep[GRAFS_QUESTION_MAX], plan[GRAFS_WORKSHEET_MAX], deep_plan[GRAFS_WORKSHEET_MAX];
 static uint8_t graph[GRAFS_MAP_MAX], answer[GRAFS_ANSWER_MAX], deep_answer[GRAFS_ANSWER_MAX];
-static size_t question_len, deep_len, graph_len;
+static uint8_t deeper[GRAFS_QUESTION_MAX], deeper_plan[GRAFS_WORKSHEET_MAX]; /* a level too many: refused where reading has gone deepest */
+static size_t question_len, deep_len, deeper_len, graph_len;
 static uint32_t plan_len, deep_plan_len, answer_len, deep_answer_len;
 
 /* ---------------------------------------------------------------------------------------------------------------------- limits */
@@ -147,6 +148,7 @@ static void *do_fuse(void *unused)
     uint8_t out[GRAFS_WORKSHEET_MAX];
     expect(fuse(question, question_len, out, sizeof out) == plan_len && !memcmp(out, plan, plan_len), "fuse on little stack", 0);
     expect(fuse(deep, deep_len, out, sizeof out) == deep_plan_len && !memcmp(out, deep_plan, deep_plan_len), "fuse on little stack", 1);
+    expect(fuse(deeper, deeper_len, out, sizeof out) == GRAFS_REFUSAL + GRAFS_DEEP, "fuse on little stack", 2);
     return unused;
 }
 
@@ -156,7 +158,17 @@ static void *do_run(void *unused)
     expect(run(plan, plan_len, graph, graph_len, out, sizeof out) == answer_len && !memcmp(out, answer, answer_len), "run on little stack", 0);
     expect(run(deep_plan, deep_plan_len, graph, graph_len, out, sizeof out) == deep_answer_len && !memcmp(out, deep_answer, deep_answer_len),
         "run on little stack", 1);
+    expect(run(deeper_plan, deep_plan_len + 7, graph, graph_len, out, sizeof out) == GRAFS_REFUSAL + GRAFS_DEEP, "run on little stack", 2);
     return unused;
+}
+
+/* The deep worksheet with one operator and one literal more before its expression, which starts at 15. */
+static void make_deeper_plan(void)
+{
+    const uint8_t level[] = { GRAFS_TERM_PLACE_OPERATOR, GRAFS_OP_PLUS, GRAFS_TERM_PLACE_LITERAL, 1, 0, 0, 0 };
+    memcpy(deeper_plan, deep_plan, 15);
+    memcpy(deeper_plan + 15, level, sizeof level);
+    memcpy(deeper_plan + 15 + sizeof level, deep_plan + 15, deep_plan_len - 15);
 }
 
 /* Runs a function on a thread with so much stack, a page that may not be touched below it; returns how much of the stack was written. */
@@ -228,6 +240,7 @@ int main(void)
 {
     question_len = with_terms(GRAFS_TERMS_MAX, question, sizeof question);
     deep_len = with_depth(GRAFS_DEPTH_MAX, deep, sizeof deep);
+    deeper_len = with_depth(GRAFS_DEPTH_MAX + 1, deeper, sizeof deeper);
     graph_len = map_of(GRAFS_PLACES_MAX, GRAFS_PASSAGES_MAX, graph, sizeof graph);
     expect(question_len == GRAFS_QUESTION_MAX, "the longest question", question_len);
     expect(graph_len == GRAFS_MAP_MAX, "the longest map", graph_len);
@@ -239,6 +252,7 @@ int main(void)
     deep_answer_len = run(deep_plan, deep_plan_len, graph, graph_len, deep_answer, sizeof deep_answer);
     expect(plan_len < GRAFS_REFUSAL && deep_plan_len < GRAFS_REFUSAL && answer_len == 19 && deep_answer_len == GRAFS_ANSWER_MAX, "answered", 0);
     expect(grafs_get(deep_answer + 7, 2) == 512 && grafs_get(deep_answer + 10 + 9 * 255 + 1, 8) == 17, "512 rounds, and 2 and 15 at place 255", 0);
+    make_deeper_plan();
     try_stack("fuse", do_fuse, GRAFS_FUSE_STACK);
     try_stack("run", do_run, GRAFS_RUN_STACK);
     try_threads();

@@ -3,15 +3,7 @@
 #include "check.h"
 #include "grafs.h"
 
-enum { GUARD = 64, FILL = 0xa5 };
-
-static int all(const uint8_t *p, size_t len)
-{
-    for (size_t i = 0; i < len; i++)
-        if (p[i] != FILL)
-            return 0;
-    return 1;
-}
+enum { GUARD = 64 };
 
 typedef struct {
     const char *name;
@@ -27,14 +19,13 @@ typedef struct {
 static void try_with(const test_case *c, size_t lent)
 {
     uint8_t *first = copy_of(c->first, c->first_len), *map = copy_of(c->map ? c->map : (const uint8_t *)"", c->map_len);
-    uint8_t *room = room_of(lent + 2 * GUARD), *out = room + GUARD;
-    memset(room, FILL, lent + 2 * GUARD);
+    uint8_t *room = filled_room(lent + 2 * GUARD), *out = room + GUARD;
     uint32_t n = c->map ? run(first, c->first_len, map, c->map_len, out, lent) : fuse(first, c->first_len, out, lent);
     uint32_t number = c->number ? c->number : lent < c->want_len ? GRAFS_BUFFER_SHORT : GRAFS_DONE;
     size_t done = number == GRAFS_DONE ? c->want_len : 0;
     expect(n == (number == GRAFS_DONE ? c->want_len : GRAFS_REFUSAL + number), c->name, lent);
     expect(!memcmp(out, c->want, done), c->name, lent);
-    expect(all(room, GUARD) && all(out + done, lent - done + GUARD), c->name, lent);
+    expect(still_filled(room, GUARD) && still_filled(out + done, lent - done + GUARD), c->name, lent);
     expect(!memcmp(first, c->first, c->first_len) && !memcmp(map, c->map ? c->map : map, c->map_len), c->name, lent);
     free(first), free(map), free(room);
 }

@@ -1,19 +1,22 @@
 -- Every row of a run fits 64 bits, for any 16-bit number of rounds. Assumes nothing.
 use Prim.Native.Nat.{ℕ, zero, suc, _^_, _<_}
+use mathlib.Core.Bool.{Bool, true, false, cond}
 use mathlib.Core.List.{List, [], _∷_, map}
+use mathlib.Core.Option.{Option, none, some}
 use native.Mathlib.Omega.{arith}
 use lib.ListN.{length, getD}
 use Rattle.value.specs.declared.Value.{Value}
 use Rattle.value.specs.declared.Value.the-variants.{Absent}
+use Rattle.value.specs.Value.{chosen, counts}
 use Rattle.value.proofs.Held.{AllHeld, Held, operate-held, reduce-held}
 use Rattle.walks.specs.Lists.{All}
 use Rattle.walks.specs.Meaning.{value}
 use Rattle.walks.specs.Walks.{Graph}
 use Rattle.walks.proofs.Bounds.{value-held}
 use Rattle.meaning.specs.Limits.{BodyLegal, EntryLegal, Every, GraphLegal, PathFits, PlanLegal}
-use Rattle.meaning.specs.Plan.{Body, Plan, each-vertex, one-result}
-use Rattle.meaning.specs.Query.{PathReduction, Term, VertexReduction, apply, leaf, literal, network-of}
-use Rattle.meaning.specs.Run.{at-vertices, body-rows, evaluate, pull, reduced, stopped, tabulate, value-of, values-at}
+use Rattle.meaning.specs.Plan.{Body, Plan, Term, VertexReduction, apply, each-vertex, leaf, literal, one-result}
+use Rattle.meaning.specs.Query.{PathReduction, network-of}
+use Rattle.meaning.specs.Run.{at-vertices, body-rows, evaluate, picked, pull, reduced, stopped, tabulate, value-of, values-at}
 use Rattle.meaning.proofs.Rounds.{network-fits, path-in-order}
 
 -- a term whose leaves have machine numbers has one
@@ -21,6 +24,16 @@ term-held : {A : Type 0} (f : A → Value) (t : Term A) → Every (λ a. Held (f
 term-held f (leaf a) h = h
 term-held f (literal k) h = let l : k < 2 ^ 32 = h in omega arith
 term-held f (apply o s t) h = operate-held o (value-of f s) (value-of f t) (term-held f s (h .2)) (term-held f t (h .3))
+
+-- those that count are held where all are
+chosen-held : (cs xs : List Value) → AllHeld xs → AllHeld (chosen cs xs)
+chosen-held [] xs h = tt
+chosen-held (c ∷ cs) [] h = tt
+chosen-held (c ∷ cs) (x ∷ xs) h = go (counts c) (chosen-held cs xs (h .1))
+  where
+    go : (b : Bool) → AllHeld (chosen cs xs) → AllHeld (cond b (x ∷ chosen cs xs) (chosen cs xs))
+    go true k = (h .0, k)
+    go false k = k
 
 -- so it is over a list of values, at the vertices, in the entries, in the rows
 held-at : (vs : List Value) → AllHeld vs → (i : ℕ) → Held (getD vs i Absent)
@@ -42,9 +55,17 @@ module _ (F : ℕ → List Value) (held : (v : ℕ) → AllHeld (F v)) (c : ℕ)
   vertices-held t e zero i = tt
   vertices-held t e (suc n) i = (evaluate-held (F i) (held i) c t e, vertices-held t e n (suc i))
 
+  picked-held : (o : Option (Term ℕ)) (n : ℕ) (xs : List Value) → AllHeld xs → AllHeld (picked F n o xs)
+  picked-held none n xs h = h
+  picked-held (some t) n xs h = chosen-held (at-vertices F n t) xs h
+
   entries-held : (n : ℕ) (es : List (VertexReduction ℕ)) → All (EntryLegal c) es → AllHeld (map (reduced F n) es)
   entries-held n [] l = tt
-  entries-held n (e ∷ es) l = (reduce-held (e .reduction) (at-vertices F n (e .body)) (vertices-held (e .body) (l .0 .2 .0) n zero), entries-held n es (l .1))
+  entries-held n (e ∷ es) l =
+      let xs = at-vertices F n (e .body) in (
+        reduce-held (e .reduction) (picked F n (e .condition) xs) (picked-held (e .condition) n xs (vertices-held (e .body) (l .0 .3 .0) n zero)),
+        entries-held n es (l .1),
+      )
 
   body-held : (b : Body) (n : ℕ) → BodyLegal c b → AllHeld (body-rows b F n)
   body-held (each-vertex t) n l = vertices-held t (l .0) n zero

@@ -2,137 +2,112 @@
 -- says. Assumes nothing.
 use Prim.Native.Nat.{ℕ, zero, _+_, _<_}
 use mathlib.Core.Path.{_≡_, refl, sym, ap, ap₂, _∙_, subst}
-use mathlib.Core.List.{List, [], _∷_, _++_, map, map-map}
+use mathlib.Core.List.{List, [], _∷_, _++_, map, append-assoc, append-nil}
 use native.Mathlib.Omega.{arith}
-use native.Mathlib.Nat.{add-zero, zero-add, add-assoc}
 use lib.Dec.{T}
-use lib.ListN.{length, getD, length-append, length-map, List·getD-append}
+use lib.ListN.{length, getD, length-append, length-map}
 use lib.Seq.{getD-append-add}
 use Rattle.value.specs.declared.Value.{Value}
-use Rattle.value.specs.declared.Value.the-variants.{Absent}
-use Rattle.value.specs.Value.{operate}
+use Rattle.value.specs.declared.Value.the-variants.{Absent, Number}
+use Rattle.value.specs.Value.{chosen, operate, reduce}
 use Rattle.walks.specs.Lists.{All}
-use Rattle.meaning.specs.Meaning.{AtVertices, Means, Reduces, Rows}
-use Rattle.meaning.specs.Plan.{among, entry, enumerate, fuse, position, put-all, rename}
-use Rattle.meaning.specs.Query.{
-  PathReduction,
-  Query,
-  Term,
-  VertexReduction,
-  VertexTerm,
-  apply,
-  bodies,
-  each,
-  leaf,
-  leaves,
-  literal,
-  single,
-  written-paths,
-}
-use Rattle.meaning.specs.Run.{at-vertices, body-rows, evaluate, reduced, value-of}
-use Rattle.meaning.proofs.Lists.{all-left, all-right, all-weaken, map-append, tabulate-at, tabulate-length}
+use Rattle.meaning.specs.Meaning.{AtVertices, Means, Rows}
+use Rattle.meaning.specs.Plan.{among, entries, expression, final, fuse}
+use Rattle.meaning.specs.Query.{At, Kind, PathReduction, Query, QueryTerm, ResultTerm, VertexTerm, each, number, operator, over, over-where, path, paths, result, single, vertex, reduction-count, written-paths}
+use Rattle.meaning.specs.Run.{body-rows, evaluate, reduced, tabulate}
+use Rattle.meaning.proofs.Limits.{entries-length}
+use Rattle.meaning.proofs.Lists.{all-left, all-right, map-append, tabulate-at, tabulate-length, tabulate-same}
 use Rattle.meaning.proofs.Paths.{position-at, put-all-has}
 
-module _ {A : Type 0} where
-  -- a term has the value of its leaves
-  value-means : (L : A → Value → Type 0) (f : A → Value) (t : Term A) → All (λ a. L a (f a)) (leaves t) → Means L t (value-of f t)
-  value-means L f (leaf a) h = h .0
-  value-means L f (literal k) h = refl
-  value-means L f (apply o s t) h = (
-    value-of f s,
-    value-of f t,
-    value-means L f s (all-left _ (leaves s) (leaves t) h),
-    value-means L f t (all-right _ (leaves s) (leaves t) h),
-    refl,
-  )
+-- the value of a term, of the values of the path reductions
+module _ (F : PathReduction → ℕ → Value) (n : ℕ) where
+  abbrev value : {κ : Kind} → QueryTerm κ → At κ → Value
+  value (path c) v = F c v
+  value (over o t) v = reduce o (tabulate n zero (value t))
+  value (over-where o c t) v = reduce o (chosen (tabulate n zero (value c)) (tabulate n zero (value t)))
+  value (number x) v = Number x
+  value (operator o s t) v = operate o (value s v) (value t v)
 
-  -- terms whose leaves have equal values have equal values
-  value-same : (f g : A → Value) (t : Term A) → All (λ a. f a ≡ g a) (leaves t) → value-of f t ≡ value-of g t
-  value-same f g (leaf a) h = h .0
-  value-same f g (literal k) h = refl
-  value-same f g (apply o s t) h =
-      ap₂ (operate o) (value-same f g s (all-left _ (leaves s) (leaves t) h)) (value-same f g t (all-right _ (leaves s) (leaves t) h))
-
-  -- numbered leaves, from k on, have the values that stand from k on
-  numbered : (G : A → Value) (xs : List Value) (k : ℕ) (t : Term A)
-      → ((j : ℕ) → j < length (leaves t) → getD xs (k + j) Absent ≡ getD (map G (leaves t)) j Absent)
-      → evaluate xs (enumerate k t) ≡ value-of G t
-  numbered G xs k (leaf a) f = ap (λ (j : ℕ). getD xs j Absent) (sym (add-zero k)) ∙ f zero (omega arith)
-  numbered G xs k (literal x) f = refl
-  numbered G xs k (apply o s t) f = ap₂ (operate o) (numbered G xs k s left) (numbered G xs (k + length (leaves s)) t right)
-    where
-      len : length (leaves s ++ leaves t) ≡ length (leaves s) + length (leaves t)
-      len = length-append (leaves s) (leaves t)
-
-      left : (j : ℕ) → j < length (leaves s) → getD xs (k + j) Absent ≡ getD (map G (leaves s)) j Absent
-      left j h =
-          f j (omega (arith, len)) ∙ ap (λ (l : List Value). getD l j Absent) (map-append G (leaves s) (leaves t))
-          ∙ List·getD-append (map G (leaves s)) (map G (leaves t)) Absent j (subst (λ (x : ℕ). j < x) (sym (length-map (leaves s) G)) h)
-
-      right : (j : ℕ) → j < length (leaves t) → getD xs (k + length (leaves s) + j) Absent ≡ getD (map G (leaves t)) j Absent
-      right j h =
-          ap (λ (x : ℕ). getD xs x Absent) (add-assoc k (length (leaves s)) j) ∙ f (length (leaves s) + j) (omega (arith, len))
-          ∙ ap (λ (l : List Value). getD l (length (leaves s) + j) Absent) (map-append G (leaves s) (leaves t))
-          ∙ ap (λ (x : ℕ). getD (map G (leaves s) ++ map G (leaves t)) (x + j) Absent) (sym (length-map (leaves s) G))
-          ∙ getD-append-add (map G (leaves s)) (map G (leaves t)) j Absent
-
-  enumerated : (G : A → Value) (t : Term A) → evaluate (map G (leaves t)) (enumerate zero t) ≡ value-of G t
-  enumerated G t = numbered G (map G (leaves t)) zero t (λ j h. ap (λ (x : ℕ). getD (map G (leaves t)) x Absent) (zero-add j))
-
--- a term with other leaves has the value of the term over what they stand for
-value-rename : {A B : Type 0} (h : A → B) (f : B → Value) (t : Term A) → value-of f (rename h t) ≡ value-of (λ a. f (h a)) t
-value-rename h f (leaf a) = refl
-value-rename h f (literal k) = refl
-value-rename h f (apply o s t) = ap₂ (operate o) (value-rename h f s) (value-rename h f t)
-
+-- THE VALUES MEAN THE TERMS
 module _ (L : PathReduction → ℕ → Value → Type 0) (F : PathReduction → ℕ → Value) (n : ℕ) where
   -- the value of c at each vertex is one that L allows
   abbrev Right : PathReduction → Type 0
   Right c = (v : ℕ) → v < n → L c v (F c v)
 
-  -- the values of the path reductions cs at v
-  abbrev at : List PathReduction → ℕ → List Value
-  at cs v = map (λ c. F c v) cs
+  -- a vertex term is looked at at a vertex
+  abbrev In : (κ : Kind) → At κ → Type 0
+  In vertex v = v < n
+  In result v = Unit {0}
 
-  -- a term over their indices has the value of the term itself
-  indexed : (cs : List PathReduction) (t : VertexTerm) → All (λ c. T (among c cs)) (leaves t) → (v : ℕ)
-      → value-of (λ c. F c v) t ≡ evaluate (at cs v) (rename (λ c. position c cs) t)
-  indexed cs t has v = sym (
-      value-rename (λ c. position c cs) (λ i. getD (at cs v) i Absent) t
-      ∙ value-same (λ c. getD (at cs v) (position c cs) Absent) (λ c. F c v) t (all-weaken (leaves t) (λ c h. position-at (λ c. F c v) Absent c cs h) has)
-      )
+  table-means : (t : VertexTerm) → ((v : ℕ) → v < n → Means L n t v (value F n t v)) → AtVertices n (Means L n t) (tabulate n zero (value F n t))
+  table-means t f = (tabulate-length n zero _, λ v h. subst (Means L n t v) (sym (tabulate-at n v (value F n t) Absent h)) (f v h))
 
-  -- so the rows of a term over indices mean the term, and those of entries the reductions
-  vertices-mean : (cs : List PathReduction) (t : VertexTerm) → All (λ c. T (among c cs)) (leaves t) → All Right (leaves t)
-      → AtVertices L n t (at-vertices (at cs) n (rename (λ c. position c cs) t))
-  vertices-mean cs t has right = (tabulate-length n zero _, mean)
-    where
-      mean : (v : ℕ) → v < n → Means (λ c. L c v) t (getD (at-vertices (at cs) n (rename (λ c. position c cs) t)) v Absent)
-      mean v h =
-          subst (Means (λ c. L c v) t) (indexed cs t has v ∙ sym (tabulate-at n v (λ u. evaluate (at cs u) (rename (λ c. position c cs) t)) Absent h))
-          (value-means (λ c. L c v) (λ c. F c v) t (all-weaken (leaves t) (λ c r. r v h) right))
-
-  entries-mean : (cs : List PathReduction) (es : List (VertexReduction PathReduction)) → All (λ c. T (among c cs)) (bodies es) → All Right (bodies es)
-      → All (λ e. Reduces L n e (reduced (at cs) n (entry cs e))) es
-  entries-mean cs [] has right = tt
-  entries-mean cs (e ∷ es) has right = (
-    (
-      at-vertices (at cs) n (entry cs e .body),
-      vertices-mean cs (e .body) (all-left _ (leaves (e .body)) (bodies es) has) (all-left _ (leaves (e .body)) (bodies es) right),
-      refl,
-    ),
-    entries-mean cs es (all-right _ (leaves (e .body)) (bodies es) has) (all-right _ (leaves (e .body)) (bodies es) right),
+  value-means : {κ : Kind} (t : QueryTerm κ) → All Right (paths t) → (v : At κ) → In κ v → Means L n t v (value F n t v)
+  value-means (path c) h v i = h .0 v i
+  value-means (over o t) h v i = (tabulate n zero (value F n t), table-means t (value-means t h), refl)
+  value-means (over-where o c t) h v i = (
+    tabulate n zero (value F n c),
+    tabulate n zero (value F n t),
+    table-means c (value-means c (all-left _ (paths c) (paths t) h)),
+    table-means t (value-means t (all-right _ (paths c) (paths t) h)),
+    refl,
   )
+  value-means (number x) h v i = refl
+  value-means (operator o s t) h v i =
+      (value F n s v, value F n t v, value-means s (all-left _ (paths s) (paths t) h) v i, value-means t (all-right _ (paths s) (paths t) h) v i, refl)
 
-  -- THE FUSED ROWS MEAN THE QUERY
-  pub fuse-means : (q : Query) → All Right (written-paths q) → Rows L n q (body-rows (fuse q .body) (at (fuse q .paths)) n)
-  fuse-means (each t) right = vertices-mean (put-all [] (leaves t)) t (put-all-has [] (leaves t)) right
+-- THE FUSED EXPRESSIONS HAVE THE VALUES OF THE TERMS
+module _ (F : PathReduction → ℕ → Value) (n : ℕ) (cs : List PathReduction) where
+  -- the values of the path reductions cs at v
+  abbrev at : ℕ → List Value
+  at v = map (λ c. F c v) cs
+
+  abbrev Has : List PathReduction → Type 0
+  Has = All (λ c. T (among c cs))
+
+  expression-value : (t : VertexTerm) → Has (paths t) → (v : ℕ) → evaluate (at v) (expression cs t) ≡ value F n t v
+  expression-value (path c) h v = position-at (λ c. F c v) Absent c cs (h .0)
+  expression-value (number x) h v = refl
+  expression-value (operator o s t) h v =
+      ap₂ (operate o) (expression-value s (all-left _ (paths s) (paths t) h) v) (expression-value t (all-right _ (paths s) (paths t) h) v)
+
+  -- the results of the entries
+  abbrev made : ResultTerm → List Value
+  made t = map (reduced at n) (entries cs t)
+
+  made-length : (t : ResultTerm) → length (made t) ≡ reduction-count t
+  made-length t = length-map (entries cs t) (reduced at n) ∙ entries-length cs t
+
+  -- the value at an index behind those of ys
+  there : (xs ys zs : List Value) (k : ℕ) (y : Value) → length ys ≡ k → xs ≡ ys ++ (y ∷ zs) → getD xs k Absent ≡ y
+  there xs ys zs k y l e =
+      ap₂ (λ (r : List Value) (i : ℕ). getD r i Absent) e (let p : k ≡ length ys + zero = omega (arith, l) in p) ∙ getD-append-add ys (y ∷ zs) zero Absent
+
+  -- where the results of its entries stand from k on, the final expression has the value of the result term
+  final-value : (t : ResultTerm) → Has (paths t) → (xs ys zs : List Value) (k : ℕ) → length ys ≡ k → xs ≡ ys ++ (made t ++ zs) → evaluate xs (final k t) ≡ value F n t tt
+  final-value (over o t) h xs ys zs k l e = there xs ys zs k _ l e ∙ ap (reduce o) (tabulate-same n zero _ _ (expression-value t h))
+  final-value (over-where o c t) h xs ys zs k l e =
+      there xs ys zs k _ l e
+      ∙ ap₂ (λ (cs xs : List Value). reduce o (chosen cs xs)) (tabulate-same n zero _ _ (expression-value c (all-left _ (paths c) (paths t) h)))
+      (tabulate-same n zero _ _ (expression-value t (all-right _ (paths c) (paths t) h)))
+  final-value (number x) h xs ys zs k l e = refl
+  final-value (operator o s t) h xs ys zs k l e =
+      ap₂ (operate o) (final-value s (all-left _ (paths s) (paths t) h) xs ys (made t ++ zs) k l first)
+      (final-value t (all-right _ (paths s) (paths t) h) xs (ys ++ made s) zs (k + reduction-count s) (length-append ys (made s) ∙ ap₂ _+_ l (made-length s)) (first ∙ sym (append-assoc ys (made s) (made t ++ zs))))
+    where
+      first : xs ≡ ys ++ (made s ++ (made t ++ zs))
+      first =
+          e
+          ∙ ap (λ (r : List Value). ys ++ r) (ap (λ (r : List Value). r ++ zs) (map-append (reduced at n) (entries cs s) (entries cs t)) ∙ append-assoc (made s) (made t) zs)
+
+-- THE FUSED ROWS MEAN THE QUERY
+module _ (L : PathReduction → ℕ → Value → Type 0) (F : PathReduction → ℕ → Value) (n : ℕ) where
+  pub fuse-means : (q : Query) → All (Right L F n) (written-paths q) → Rows L n q (body-rows (fuse q .body) (at F n (fuse q .paths)) n)
+  fuse-means (each t) right =
+      subst (AtVertices n (Means L n t)) (sym (tabulate-same n zero _ _ (expression-value F n (fuse (each t) .paths) t (put-all-has [] (paths t))))) (table-means L F n t (value-means L F n t right))
   fuse-means (single t) right =
-      let cs = put-all [] (bodies (leaves t)) in (
-        value-of (λ e. reduced (at cs) n (entry cs e)) t,
-        value-means (Reduces L n) (λ e. reduced (at cs) n (entry cs e)) t (entries-mean cs (leaves t) (put-all-has [] (bodies (leaves t))) right),
-        ap (λ (x : Value). x ∷ []) (
-            ap (λ (l : List Value). evaluate l (enumerate zero t)) (map-map (reduced (at cs) n) (entry cs) (leaves t))
-            ∙ enumerated (λ e. reduced (at cs) n (entry cs e)) t
-            ),
+      let cs = fuse (single t) .paths in (
+        value F n t tt,
+        value-means L F n t right tt tt,
+        ap (λ (x : Value). x ∷ []) (final-value F n cs t (put-all-has [] (paths t)) _ [] [] zero refl (sym (append-nil (made F n cs t)))),
       )

@@ -1,170 +1,127 @@
 -- A legal query fuses to a legal plan, with as many terms. Assumes nothing.
-use Prim.Native.Nat.{ℕ, zero, suc, _+_, _≤_, _<_, max}
+use Prim.Native.Nat.{ℕ, zero, suc, _+_, _≤_, _<_}
 use mathlib.Core.Path.{_≡_, refl, sym, ap, ap₂, _∙_, subst}
-use mathlib.Core.List.{List, [], _∷_, _++_, map}
+use mathlib.Core.List.{List, [], _∷_, _++_}
 use native.Mathlib.Omega.{arith}
 use lib.Dec.{T}
-use lib.ListN.{length, length-append, length-map}
+use lib.ListN.{length, length-append}
 use Rattle.walks.specs.Lists.{All}
-use Rattle.meaning.specs.Limits.{
-  BodyLegal,
-  EntryLegal,
-  Every,
-  EveryBody,
-  EveryPath,
-  Expression,
-  PathFits,
-  PlanLegal,
-  QueryLegal,
-  depth,
-  entry-terms,
-  plan-terms,
-  query-terms,
-  terms,
-  unit,
-}
-use Rattle.meaning.specs.Plan.{among, entry, enumerate, fuse, position, put-all, rename}
-use Rattle.meaning.specs.Query.{
-  PathReduction,
-  Query,
-  Term,
-  VertexReduction,
-  VertexTerm,
-  apply,
-  bodies,
-  each,
-  leaf,
-  leaves,
-  literal,
-  single,
-  written-paths,
-}
-use Rattle.meaning.proofs.Lists.{all-append, all-left, all-right, all-weaken, map-append}
+use Rattle.meaning.specs.Limits.{BodyLegal, EntryLegal, Every, Expression, PathFits, PlanLegal, QueryLegal, TermFits, TermsFit, depth, depth-of, entry-terms, plan-terms, query-terms, size-of, terms, unit}
+use Rattle.meaning.specs.Plan.{VertexReduction, among, entries, expression, final, fuse}
+use Rattle.meaning.specs.Query.{Kind, PathReduction, Query, QueryTerm, ResultTerm, VertexTerm, each, number, operator, over, over-where, path, paths, single, vertex, reduction-count, written-paths}
+use Rattle.meaning.proofs.Lists.{all-append, all-left, all-right}
 use Rattle.meaning.proofs.Paths.{position-below, put-all-has, put-all-holds}
 
--- other leaves: as many terms, as deep, legal where the new leaves are
-module _ {A B : Type 0} where
-  rename-terms : (f : A → B) (t : Term A) → terms unit (rename f t) ≡ terms unit t
-  rename-terms f (leaf a) = refl
-  rename-terms f (literal k) = refl
-  rename-terms f (apply o s t) = ap₂ (λ (x y : ℕ). suc (x + y)) (rename-terms f s) (rename-terms f t)
+-- THE PATH REDUCTIONS OF A LEGAL QUERY ARE LEGAL
+module _ (n : ℕ) where
+  term-paths : {κ : Kind} (t : QueryTerm κ) → TermFits n t → All (PathFits n) (paths t)
+  term-paths (path c) h = (h, tt)
+  term-paths (over o t) h = term-paths t (h .2)
+  term-paths (over-where o c t) h = all-append _ (paths c) (paths t) (term-paths c (h .2)) (term-paths t (h .3))
+  term-paths (number x) h = tt
+  term-paths (operator o s t) h = all-append _ (paths s) (paths t) (term-paths s (h .2)) (term-paths t (h .3))
 
-  rename-depth : (f : A → B) (t : Term A) → depth unit (rename f t) ≡ depth unit t
-  rename-depth f (leaf a) = refl
-  rename-depth f (literal k) = refl
-  rename-depth f (apply o s t) = ap₂ (λ (x y : ℕ). suc (max x y)) (rename-depth f s) (rename-depth f t)
+  pub legal-paths : (q : Query) → TermsFit n q → All (PathFits n) (written-paths q)
+  legal-paths (each t) h = term-paths t h
+  legal-paths (single t) h = term-paths t h
 
-  rename-every : (P : A → Type 0) (R : B → Type 0) (f : A → B) (t : Term A) → Every P t → All (λ a. R (f a)) (leaves t) → Every R (rename f t)
-  rename-every P R f (leaf a) h k = k .0
-  rename-every P R f (literal x) h k = h
-  rename-every P R f (apply o s t) h k =
-      (h .0, h .1, rename-every P R f s (h .2) (all-left _ (leaves s) (leaves t) k), rename-every P R f t (h .3) (all-right _ (leaves s) (leaves t) k))
+-- a vertex term has no reduction; a result term has as many entries as reductions
+no-reductiont : (t : VertexTerm) → reduction-count t ≡ 0
+no-reductiont (path c) = refl
+no-reductiont (number x) = refl
+no-reductiont (operator o s t) = omega (arith, no-reductiont s, no-reductiont t)
 
--- numbered leaves: as many terms, no deeper, below their count
-module _ {A : Type 0} where
-  number-terms : (k : ℕ) (t : Term A) → terms unit (enumerate k t) ≡ terms unit t
-  number-terms k (leaf a) = refl
-  number-terms k (literal x) = refl
-  number-terms k (apply o s t) = ap₂ (λ (x y : ℕ). suc (x + y)) (number-terms k s) (number-terms (k + length (leaves s)) t)
+pub entries-length : (cs : List PathReduction) (t : ResultTerm) → length (entries cs t) ≡ reduction-count t
+entries-length cs (over o t) = omega (arith, no-reductiont t)
+entries-length cs (over-where o c t) = omega (arith, no-reductiont c, no-reductiont t)
+entries-length cs (number x) = refl
+entries-length cs (operator o s t) = length-append (entries cs s) (entries cs t) ∙ ap₂ _+_ (entries-length cs s) (entries-length cs t)
 
-  number-depth : (w : A → ℕ) → ((a : A) → 1 ≤ w a) → (k : ℕ) (t : Term A) → depth unit (enumerate k t) ≤ depth w t
-  number-depth w f k (leaf a) = f a
-  number-depth w f k (literal x) = omega arith
-  number-depth w f k (apply o s t) = omega (arith, number-depth w f k s, number-depth w f (k + length (leaves s)) t)
-
-  number-every : (P : A → Type 0) (n k : ℕ) (t : Term A) → Every P t → k + length (leaves t) ≤ n → Every (λ i. i < n) (enumerate k t)
-  number-every P n k (leaf a) h l = omega arith
-  number-every P n k (literal x) h l = h
-  number-every P n k (apply o s t) h l = (
-    h .0,
-    h .1,
-    number-every P n k s (h .2) (omega (arith, length-append (leaves s) (leaves t))),
-    number-every P n (k + length (leaves s)) t (h .3) (omega (arith, length-append (leaves s) (leaves t))),
-  )
-
-  -- what holds of each leaf
-  every-leaf : (P : A → Type 0) (t : Term A) → Every P t → All P (leaves t)
-  every-leaf P (leaf a) h = (h, tt)
-  every-leaf P (literal k) h = tt
-  every-leaf P (apply o s t) h = all-append P (leaves s) (leaves t) (every-leaf P s (h .2)) (every-leaf P t (h .3))
-
-  -- a leaf is no deeper than the term
-  leaf-depth : (w : A → ℕ) (t : Term A) → All (λ a. w a ≤ depth w t) (leaves t)
-  leaf-depth w t = go t (depth w t) (omega arith)
-    where
-      go : (t : Term A) (d : ℕ) → depth w t ≤ d → All (λ a. w a ≤ d) (leaves t)
-      go (leaf a) d h = (h, tt)
-      go (literal k) d h = tt
-      go (apply o s t) d h = all-append (λ a. w a ≤ d) (leaves s) (leaves t) (go s d (omega arith)) (go t d (omega arith))
-
-module _ (P : PathReduction → Type 0) where
-  every-body : (es : List (VertexReduction PathReduction)) → All (EveryBody P) es → All P (bodies es)
-  every-body [] h = tt
-  every-body (e ∷ es) h = all-append P (leaves (e .body)) (bodies es) (every-leaf P (e .body) (h .0 .2)) (every-body es (h .1))
-
-  -- what holds of each path reduction of the terms holds of those written
-  every-path : (q : Query) → EveryPath P q → All P (written-paths q)
-  every-path (each t) h = every-leaf P t h
-  every-path (single t) h = every-body (leaves t) (every-leaf (EveryBody P) t h)
-
--- the terms of the entries, and of the numbered term, are those of the query
 entry-append : (es ds : List (VertexReduction ℕ)) → entry-terms (es ++ ds) ≡ entry-terms es + entry-terms ds
 entry-append [] ds = omega arith
 entry-append (e ∷ es) ds = omega (arith, entry-append es ds)
 
 module _ (cs : List PathReduction) where
-  entries-terms : (t : Term (VertexReduction PathReduction))
-      → entry-terms (map (entry cs) (leaves t)) + terms unit t ≡ terms (λ e. suc (terms unit (e .body))) t
-  entries-terms (leaf e) = omega (arith, rename-terms (λ c. position c cs) (e .body))
-  entries-terms (literal k) = refl
-  entries-terms (apply o s t) =
-      let m = ap entry-terms (map-append (entry cs) (leaves s) (leaves t)) ∙ entry-append (map (entry cs) (leaves s)) (map (entry cs) (leaves t)) in
-      omega (arith, entries-terms s, entries-terms t)
+  abbrev Has : List PathReduction → Type 0
+  Has = All (λ c. T (among c cs))
 
-  expression-legal : (P : PathReduction → Type 0) (t : VertexTerm) → Every P t → All (λ c. T (among c cs)) (leaves t) → depth unit t ≤ 16
-      → Expression (length cs) (rename (λ c. position c cs) t)
-  expression-legal P t h k d = (
-    rename-every P (λ i. i < length cs) (λ c. position c cs) t h (all-weaken (leaves t) (λ c m. position-below c cs m) k),
-    omega (arith, rename-depth (λ c. position c cs) t),
-  )
+  -- an expression has the terms and the depth of its vertex term
+  expression-terms : (t : VertexTerm) → terms unit (expression cs t) ≡ size-of t
+  expression-terms (path c) = refl
+  expression-terms (number x) = refl
+  expression-terms (operator o s t) = omega (arith, expression-terms s, expression-terms t)
 
-  entries-legal : (P : PathReduction → Type 0) (es : List (VertexReduction PathReduction)) → All (EveryBody P) es
-      → All (λ e. suc (depth unit (e .body)) ≤ 16) es → All (λ c. T (among c cs)) (bodies es)
-      → All (EntryLegal (length cs)) (map (entry cs) es)
-  entries-legal P [] h d k = tt
-  entries-legal P (e ∷ es) h d k = (
-    (h .0 .0, h .0 .1, expression-legal P (e .body) (h .0 .2) (all-left _ (leaves (e .body)) (bodies es) k) (omega (arith, d .0))),
-    entries-legal P es (h .1) (d .1) (all-right _ (leaves (e .body)) (bodies es) k),
-  )
+  expression-depth : (t : VertexTerm) → depth unit (expression cs t) ≡ depth-of t
+  expression-depth (path c) = refl
+  expression-depth (number x) = refl
+  expression-depth (operator o s t) = omega (arith, expression-depth s, expression-depth t)
+
+  -- the entries and the final expression have the terms of the result term
+  entries-terms : (t : ResultTerm) (k : ℕ) → entry-terms (entries cs t) + terms unit (final k t) ≡ size-of t
+  entries-terms (over o t) k = omega (arith, expression-terms t)
+  entries-terms (over-where o c t) k = omega (arith, expression-terms c, expression-terms t)
+  entries-terms (number x) k = refl
+  entries-terms (operator o s t) k = omega (arith, entry-append (entries cs s) (entries cs t), entries-terms s k, entries-terms t (k + reduction-count s))
+
+  module _ (n : ℕ) where
+    expression-every : (t : VertexTerm) → TermFits n t → Has (paths t) → Every (λ i. i < length cs) (expression cs t)
+    expression-every (path c) p h = position-below c cs (h .0)
+    expression-every (number x) p h = p
+    expression-every (operator o s t) p h =
+        (p .0, p .1, expression-every s (p .2) (all-left _ (paths s) (paths t) h), expression-every t (p .3) (all-right _ (paths s) (paths t) h))
+
+    expression-legal : (t : VertexTerm) → TermFits n t → Has (paths t) → depth-of t ≤ 16 → Expression (length cs) (expression cs t)
+    expression-legal t p h d = (expression-every t p h, omega (arith, expression-depth t))
+
+    entries-legal : (t : ResultTerm) → TermFits n t → Has (paths t) → depth-of t ≤ 16 → All (EntryLegal (length cs)) (entries cs t)
+    entries-legal (over o t) p h d = ((p .0, p .1, tt, expression-legal t (p .2) h (omega arith)), tt)
+    entries-legal (over-where o c t) p h d = (
+      (
+        p .0,
+        p .1,
+        expression-legal c (p .2) (all-left _ (paths c) (paths t) h) (omega arith),
+        expression-legal t (p .3) (all-right _ (paths c) (paths t) h) (omega arith),
+      ),
+      tt,
+    )
+    entries-legal (number x) p h d = tt
+    entries-legal (operator o s t) p h d =
+        all-append _ (entries cs s) (entries cs t) (entries-legal s (p .2) (all-left _ (paths s) (paths t) h) (omega arith)) (entries-legal t (p .3) (all-right _ (paths s) (paths t) h) (omega arith))
+
+-- the final expression: its indices are below the count, and it is no deeper
+module _ (n : ℕ) where
+  final-every : (t : ResultTerm) → TermFits n t → (k m : ℕ) → k + reduction-count t ≤ m → Every (λ i. i < m) (final k t)
+  final-every (over o t) p k m l = omega arith
+  final-every (over-where o c t) p k m l = omega arith
+  final-every (number x) p k m l = p
+  final-every (operator o s t) p k m l = (p .0, p .1, final-every s (p .2) k m (omega arith), final-every t (p .3) (k + reduction-count s) m (omega arith))
+
+final-depth : (t : ResultTerm) (k : ℕ) → depth unit (final k t) ≤ depth-of t
+final-depth (over o t) k = omega arith
+final-depth (over-where o c t) k = omega arith
+final-depth (number x) k = omega arith
+final-depth (operator o s t) k = omega (arith, final-depth s k, final-depth t (k + reduction-count s))
 
 -- FUSING KEEPS THE NUMBER OF TERMS
 pub fuse-terms : (q : Query) → plan-terms (fuse q .body) ≡ query-terms q
-fuse-terms (each t) = rename-terms (λ c. position c (put-all [] (leaves t))) t
-fuse-terms (single t) =
-    let cs = put-all [] (bodies (leaves t)) in
-    omega (arith, number-terms zero t, entries-terms cs t)
+fuse-terms (each t) = expression-terms (fuse (each t) .paths) t
+fuse-terms (single t) = entries-terms (fuse (single t) .paths) t zero
 
 body-legal : (n : ℕ) (q : Query) → QueryLegal n q → BodyLegal (length (fuse q .paths)) (fuse q .body)
-body-legal n (each t) h = expression-legal (put-all [] (leaves t)) (PathFits n) t (h .legal) (put-all-has [] (leaves t)) (h .shallow)
+body-legal n (each t) h = expression-legal (fuse (each t) .paths) n t (h .legal) (put-all-has [] (paths t)) (h .shallow)
 body-legal n (single t) h =
-    let cs = put-all [] (bodies (leaves t)) in
-    let l = length-map (leaves t) (entry cs) in
-    let w : VertexReduction PathReduction → ℕ = λ e. suc (depth unit (e .body)) in
-    let P : VertexReduction PathReduction → Type 0 = EveryBody (PathFits n) in (
+    let cs = fuse (single t) .paths in
+    let l = entries-length cs t in (
       omega (arith, l, h .few-reductions),
-      entries-legal cs (PathFits n) (leaves t) (every-leaf P t (h .legal))
-          (all-weaken (leaves t) (λ e d. omega (arith, d, h .shallow)) (leaf-depth w t)) (put-all-has [] (bodies (leaves t))),
-      (
-        number-every P (length (map (entry cs) (leaves t))) zero t (h .legal) (omega (arith, l)),
-        omega (arith, number-depth w (λ e. omega arith) zero t, h .shallow),
-      ),
+      entries-legal cs n t (h .legal) (put-all-has [] (paths t)) (h .shallow),
+      (final-every n t (h .legal) zero (length (entries cs t)) (omega (arith, l)), omega (arith, final-depth t zero, h .shallow)),
     )
 
 -- FUSING A LEGAL QUERY GIVES A LEGAL PLAN
 pub fuse-legal : (n : ℕ) (q : Query) → QueryLegal n q → PlanLegal n (fuse q)
 fuse-legal n q h = record {
   few-paths = h .few-paths;
-  paths-legal = put-all-holds (PathFits n) [] (written-paths q) tt (every-path (PathFits n) q (h .legal));
+  paths-legal = put-all-holds (PathFits n) [] (written-paths q) tt (legal-paths n q (h .legal));
   body-legal = body-legal n q h;
   few-terms = subst (λ (x : ℕ). x ≤ 64) (sym (fuse-terms q)) (h .few-terms);
 }

@@ -3,13 +3,29 @@ use Prim.Native.Nat.{ℕ, zero, suc, _+_, _^_, _≤_, _<_, max}
 use mathlib.Core.Path.{_≡_}
 use mathlib.Core.Logic.{_⊎_}
 use mathlib.Core.List.{List, [], _∷_}
+use mathlib.Core.Option.{Option, none, some}
 use lib.Dec.{T}
 use lib.ListN.{length}
 use Rattle.walks.specs.Keys.{legal-keys}
 use Rattle.walks.specs.Lists.{All}
 use Rattle.walks.specs.Walks.{Graph, edge-at}
-use Rattle.meaning.specs.Plan.{Body, Plan, each-vertex, one-result, put-all}
-use Rattle.meaning.specs.Query.{PathReduction, Query, Term, VertexReduction, anywhere, apply, each, leaf, leaves, literal, single, written-paths}
+use Rattle.meaning.specs.Plan.{Body, Plan, Term, VertexReduction, apply, each-vertex, leaf, literal, one-result, put-all}
+use Rattle.meaning.specs.Query.{
+  Kind,
+  PathReduction,
+  Query,
+  QueryTerm,
+  anywhere,
+  each,
+  number,
+  operator,
+  over,
+  over-where,
+  path,
+  reduction-count,
+  single,
+  written-paths,
+}
 
 -- the edges are between vertices, and there is a vertex
 pub record GraphFits (g : Graph) : Type 0 where
@@ -35,7 +51,55 @@ PathFits n c = T (legal-keys (c .keys)) × SourceFits n (c .source)
 abbrev pub QueryFits : Graph → Query → Type 0
 QueryFits g q = All (PathFits (g .vertices)) (written-paths q)
 
--- how many terms; how deep, "the root has depth 1"; w is that of a leaf
+-- how many terms; how deep, "the root has depth 1"
+abbrev pub size-of : {κ : Kind} → QueryTerm κ → ℕ
+size-of (path c) = 1
+size-of (over o t) = suc (size-of t)
+size-of (over-where o c t) = suc (size-of c + size-of t)
+size-of (number x) = 1
+size-of (operator o s t) = suc (size-of s + size-of t)
+
+abbrev pub depth-of : {κ : Kind} → QueryTerm κ → ℕ
+depth-of (path c) = 1
+depth-of (over o t) = suc (depth-of t)
+depth-of (over-where o c t) = suc (max (depth-of c) (depth-of t))
+depth-of (number x) = 1
+depth-of (operator o s t) = suc (max (depth-of s) (depth-of t))
+
+-- each number is legal on n vertices: path reductions, the five reductions, literals of 32 bits, the eleven operators
+abbrev pub TermFits : ℕ → {κ : Kind} → QueryTerm κ → Type 0
+TermFits n (path c) = PathFits n c
+TermFits n (over o t) = (1 ≤ o) × (o ≤ 5) × TermFits n t
+TermFits n (over-where o c t) = (1 ≤ o) × (o ≤ 5) × TermFits n c × TermFits n t
+TermFits n (number x) = x < 2 ^ 32
+TermFits n (operator o s t) = (1 ≤ o) × (o ≤ 11) × TermFits n s × TermFits n t
+
+-- the same of a query's term; "reductions as written"
+abbrev pub TermsFit : ℕ → Query → Type 0
+TermsFit n (each t) = TermFits n t
+TermsFit n (single t) = TermFits n t
+
+abbrev pub query-terms : Query → ℕ
+query-terms (each t) = size-of t
+query-terms (single t) = size-of t
+
+abbrev pub query-depth : Query → ℕ
+query-depth (each t) = depth-of t
+query-depth (single t) = depth-of t
+
+abbrev pub query-reductions : Query → ℕ
+query-reductions (each t) = reduction-count t
+query-reductions (single t) = reduction-count t
+
+-- "A question has at most 64 terms, 8 different chains and 8 reductions as written", "to a depth of 16"; n is 256, or the graph's vertices
+pub record QueryLegal (n : ℕ) (q : Query) : Type 0 where
+  pub legal : TermsFit n q
+  pub few-terms : query-terms q ≤ 64
+  pub shallow : query-depth q ≤ 16
+  pub few-paths : length (put-all [] (written-paths q)) ≤ 8
+  pub few-reductions : query-reductions q ≤ 8
+
+-- the same of expressions; w is that of a leaf
 abbrev pub terms : {A : Type 0} → (A → ℕ) → Term A → ℕ
 terms w (leaf a) = w a
 terms w (literal k) = 1
@@ -56,45 +120,23 @@ Every P (leaf a) = P a
 Every P (literal k) = k < 2 ^ 32
 Every P (apply o s t) = (1 ≤ o) × (o ≤ 11) × Every P s × Every P t
 
--- a reduction is one of the five, over a term whose leaves are as said
-abbrev pub EveryBody : {A : Type 0} → (A → Type 0) → VertexReduction A → Type 0
-EveryBody P e = (1 ≤ e .reduction) × (e .reduction ≤ 5) × Every P (e .body)
+-- of a condition where there is one: its terms, and that it is as said
+abbrev pub condition-terms : Option (Term ℕ) → ℕ
+condition-terms none = zero
+condition-terms (some t) = terms unit t
 
--- each path reduction of a query is as said, and all its numbers are legal
-abbrev pub EveryPath : (PathReduction → Type 0) → Query → Type 0
-EveryPath P (each t) = Every P t
-EveryPath P (single t) = Every (EveryBody P) t
-
--- a reduction is a term, and the term under it stands one deeper
-abbrev pub query-terms : Query → ℕ
-query-terms (each t) = terms unit t
-query-terms (single t) = terms (λ e. suc (terms unit (e .body))) t
-
-abbrev pub query-depth : Query → ℕ
-query-depth (each t) = depth unit t
-query-depth (single t) = depth (λ e. suc (depth unit (e .body))) t
-
--- "reductions as written"
-abbrev pub query-reductions : Query → ℕ
-query-reductions (each t) = zero
-query-reductions (single t) = length (leaves t)
-
--- "A question has at most 64 terms, 8 different chains and 8 reductions as written", "to a depth of 16"; n is 256, or the graph's vertices
-pub record QueryLegal (n : ℕ) (q : Query) : Type 0 where
-  pub legal : EveryPath (PathFits n) q
-  pub few-terms : query-terms q ≤ 64
-  pub shallow : query-depth q ≤ 16
-  pub few-paths : length (put-all [] (written-paths q)) ≤ 8
-  pub few-reductions : query-reductions q ≤ 8
+abbrev pub Optional : {A : Type 0} → (A → Type 0) → Option A → Type 0
+Optional P none = Unit {0}
+Optional P (some t) = P t
 
 -- "Over all expressions of a worksheet at most 64 terms, each expression of depth at most 16"; an index is below its count
 abbrev pub Expression : ℕ → Term ℕ → Type 0
 Expression c t = Every (λ i. i < c) t × (depth unit t ≤ 16)
 
--- the terms of the entries; of all expressions
+-- the terms of the entries, with their conditions; of all expressions
 abbrev pub entry-terms : List (VertexReduction ℕ) → ℕ
 entry-terms [] = zero
-entry-terms (e ∷ es) = terms unit (e .body) + entry-terms es
+entry-terms (e ∷ es) = condition-terms (e .condition) + terms unit (e .body) + entry-terms es
 
 abbrev pub plan-terms : Body → ℕ
 plan-terms (each-vertex t) = terms unit t
@@ -102,7 +144,7 @@ plan-terms (one-result es t) = entry-terms es + terms unit t
 
 -- "Kind 0 has e = 1 and reduction byte 0; kind 1 has e from 0 to 8 and reduction bytes 1 to 5."
 abbrev pub EntryLegal : ℕ → VertexReduction ℕ → Type 0
-EntryLegal c e = (1 ≤ e .reduction) × (e .reduction ≤ 5) × Expression c (e .body)
+EntryLegal c e = (1 ≤ e .reduction) × (e .reduction ≤ 5) × Optional (Expression c) (e .condition) × Expression c (e .body)
 
 abbrev pub BodyLegal : ℕ → Body → Type 0
 BodyLegal c (each-vertex t) = Expression c t

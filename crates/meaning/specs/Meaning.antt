@@ -6,11 +6,26 @@ use mathlib.Core.Option.{Option}
 use lib.ListN.{length, getD}
 use Rattle.value.specs.declared.Value.{Value}
 use Rattle.value.specs.declared.Value.the-variants.{Absent, Number}
-use Rattle.value.specs.Value.{operate, reduce}
+use Rattle.value.specs.Value.{chosen, operate, reduce}
 use Rattle.walks.specs.Lists.{All}
 use Rattle.walks.specs.Meaning.{Figures, value}
 use Rattle.walks.specs.Walks.{AllTo, Graph, Network, WalkSet, Within}
-use Rattle.meaning.specs.Query.{PathReduction, Query, Term, VertexReduction, VertexTerm, apply, each, leaf, literal, network-of, single, written-paths}
+use Rattle.meaning.specs.Query.{
+  At,
+  Kind,
+  PathReduction,
+  Query,
+  QueryTerm,
+  each,
+  network-of,
+  number,
+  operator,
+  over,
+  over-where,
+  path,
+  single,
+  written-paths,
+}
 
 -- "each chain where it is written, over all walks": W gives the set of walks to a vertex, on a network
 abbrev pub PathOver : Graph → (Network → ℕ → WalkSet) → PathReduction → ℕ → Value → Type 0
@@ -23,25 +38,24 @@ PathMeans g = PathOver g AllTo
 abbrev pub PathWithin : Graph → ℕ → PathReduction → ℕ → Value → Type 0
 PathWithin g r = PathOver g (λ N v. Within N r v)
 
--- "a literal is its number, at every place in a place term; an operator joins the values of its two terms, at the same place in a place term": L says what a
--- leaf may be worth
-abbrev pub Means : {A : Type 0} → (A → Value → Type 0) → Term A → Value → Type 0
-Means L (leaf a) x = L a x
-Means L (literal k) x = x ≡ Number k
-Means L (apply o s t) x = (a : Value) × (b : Value) × Means L s a × Means L t b × (x ≡ operate o a b)
+-- the values at the n vertices in order, where M says what there is at a vertex
+abbrev pub AtVertices : ℕ → (ℕ → Value → Type 0) → List Value → Type 0
+AtVertices n M xs = (length xs ≡ n) × ((v : ℕ) → v < n → M v (getD xs v Absent))
 
--- the values of a term at the n vertices in order; L says what a path reduction is worth at a vertex
-abbrev pub AtVertices : (PathReduction → ℕ → Value → Type 0) → ℕ → VertexTerm → List Value → Type 0
-AtVertices L n t xs = (length xs ≡ n) × ((v : ℕ) → v < n → Means (λ c. L c v) t (getD xs v Absent))
+module _ (L : PathReduction → ℕ → Value → Type 0) (n : ℕ) where
+  -- what a term is worth, where L says it of a path reduction at a vertex: "a reduction goes over all n places", or over those that count; "a literal is its
+  -- number, at every place in a place term; an operator joins the values of its two terms, at the same place in a place term"
+  abbrev pub Means : {κ : Kind} → QueryTerm κ → At κ → Value → Type 0
+  Means (path c) v x = L c v x
+  Means (over o t) v x = (xs : List Value) × AtVertices n (Means t) xs × (x ≡ reduce o xs)
+  Means (over-where o c t) v x = (cs : List Value) × (xs : List Value) × AtVertices n (Means c) cs × AtVertices n (Means t) xs × (x ≡ reduce o (chosen cs xs))
+  Means (number y) v x = x ≡ Number y
+  Means (operator o s t) v x = (a : Value) × (b : Value) × Means s v a × Means t v b × (x ≡ operate o a b)
 
--- "a reduction goes over all n places"
-abbrev pub Reduces : (PathReduction → ℕ → Value → Type 0) → ℕ → VertexReduction PathReduction → Value → Type 0
-Reduces L n e x = (xs : List Value) × AtVertices L n (e .body) xs × (x ≡ reduce (e .reduction) xs)
-
--- the rows of an answer: "n rows for kind 0 or one row for kind 1"
-abbrev pub Rows : (PathReduction → ℕ → Value → Type 0) → ℕ → Query → List Value → Type 0
-Rows L n (each t) xs = AtVertices L n t xs
-Rows L n (single t) xs = (x : Value) × Means (Reduces L n) t x × (xs ≡ x ∷ [])
+  -- the rows of an answer: "n rows for kind 0 or one row for kind 1"
+  abbrev pub Rows : Query → List Value → Type 0
+  Rows (each t) xs = AtVertices n (Means t) xs
+  Rows (single t) xs = (x : Value) × Means t tt x × (xs ≡ x ∷ [])
 
 -- THE MEANING OF A QUERY over all walks, and over walks of at most r edges
 abbrev pub Unfused : Graph → Query → List Value → Type 0

@@ -1,11 +1,37 @@
 -- Plans (document 01: worksheets), and fusing.
 use Prim.Native.Nat.{ℕ, zero, suc, _+_}
 use mathlib.Core.Bool.{Bool, false, cond, _&&_, _||_}
-use mathlib.Core.List.{List, [], _∷_, _++_, map}
+use mathlib.Core.List.{List, [], _∷_, _++_}
+use mathlib.Core.Option.{Option, none, some}
 use lib.Dec.{eqb}
-use lib.ListN.{length}
 use Rattle.walks.specs.Rounds.{same-list}
-use Rattle.meaning.specs.Query.{PathReduction, Query, Term, VertexReduction, apply, each, leaf, leaves, literal, single, written-paths}
+use Rattle.meaning.specs.Query.{
+  PathReduction,
+  Query,
+  ResultTerm,
+  VertexTerm,
+  each,
+  number,
+  operator,
+  over,
+  over-where,
+  path,
+  reduction-count,
+  single,
+  written-paths,
+}
+
+-- expressions over leaves of some kind: a leaf, a literal, or an operator
+pub data Term (A : Type 0) : Type 0 where
+  leaf : A → Term A
+  literal : ℕ → Term A
+  apply : ℕ → Term A → Term A → Term A
+
+-- an entry with its reduction, over all vertices or over those that count by the condition
+pub record VertexReduction (A : Type 0) : Type 0 where
+  pub reduction : ℕ
+  pub condition : Option (Term A)
+  pub body : Term A
 
 -- the expressions of a plan. Kind 0: one entry with no reduction, over the indices of path reductions (0x30). Kind 1: entries with their reductions, and a
 -- final expression over the indices of entries (0x31)
@@ -40,25 +66,30 @@ abbrev pub put-all : List PathReduction → List PathReduction → List PathRedu
 put-all cs [] = cs
 put-all cs (d ∷ ds) = put-all (put cs d) ds
 
--- a term with other leaves; a term with its leaves numbered as written, from k
-abbrev pub rename : {A B : Type 0} → (A → B) → Term A → Term B
-rename f (leaf a) = leaf (f a)
-rename f (literal k) = literal k
-rename f (apply o s t) = apply o (rename f s) (rename f t)
+module _ (cs : List PathReduction) where
+  -- a vertex term over the indices of the path reductions cs: "0x30 and a chain's index for a chain ..; operators and literals keep their bytes"
+  abbrev pub expression : VertexTerm → Term ℕ
+  expression (path c) = leaf (position c cs)
+  expression (number x) = literal x
+  expression (operator o s t) = apply o (expression s) (expression t)
 
-abbrev pub enumerate : {A : Type 0} → ℕ → Term A → Term ℕ
-enumerate k (leaf a) = leaf k
-enumerate k (literal x) = literal x
-enumerate k (apply o s t) = apply o (enumerate k s) (enumerate (k + length (leaves s)) t)
+  -- "and reductions in order of writing": the entries of a result term
+  abbrev pub entries : ResultTerm → List (VertexReduction ℕ)
+  entries (over o t) = record { reduction = o; condition = none; body = expression t } ∷ []
+  entries (over-where o c t) = record { reduction = o; condition = some (expression c); body = expression t } ∷ []
+  entries (number x) = []
+  entries (operator o s t) = entries s ++ entries t
 
--- an entry: the reduction, over the indices of the path reductions cs
-abbrev pub entry : List PathReduction → VertexReduction PathReduction → VertexReduction ℕ
-entry cs e = record { reduction = e .reduction; body = rename (λ c. position c cs) (e .body) }
+-- a result term over the indices of its entries, the first being k: "0x31 and an entry's index for a reduction"
+abbrev pub final : ℕ → ResultTerm → Term ℕ
+final k (over o t) = leaf k
+final k (over-where o c t) = leaf k
+final k (number x) = literal x
+final k (operator o s t) = apply o (final k s) (final (k + reduction-count s) t)
 
--- "and reductions in order of writing"
 abbrev pub fuse-body : List PathReduction → Query → Body
-fuse-body cs (each t) = each-vertex (rename (λ c. position c cs) t)
-fuse-body cs (single t) = one-result (map (entry cs) (leaves t)) (enumerate zero t)
+fuse-body cs (each t) = each-vertex (expression cs t)
+fuse-body cs (single t) = one-result (entries cs t) (final zero t)
 
 -- the plan that a query is fused to
 abbrev pub fuse : Query → Plan

@@ -1,5 +1,5 @@
 -- Queries (document 01: questions) as trees. Keys, operators and reductions are their numbers.
-use Prim.Native.Nat.{ℕ}
+use Prim.Native.Nat.{ℕ, zero, suc, _+_}
 use mathlib.Core.Bool.{Bool, true, cond}
 use mathlib.Core.List.{List, [], _∷_, _++_}
 use lib.Dec.{ltb, eqb}
@@ -24,40 +24,52 @@ every-edge i = true
 abbrev pub network-of : Graph → PathReduction → Network
 network-of g c = network g every-edge (starts (g .vertices) (c .source))
 
--- terms over leaves of some kind: a leaf, "a 32-bit literal", or "operator, two [..] terms"
-pub data Term (A : Type 0) : Type 0 where
-  leaf : A → Term A
-  literal : ℕ → Term A
-  apply : ℕ → Term A → Term A → Term A
+-- "Place terms" and "Result terms"
+pub data Kind : Type 0 where
+  vertex result : Kind
 
--- a reduction over all vertices of a term that has a value at each
-pub record VertexReduction (A : Type 0) : Type 0 where
-  pub reduction : ℕ
-  pub body : Term A
+-- the terms of each kind: a path reduction (0x10); a reduction over all vertices (0x20), or of those that count, "a place term as condition, a place term as
+-- value" (0x23); of both kinds "a 32-bit literal" (0x11, 0x21), and "operator, two [..] terms" (0x12, 0x22)
+pub data QueryTerm : Kind → Type 0 where
+  path : PathReduction → QueryTerm vertex
+  over : ℕ → QueryTerm vertex → QueryTerm result
+  over-where : ℕ → QueryTerm vertex → QueryTerm vertex → QueryTerm result
+  number : {κ : Kind} → ℕ → QueryTerm κ
+  operator : {κ : Kind} → ℕ → QueryTerm κ → QueryTerm κ → QueryTerm κ
 
--- vertex terms (document 01: place terms) have path reductions for leaves, result terms reductions of vertex terms
+-- vertex terms (document 01: place terms), and result terms
 abbrev pub VertexTerm : Type 0
-VertexTerm = Term PathReduction
+VertexTerm = QueryTerm vertex
 
 abbrev pub ResultTerm : Type 0
-ResultTerm = Term (VertexReduction PathReduction)
+ResultTerm = QueryTerm result
+
+-- where a term has a value: a vertex term at each vertex, a result term once
+abbrev pub At : Kind → Type 0
+At vertex = ℕ
+At result = Unit {0}
 
 -- "A question of kind 0 is a place term, of kind 1 a result term."
 pub data Query : Type 0 where
   each : VertexTerm → Query
   single : ResultTerm → Query
 
--- the leaves of a term, as written
-abbrev pub leaves : {A : Type 0} → Term A → List A
-leaves (leaf a) = a ∷ []
-leaves (literal k) = []
-leaves (apply o s t) = leaves s ++ leaves t
-
--- the path reductions of reductions, and of a query, as written
-abbrev pub bodies : List (VertexReduction PathReduction) → List PathReduction
-bodies [] = []
-bodies (e ∷ es) = leaves (e .body) ++ bodies es
+-- the path reductions of a term and of a query, as written: a condition's before the value's
+abbrev pub paths : {κ : Kind} → QueryTerm κ → List PathReduction
+paths (path c) = c ∷ []
+paths (over o t) = paths t
+paths (over-where o c t) = paths c ++ paths t
+paths (number x) = []
+paths (operator o s t) = paths s ++ paths t
 
 abbrev pub written-paths : Query → List PathReduction
-written-paths (each t) = leaves t
-written-paths (single t) = bodies (leaves t)
+written-paths (each t) = paths t
+written-paths (single t) = paths t
+
+-- how many reductions a term has; one with a condition "counts as one reduction"
+abbrev pub reduction-count : {κ : Kind} → QueryTerm κ → ℕ
+reduction-count (path c) = zero
+reduction-count (over o t) = suc (reduction-count t)
+reduction-count (over-where o c t) = suc (reduction-count c + reduction-count t)
+reduction-count (number x) = zero
+reduction-count (operator o s t) = reduction-count s + reduction-count t

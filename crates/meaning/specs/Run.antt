@@ -2,16 +2,17 @@
 use Prim.Native.Nat.{ℕ, zero, suc, _<_}
 use mathlib.Core.Path.{_≡_}
 use mathlib.Core.List.{List, [], _∷_, map}
+use mathlib.Core.Option.{Option, none, some}
 use lib.ListN.{getD}
 use Rattle.value.specs.declared.Value.{Value}
 use Rattle.value.specs.declared.Value.the-variants.{Absent, Number}
-use Rattle.value.specs.Value.{operate, reduce}
+use Rattle.value.specs.Value.{chosen, operate, reduce}
 use Rattle.walks.specs.Meaning.{value}
 use Rattle.walks.specs.Rounds.{State, pushed, rounds, state}
 use Rattle.walks.specs.Walks.{Graph}
 use Rattle.meaning.specs.Meaning.{Outcome}
-use Rattle.meaning.specs.Plan.{Body, Plan, each-vertex, one-result}
-use Rattle.meaning.specs.Query.{PathReduction, Term, VertexReduction, apply, leaf, literal, network-of}
+use Rattle.meaning.specs.Plan.{Body, Plan, Term, VertexReduction, apply, each-vertex, leaf, literal, one-result}
+use Rattle.meaning.specs.Query.{PathReduction, network-of}
 
 -- the value of a term, of the values of its leaves; of an expression, whose leaves are indices into a list of values
 abbrev pub value-of : {A : Type 0} → (A → Value) → Term A → Value
@@ -31,8 +32,13 @@ tabulate (suc n) i f = f i ∷ tabulate n (suc i) f
 abbrev pub at-vertices : (ℕ → List Value) → ℕ → Term ℕ → List Value
 at-vertices F n t = tabulate n zero (λ v. evaluate (F v) t)
 
+-- those of them that count by a condition, all where there is none; a reduction
+abbrev pub picked : (ℕ → List Value) → ℕ → Option (Term ℕ) → List Value → List Value
+picked F n none xs = xs
+picked F n (some c) xs = chosen (at-vertices F n c) xs
+
 abbrev pub reduced : (ℕ → List Value) → ℕ → VertexReduction ℕ → Value
-reduced F n e = reduce (e .reduction) (at-vertices F n (e .body))
+reduced F n e = reduce (e .reduction) (picked F n (e .condition) (at-vertices F n (e .body)))
 
 abbrev pub body-rows : Body → (ℕ → List Value) → ℕ → List Value
 body-rows (each-vertex t) F n = at-vertices F n t

@@ -12,9 +12,13 @@ use Rattle.progress.specs.Progress.{blank}
 use Rattle.fields.specs.Fields.{code-of}
 use Rattle.path_fields.specs.Paths.{path-code, path-word}
 
+-- a term that contains no other
+abbrev pub alone : Progress → Step
+alone w = record { progress = w; follow = 0; inner = OfVertex }
+
 -- no term: the step of a refusal
 abbrev pub refused-step : ℕ → Step
-refused-step code = record { progress = blank code; follow = 0 }
+refused-step code = alone (blank code)
 
 -- one term more, up to `next`
 unfoldable pub advanced : Progress → ℕ → Progress
@@ -37,19 +41,20 @@ kept-path w word =
 unfoldable pub path-step : List ℕ → Progress → Step
 path-step s w =
     let at = w .at + 1 in
-    cond (eqb (path-code s at) 0) (record { progress = kept-path (advanced w (at + 3 + getD s at 256)) (path-word s at); follow = 0 })
-    (refused-step (path-code s at))
+    cond (eqb (path-code s at) 0) (alone (kept-path (advanced w (at + 3 + getD s at 256)) (path-word s at))) (refused-step (path-code s at))
 
--- "0x20, reduction, a place term"; "A reduction's 14 follows its byte."
-unfoldable pub reduce-step : List ℕ → Progress → Step
-reduce-step s w =
+-- "0x20, reduction, a place term", and "reduction, a place term as condition, a place term as value": so many place terms follow; "A reduction's 14 follows
+-- its byte."
+unfoldable pub reduce-step : ℕ → List ℕ → Progress → Step
+reduce-step follow s w =
     let c = code-of (getD s (w .at + 1) 256) 5 in
     let a = advanced w (w .at + 1 + 1) in
     cond (eqb c 0)
     (cond (leb 8 (w .reductions)) (refused-step 14)
     (record {
       progress = record { code = a .code; at = a .at; terms = a .terms; paths = a .paths; reductions = w .reductions + 1; table = a .table };
-      follow = 1;
+      follow = follow;
+      inner = OfVertex;
     }))
     (refused-step c)
 
@@ -57,32 +62,25 @@ reduce-step s w =
 unfoldable pub index-step : List ℕ → Progress → ℕ → Step
 index-step s w count =
     let b = getD s (w .at + 1) 256 in
-    cond (ltb 255 b) (refused-step 1) (cond (leb count b) (refused-step 16) (record { progress = advanced w (w .at + 1 + 1); follow = 0 }))
+    cond (ltb 255 b) (refused-step 1) (cond (leb count b) (refused-step 16) (alone (advanced w (w .at + 1 + 1))))
 
 -- "0x11 and a 32-bit literal", "0x21 and a 32-bit literal"
 unfoldable pub literal-step : List ℕ → Progress → Step
-literal-step s w = cond (ltb 255 (getD s (w .at + 4) 256)) (refused-step 1) (record { progress = advanced w (w .at + 4 + 1); follow = 0 })
+literal-step s w = cond (ltb 255 (getD s (w .at + 4) 256)) (refused-step 1) (alone (advanced w (w .at + 4 + 1)))
 
 -- "0x12, operator, two place terms", "0x22, operator, two result terms"
-unfoldable pub apply-step : List ℕ → Progress → Step
-apply-step s w =
+unfoldable pub apply-step : TermKind → List ℕ → Progress → Step
+apply-step kind s w =
     let c = code-of (getD s (w .at + 1) 256) 11 in
-    cond (eqb c 0) (record { progress = advanced w (w .at + 1 + 1); follow = 2 }) (refused-step c)
+    cond (eqb c 0) (record { progress = advanced w (w .at + 1 + 1); follow = 2; inner = kind }) (refused-step c)
 
--- the term that each kind has instead of a literal or an operator: in place terms a chain, in result terms a reduction, in an entry's expression a chain's
--- index, in a final expression an entry's
-unfoldable pub leaf-step : TermKind → List ℕ → Progress → Step
-leaf-step OfVertex s w = path-step s w
-leaf-step OfResult s w = reduce-step s w
-leaf-step OfEntry s w = index-step s w (w .paths)
-leaf-step OfFinal s w = index-step s w (w .reductions)
-
--- its first byte
-unfoldable pub leaf-tag : TermKind → ℕ
-leaf-tag OfVertex = 0x10
-leaf-tag OfResult = 0x20
-leaf-tag OfEntry = 0x30
-leaf-tag OfFinal = 0x31
+-- what each kind has instead of literals and operators, by its first byte: in place terms a chain, in result terms a reduction, without or with a condition, in
+-- an entry's expression a chain's index, in a final expression an entry's; "9 | unknown word | .. a byte that may not stand there"
+unfoldable pub leaf-step : TermKind → ℕ → List ℕ → Progress → Step
+leaf-step OfVertex tag s w = cond (eqb tag 0x10) (path-step s w) (refused-step 9)
+leaf-step OfResult tag s w = cond (eqb tag 0x20) (reduce-step 1 s w) (cond (eqb tag 0x23) (reduce-step 2 s w) (refused-step 9))
+leaf-step OfEntry tag s w = cond (eqb tag 0x30) (index-step s w (w .paths)) (refused-step 9)
+leaf-step OfFinal tag s w = cond (eqb tag 0x31) (index-step s w (w .reductions)) (refused-step 9)
 
 -- "An entry's expression has 0x11, 0x12 and 0x30 only, a final one 0x21, 0x22 and 0x31 only": the byte of a literal; that of an operator is one more
 unfoldable pub literal-tag : TermKind → ℕ
@@ -91,16 +89,15 @@ literal-tag OfResult = 0x21
 literal-tag OfEntry = 0x11
 literal-tag OfFinal = 0x21
 
--- a term without those that it contains, and how many follow: none, 1 place term, or 2 terms of the same kind
+-- a term without those that it contains, how many of them follow (0 to 2) and of what kind
 unfoldable pub term-step : TermKind → ℕ → List ℕ → Progress → Step
 term-step kind left s w =
     let tag = getD s (w .at) 0 in
     cond (leb (length s) (w .at)) (refused-step 1)
     (cond (leb 64 (w .terms)) (refused-step 12)
     (cond (eqb left 0) (refused-step 11)
-    (cond (eqb tag (leaf-tag kind)) (leaf-step kind s w)
     (cond (eqb tag (literal-tag kind)) (literal-step s w)
-    (cond (eqb tag (literal-tag kind + 1)) (apply-step s w) (refused-step 9))))))
+    (cond (eqb tag (literal-tag kind + 1)) (apply-step kind s w) (leaf-step kind tag s w)))))
 
 -- a term and all that it contains, with so many levels of depth left; a refusal is handed on
 unfoldable pub read : TermKind → ℕ → List ℕ → Progress → Progress
@@ -110,7 +107,10 @@ read kind (suc left) s w =
     elim (eqb (w .code) 0) [
       | true ↦ elim (eqb (h .follow) 0) [
         | true ↦ h .progress
-        | false ↦ elim (eqb (h .follow) 1) [ true ↦ read OfVertex left s (h .progress) | false ↦ read kind left s (read kind left s (h .progress)) ]
+        | false ↦ elim (eqb (h .follow) 1) [
+          | true ↦ read (h .inner) left s (h .progress)
+          | false ↦ read (h .inner) left s (read (h .inner) left s (h .progress))
+        ]
       ]
       | false ↦ w
     ]

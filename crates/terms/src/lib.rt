@@ -4,14 +4,10 @@ use progress::Progress;
 ghost use mathlib.Core.Path.{_≡_};
 ghost use Prim.Native.Nat.{_+_, _≤_, _<_, max};
 ghost use lib.ListN.{length};
-ghost use Rattle.terms.specs.Terms.{refused-step, slot-of, kept-path, advanced, path-step, reduce-step, index-step, leaf-step};
-ghost use Rattle.terms.specs.Terms.{literal-step, apply-step, leaf-tag, literal-tag, term-step, read};
-
-// A term read without those that it contains, and how many follow.
-pub struct Step {
-    pub progress: Progress,
-    pub follow: u8,
-}
+ghost use Rattle.terms.specs.Terms.{alone, refused-step, slot-of, kept-path, advanced, path-step, reduce-step, index-step};
+ghost use Rattle.terms.specs.Terms.{leaf-step, literal-step, apply-step, literal-tag, term-step, read};
+ghost use lib.Dec.{eqb};
+ghost use mathlib.Core.Bool.{cond};
 
 // The four kinds of terms: place terms and result terms of a question, entries' expressions and final expressions of a worksheet.
 pub enum TermKind {
@@ -19,6 +15,13 @@ pub enum TermKind {
     OfResult,
     OfEntry,
     OfFinal,
+}
+
+// A term read without those that it contains, how many of them follow and of what kind they are.
+pub struct Step {
+    pub progress: Progress,
+    pub follow: u8,
+    pub inner: TermKind,
 }
 
 // The first of the eight slots of the table that is free or holds the path reduction; 8 where there is none.
@@ -38,14 +41,22 @@ fn slot(table: [u64; 8], paths: usize, word: u64) -> usize
     i
 }
 
+// A term that contains no other.
+fn alone_of(progress: Progress) -> Step
+    ensures { λ r. ⌜ r ≡ alone progress ⌝ }
+{
+    Step {
+        progress,
+        follow: 0,
+        inner: TermKind::OfVertex,
+    }
+}
+
 // No term, for the reason that the number gives.
 fn refuse(code: u8) -> Step
     ensures { λ r. ⌜ r ≡ refused-step code ⌝ }
 {
-    Step {
-        progress: progress::blank_of(code),
-        follow: 0,
-    }
+    alone_of(progress::blank_of(code))
 }
 
 // One term more, up to `next`.
@@ -93,16 +104,13 @@ fn path_step_of(s: &[u8], w: Progress) -> Step
     }
     let n = fields::byte(s, at);
     let word = path_fields::path_word(s, at);
-    Step {
-        progress: keep_path(advance(w, at + 3 + (n as usize)), word),
-        follow: 0,
-    }
+    alone_of(keep_path(advance(w, at + 3 + (n as usize)), word))
 }
 
-// "0x20, reduction, a place term"; "A reduction's 14 follows its byte."
-fn reduce_step_of(s: &[u8], w: Progress) -> Step
+// "0x20, reduction, a place term", and 0x23 with two, condition and value; "A reduction's 14 follows its byte."
+fn reduce_step_of(s: &[u8], w: Progress, follow: u8) -> Step
     requires { ⌜ (w .at < length (now s)) × (w .terms < 64) ⌝ }
-    ensures { λ r. ⌜ r ≡ reduce-step (now (s .entry)) w ⌝ }
+    ensures { λ r. ⌜ r ≡ reduce-step follow (now (s .entry)) w ⌝ }
 {
     let at = w.at + 1;
     let c = fields::code_of(fields::byte(s, at), 5);
@@ -117,7 +125,8 @@ fn reduce_step_of(s: &[u8], w: Progress) -> Step
     next.reductions = n + 1;
     Step {
         progress: next,
-        follow: 1,
+        follow,
+        inner: TermKind::OfVertex,
     }
 }
 
@@ -134,10 +143,7 @@ fn index_step_of(s: &[u8], w: Progress, count: usize) -> Step
     if count <= (b as usize) {
         return refuse(16);
     }
-    Step {
-        progress: advance(w, at + 1),
-        follow: 0,
-    }
+    alone_of(advance(w, at + 1))
 }
 
 // "0x11 and a 32-bit literal", "0x21 and a 32-bit literal".
@@ -149,16 +155,13 @@ fn literal_step_of(s: &[u8], w: Progress) -> Step
     if 255 < fields::byte(s, last) {
         return refuse(1);
     }
-    Step {
-        progress: advance(w, last + 1),
-        follow: 0,
-    }
+    alone_of(advance(w, last + 1))
 }
 
 // "0x12, operator, two place terms", "0x22, operator, two result terms".
-fn apply_step_of(s: &[u8], w: Progress) -> Step
+fn apply_step_of(s: &[u8], w: Progress, kind: TermKind) -> Step
     requires { ⌜ (w .at < length (now s)) × (w .terms < 64) ⌝ }
-    ensures { λ r. ⌜ r ≡ apply-step (now (s .entry)) w ⌝ }
+    ensures { λ r. ⌜ r ≡ apply-step kind (now (s .entry)) w ⌝ }
 {
     let at = w.at + 1;
     let c = fields::code_of(fields::byte(s, at), 11);
@@ -168,31 +171,56 @@ fn apply_step_of(s: &[u8], w: Progress) -> Step
     Step {
         progress: advance(w, at + 1),
         follow: 2,
+        inner: kind,
     }
 }
 
-// A leaf of a term of the given kind.
-fn leaf_step_of(s: &[u8], w: Progress, kind: TermKind) -> Step
+// A chain, by its first byte.
+fn path_leaf_of(s: &[u8], w: Progress, tag: u8) -> Step
     requires { ⌜ (w .at < length (now s)) × (w .terms < 64) ⌝ }
-    ensures { λ r. ⌜ r ≡ leaf-step kind (now (s .entry)) w ⌝ }
+    ensures { λ r. ⌜ r ≡ cond (eqb tag 0x10) (path-step (now (s .entry)) w) (refused-step 9) ⌝ }
 {
-    match kind {
-        TermKind::OfVertex => path_step_of(s, w),
-        TermKind::OfResult => reduce_step_of(s, w),
-        TermKind::OfEntry => index_step_of(s, w, w.paths),
-        TermKind::OfFinal => index_step_of(s, w, w.reductions),
+    if tag == 0x10 {
+        return path_step_of(s, w);
     }
+    refuse(9)
 }
 
-// The byte that such a leaf starts with.
-fn leaf_tag_of(kind: TermKind) -> u8
-    ensures { λ r. ⌜ r ≡ leaf-tag kind ⌝ }
+// A reduction without or with a condition.
+fn reduce_leaf_of(s: &[u8], w: Progress, tag: u8) -> Step
+    requires { ⌜ (w .at < length (now s)) × (w .terms < 64) ⌝ }
+    ensures { λ r. ⌜ r ≡ leaf-step TermKind.OfResult tag (now (s .entry)) w ⌝ }
+{
+    if tag == 0x20 {
+        return reduce_step_of(s, w, 1);
+    }
+    if tag == 0x23 {
+        return reduce_step_of(s, w, 2);
+    }
+    refuse(9)
+}
+
+// An index behind its byte.
+fn index_leaf_of(s: &[u8], w: Progress, tag: u8, own: u8, count: usize) -> Step
+    requires { ⌜ (w .at < length (now s)) × (w .terms < 64) ⌝ }
+    ensures { λ r. ⌜ r ≡ cond (eqb tag own) (index-step (now (s .entry)) w count) (refused-step 9) ⌝ }
+{
+    if tag == own {
+        return index_step_of(s, w, count);
+    }
+    refuse(9)
+}
+
+// What each kind has instead of literals and operators.
+fn leaf_step_of(s: &[u8], w: Progress, kind: TermKind, tag: u8) -> Step
+    requires { ⌜ (w .at < length (now s)) × (w .terms < 64) ⌝ }
+    ensures { λ r. ⌜ r ≡ leaf-step kind tag (now (s .entry)) w ⌝ }
 {
     match kind {
-        TermKind::OfVertex => 0x10,
-        TermKind::OfResult => 0x20,
-        TermKind::OfEntry => 0x30,
-        TermKind::OfFinal => 0x31,
+        TermKind::OfVertex => path_leaf_of(s, w, tag),
+        TermKind::OfResult => reduce_leaf_of(s, w, tag),
+        TermKind::OfEntry => index_leaf_of(s, w, tag, 0x30, w.paths),
+        TermKind::OfFinal => index_leaf_of(s, w, tag, 0x31, w.reductions),
     }
 }
 
@@ -223,17 +251,14 @@ fn term_step_of(s: &[u8], w: Progress, kind: TermKind, left: usize) -> Step
         return refuse(11);
     }
     let tag = s[at];
-    if tag == leaf_tag_of(kind) {
-        return leaf_step_of(s, w, kind);
-    }
     let literal = literal_tag_of(kind);
     if tag == literal {
         return literal_step_of(s, w);
     }
     if tag == literal + 1 {
-        return apply_step_of(s, w);
+        return apply_step_of(s, w, kind);
     }
-    refuse(9)
+    leaf_step_of(s, w, kind, tag)
 }
 
 // A term and all that it contains, from w on, with `left` levels of depth left. A refusal is handed on.
@@ -252,9 +277,10 @@ pub fn read_term(s: &[u8], w: Progress, kind: TermKind, left: usize) -> Progress
     if follow == 0 {
         return next;
     }
+    let inner = step.inner;
+    let first = read_term(s, next, inner, left - 1);
     if follow == 1 {
-        return read_term(s, next, TermKind::OfVertex, left - 1);
+        return first;
     }
-    let first = read_term(s, next, kind, left - 1);
-    read_term(s, first, kind, left - 1)
+    read_term(s, first, inner, left - 1)
 }

@@ -1,3 +1,4 @@
 pub mod Numbers
 pub mod Reduced
 pub mod Held
+pub mod Chosen

@@ -1,14 +1,15 @@
--- A reduction as the program goes, value by value. Nothing to believe: `reduced` (proofs/Reduced) says that it is `reduce`.
+-- A reduction as the program goes, value by value. Nothing to believe: `reduced` (proofs/Reduced) says that it is `reduce`, `left-out` (proofs/Chosen) that
+-- values which do not count may stay as absent ones.
 use Prim.Native.Nat.{ℕ}
 use mathlib.Core.Bool.{cond}
-use mathlib.Core.List.{[], _∷_}
+use mathlib.Core.List.{List, [], _∷_}
 use lib.Dec.{eqb}
 use lib.ListN.{getD}
 use Rattle.value.specs.declared.Value.{Value}
 use Rattle.value.specs.declared.Value.the-variants.{Absent, Number}
 use Rattle.value.specs.declared.Partial.{Partial}
 use Rattle.value.specs.declared.Partial.the-variants.{Empty, Reached}
-use Rattle.value.specs.Value.{operate}
+use Rattle.value.specs.Value.{counts, operate}
 
 -- the operator that joins the numbers of a reduction: min, max, plus, and, or
 abbrev pub joining : ℕ → ℕ
@@ -28,3 +29,13 @@ step reduction (Reached t) (Number x) = Reached (operate (joining reduction) t (
 abbrev pub finish : Partial → Value
 finish Empty = Absent
 finish (Reached t) = t
+
+-- a value that counts by its condition, absent where it does not
+abbrev pub where-counts : Value → Value → Value
+where-counts c x = cond (counts c) x Absent
+
+-- so of each of a list
+abbrev pub all-where : List Value → List Value → List Value
+all-where [] xs = []
+all-where (c ∷ cs) [] = []
+all-where (c ∷ cs) (x ∷ xs) = where-counts c x ∷ all-where cs xs

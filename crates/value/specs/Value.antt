@@ -1,6 +1,6 @@
 -- Values, operators and reductions (document 01, "Meaning").
 use Prim.Native.Nat.{ℕ, _+_, _-_, _*_, _/_, _^_, min, max}
-use mathlib.Core.Bool.{Bool, cond, not, _&&_, _||_}
+use mathlib.Core.Bool.{Bool, false, cond, not, _&&_, _||_}
 use mathlib.Core.List.{List, [], _∷_, foldr, map}
 use lib.Dec.{leb, ltb, eqb}
 use Rattle.value.specs.declared.Value.{Value}
@@ -72,3 +72,14 @@ reduce reduction vs = combine reduction (present vs)
 -- the values of rows: "an answer row holds one"
 abbrev pub values : List Row → List Value
 values = map (λ (r : Row). r .value)
+
+-- "A place counts where the condition is a number other than 0; an absent condition leaves the place out." (document 02, a)
+abbrev pub counts : Value → Bool
+counts Absent = false
+counts (Number x) = holds x
+
+-- the values xs at the places that count, where cs are those of the condition
+abbrev pub chosen : List Value → List Value → List Value
+chosen [] xs = []
+chosen (c ∷ cs) [] = []
+chosen (c ∷ cs) (x ∷ xs) = cond (counts c) (x ∷ chosen cs xs) (chosen cs xs)

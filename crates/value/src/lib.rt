@@ -5,7 +5,7 @@ ghost use lib.Dec.{leb, eqb};
 ghost use lib.ListN.{take};
 ghost use mathlib.Core.Bool.{cond};
 ghost use Rattle.value.specs.Value.{number, truth, both, either, compute, operate, reduce, values};
-ghost use Rattle.value.specs.Steps.{start, joining, step, finish};
+ghost use Rattle.value.specs.Steps.{start, joining, step, finish, where-counts};
 
 // "A value is a number or is absent."
 pub enum Value {
@@ -186,6 +186,19 @@ fn finish_of(partial: Partial) -> Value
         Partial::Empty => Value::Absent,
         Partial::Reached(t) => t,
     }
+}
+
+// "A place counts where the condition is a number other than 0; an absent condition leaves the place out": its value, or absent.
+pub fn where_counts(condition: Value, v: Value) -> Value
+    ensures { λ r. ⌜ r ≡ where-counts condition v ⌝ }
+{
+    let Value::Number(x) = condition else {
+        return Value::Absent;
+    };
+    if x == 0 {
+        return Value::Absent;
+    }
+    v
 }
 
 fn at_most_256(n: usize) -> usize

@@ -1,7 +1,7 @@
 -- The value of a plan's expression and the rows of its body by its bytes, as the program goes: entries at each vertex, their reductions, the final expression.
 -- Nothing to believe: `expression-value` (proofs/Tree) says that a value is that of the expression's tree, `body-value` (proofs/Body) that the rows are those
 -- of the plan's tree. F gives the values of the path reductions at a vertex, as eight rows.
-use Prim.Native.Nat.{ℕ, zero, suc, _+_, _-_, _*_, min}
+use Prim.Native.Nat.{ℕ, zero, suc, _+_, _-_, _*_, _%_, min}
 use mathlib.Core.Bool.{Bool, cond, _||_}
 use mathlib.Core.List.{List, [], _∷_, _++_, map}
 use lib.Dec.{leb, eqb}
@@ -10,6 +10,7 @@ use Rattle.meaning.specs.Run.{tabulate}
 use Rattle.value.specs.declared.Value.{Value}
 use Rattle.value.specs.declared.Value.the-variants.{Absent, Number}
 use Rattle.value.specs.declared.Row.{Row}
+use Rattle.value.specs.Steps.{where-counts}
 use Rattle.value.specs.Value.{operate, reduce, values}
 use Rattle.wire.specs.Wire.{at32}
 use Rattle.eval.specs.declared.Found.{Found}
@@ -55,23 +56,30 @@ row v = record { value = v }
 abbrev pub eight : List Value → List Row
 eight vs = map row vs ++ replicate (8 - length vs) (row Absent)
 
--- where an expression ends
-unfoldable pub expression-end : List ℕ → ℕ → ℕ
-expression-end s at = evaluated 16 s (eight []) at .next
+-- the entry whose reduction byte stands at `at`, at one vertex: its value, absent where its condition leaves the vertex out, and where it ends
+unfoldable pub entry-found : List ℕ → List Row → ℕ → Found
+entry-found s rows at =
+    let c = evaluated 16 s rows (at + 1) in
+    let x = evaluated 16 s rows (c .next) in
+    cond (leb (length s) at) (found Absent at) (cond (leb 128 (getD s at 0)) (found (where-counts (c .value) (x .value)) (x .next)) c)
 
--- the expression at `at`, at each of the n vertices
+-- where an entry ends
+unfoldable pub entry-end : List ℕ → ℕ → ℕ
+entry-end s at = entry-found s (eight []) at .next
+
+-- the entry at `at`, at each of the n vertices
 unfoldable pub entry-rows : List ℕ → ℕ → (ℕ → List Row) → ℕ → List Row
-entry-rows s at F n = tabulate n zero (λ v. row (evaluated 16 s (F v) at .value))
+entry-rows s at F n = tabulate n zero (λ v. row (entry-found s (F v) at .value))
 
 -- "e entries, each a reduction byte and an expression": their results, "over all n places", the first entry at `at`
 unfoldable pub results : ℕ → List ℕ → ℕ → (ℕ → List Row) → ℕ → List Value
 results zero s at F n = []
-results (suc k) s at F n = reduce (getD s at 0) (values (entry-rows s (at + 1) F n)) ∷ results k s (expression-end s (at + 1)) F n
+results (suc k) s at F n = reduce (getD s at 0 % 128) (values (entry-rows s at F n)) ∷ results k s (entry-end s at) F n
 
 -- where k entries end, the first at `at`
 unfoldable pub entries-end : ℕ → List ℕ → ℕ → ℕ
 entries-end zero s at = at
-entries-end (suc k) s at = entries-end k s (expression-end s (at + 1))
+entries-end (suc k) s at = entries-end k s (entry-end s at)
 
 -- where the entry count of a plan stands: behind the kind byte, the "chain count c" and "c chains of 6 bytes"
 abbrev pub count-at : List ℕ → ℕ
@@ -85,4 +93,4 @@ final-found k s at F n = evaluated 16 s (eight (results k s at F n)) (entries-en
 unfoldable pub body-found : List ℕ → (ℕ → List Row) → ℕ → List Row
 body-found s F n =
     let at = count-at s in
-    cond (eqb (getD s 5 0) 0) (entry-rows s (at + 2) F n) (row (final-found (min (getD s at 0) 8) s (at + 1) F n) ∷ [])
+    cond (eqb (getD s 5 0) 0) (entry-rows s (at + 1) F n) (row (final-found (min (getD s at 0) 8) s (at + 1) F n) ∷ [])

@@ -5,7 +5,7 @@ use value::Value;
 ghost use mathlib.Core.Path.{_≡_};
 ghost use lib.ListN.{getD};
 ghost use Rattle.value.specs.Value.{values};
-ghost use Rattle.eval.specs.Steps.{evaluated, expression-end, head, one-of};
+ghost use Rattle.eval.specs.Steps.{entry-end, entry-found, evaluated, head, one-of};
 
 // The value of a term, and where the term behind it starts.
 pub struct Found {
@@ -98,14 +98,38 @@ pub fn evaluate(s: &[u8], rows: [Row; 8], at: usize, left: usize) -> Found
     }
 }
 
-// Where the expression at `at` ends: that rests on its bytes alone.
-pub fn expression_end(s: &[u8], at: usize) -> usize
-    ensures { λ r. ⌜ r ≡ expression-end (now (s .entry)) at ⌝ }
+// The entry whose reduction byte stands at `at`, of the values of the path reductions at a vertex: with 128 added to that byte the condition precedes the value,
+// which is absent where the vertex does not count. Also where the entry ends.
+pub fn entry(s: &[u8], rows: [Row; 8], at: usize) -> Found
+    ensures { λ r. ⌜ r ≡ entry-found (now (s .entry)) rows at ⌝ }
+{
+    if s.len() <= at {
+        return Found {
+            value: Value::Absent,
+            next: at,
+        };
+    }
+    let first = evaluate(s, rows, at + 1, 16);
+    if s[at] < 128 {
+        return first;
+    }
+    let second = evaluate(s, rows, first.next, 16);
+    let condition = first.value;
+    let value = second.value;
+    Found {
+        value: value::where_counts(condition, value),
+        next: second.next,
+    }
+}
+
+// Where the entry ends: that rests on its bytes alone.
+pub fn entry_end(s: &[u8], at: usize) -> usize
+    ensures { λ r. ⌜ r ≡ entry-end (now (s .entry)) at ⌝ }
 {
     let absent = Row {
         value: Value::Absent,
     };
     let rows = [absent; 8];
-    let found = evaluate(s, rows, at, 16);
+    let found = entry(s, rows, at);
     found.next
 }

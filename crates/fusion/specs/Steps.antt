@@ -1,13 +1,13 @@
 -- Fusing as the program goes, from the nodes of the query to those of the plan. Nothing to believe: `fuse-steps` (proofs/Exact) says that of all bytes its
 -- reply is `fuse-reply`.
-use Prim.Native.Nat.{ℕ, suc, _+_, min}
+use Prim.Native.Nat.{ℕ, suc, _+_, _%_, min}
 use mathlib.Core.Bool.{cond}
 use mathlib.Core.List.{List, [], _∷_}
 use lib.Dec.{leb, eqb}
 use lib.ListN.{set, take}
 use Rattle.nodes.specs.declared.Node.{Node}
 use Rattle.nodes.specs.declared.Term.{Term}
-use Rattle.nodes.specs.declared.Term.the-variants.{Empty, Path, Literal, Apply, Reduce, ResultLiteral, ResultApply, PathIndex, EntryIndex, Entry}
+use Rattle.nodes.specs.declared.Term.the-variants.{Empty, Path, Literal, Apply, Reduce, ReduceWhere, ResultLiteral, ResultApply, PathIndex, EntryIndex, Entry}
 use Rattle.nodes.specs.Nodes.{node, padded}
 use Rattle.plan_form.specs.declared.Form.{Form}
 use Rattle.plan_form.specs.Form.{write-reply}
@@ -22,14 +22,15 @@ unfoldable pub index-of : ℕ → List ℕ → ℕ
 index-of w [] = 0
 index-of w (x ∷ l) = cond (eqb x w) 0 (suc (index-of w l))
 
--- what a node of a query is in the entries of its plan: "0x30 and a chain's index for a chain", "a reduction byte and an expression"; "operators and literals
--- keep their bytes"; a literal or operator of a result term is in none
+-- what a node of a query is in the entries of its plan: "0x30 and a chain's index for a chain", "a reduction byte and an expression", with 128
+-- added where there is a condition (o is one of the five: the remainder keeps the byte below 256); "operators and literals keep their bytes"; a literal or operator of a result term is in none
 unfoldable pub entry-term : List ℕ → Term → Term
 entry-term table Empty = Empty
 entry-term table (Path w) = PathIndex (index-of w table)
 entry-term table (Literal x) = Literal x
 entry-term table (Apply o) = Apply o
 entry-term table (Reduce o) = Entry o
+entry-term table (ReduceWhere o) = Entry (o % 128 + 128)
 entry-term table (ResultLiteral x) = Empty
 entry-term table (ResultApply o) = Empty
 entry-term table (PathIndex i) = Empty
@@ -44,6 +45,7 @@ final-term k (Path w) = Empty
 final-term k (Literal x) = Empty
 final-term k (Apply o) = Empty
 final-term k (Reduce o) = EntryIndex k
+final-term k (ReduceWhere o) = EntryIndex k
 final-term k (ResultLiteral x) = ResultLiteral x
 final-term k (ResultApply o) = ResultApply o
 final-term k (PathIndex i) = Empty
@@ -61,6 +63,7 @@ size (Path w) = 1
 size (Literal x) = 1
 size (Apply o) = 1
 size (Reduce o) = 1
+size (ReduceWhere o) = 1
 size (ResultLiteral x) = 1
 size (ResultApply o) = 1
 size (PathIndex i) = 1
@@ -74,6 +77,7 @@ reduces (Path w) = 0
 reduces (Literal x) = 0
 reduces (Apply o) = 0
 reduces (Reduce o) = 1
+reduces (ReduceWhere o) = 1
 reduces (ResultLiteral x) = 0
 reduces (ResultApply o) = 0
 reduces (PathIndex i) = 0

@@ -45,6 +45,7 @@ fn entry_term_of(t: Term, table: [u64; 8]) -> Term
         Term::Literal(x) => Term::Literal(x),
         Term::Apply(o) => Term::Apply(o),
         Term::Reduce(o) => Term::Entry(o),
+        Term::ReduceWhere(o) => Term::Entry(o % 128 + 128),
         _ => Term::Empty,
     }
 }
@@ -55,6 +56,7 @@ fn final_term_of(t: Term, k: u8) -> Term
 {
     match t {
         Term::Reduce(o) => Term::EntryIndex(k),
+        Term::ReduceWhere(o) => Term::EntryIndex(k),
         Term::ResultLiteral(x) => Term::ResultLiteral(x),
         Term::ResultApply(o) => Term::ResultApply(o),
         _ => Term::Empty,
@@ -87,6 +89,7 @@ fn reduces_of(t: Term) -> u8
 {
     match t {
         Term::Reduce(o) => 1,
+        Term::ReduceWhere(o) => 1,
         _ => 0,
     }
 }

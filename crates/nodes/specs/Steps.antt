@@ -1,7 +1,7 @@
--- Terms read from bytes one after the other, as the program goes. Nothing to believe: `vertex-collected`, `result-collected`, `entry-collected` and
--- `final-collected` (proofs/Exact) say that the terms read from a tree's bytes are the tree's nodes.
+-- Terms read from bytes one after the other, as the program goes. Nothing to believe: `query-collected`, `entry-collected` and `final-collected`
+-- (proofs/Exact) say that the terms read from a tree's bytes are the tree's nodes.
 use Prim.Native.Nat.{ℕ, zero, suc, _+_, min}
-use mathlib.Core.Bool.{cond}
+use mathlib.Core.Bool.{Bool, cond, _||_}
 use mathlib.Core.List.{List, [], _∷_}
 use lib.Dec.{leb, ltb, eqb}
 use lib.ListN.{length, getD}
@@ -9,12 +9,16 @@ use Rattle.path_fields.specs.Paths.{path-word}
 use Rattle.wire.specs.Wire.{at32}
 use Rattle.nodes.specs.declared.Node.{Node}
 use Rattle.nodes.specs.declared.Term.{Term}
-use Rattle.nodes.specs.declared.Term.the-variants.{Empty, Path, Literal, Apply, Reduce, ResultLiteral, ResultApply, PathIndex, EntryIndex, Entry}
+use Rattle.nodes.specs.declared.Term.the-variants.{Empty, Path, Literal, Apply, Reduce, ReduceWhere, ResultLiteral, ResultApply, PathIndex, EntryIndex, Entry}
 use Rattle.nodes.specs.Nodes.{node, padded}
 
+-- the reduction byte of an entry, "1 to 5" or 128 more: no term starts with a byte below 0x10 or from 128 on
+abbrev pub reduction-tag : ℕ → Bool
+reduction-tag tag = ltb tag 0x10 || leb 128 tag
+
 -- the term that starts at index i, by its tag: "0x10, key count 1 to 3, the keys, a 16-bit start .. ; 0x11 and a 32-bit literal; 0x12, operator, ..", "0x20,
--- reduction, a place term; 0x21 and a 32-bit literal; 0x22, operator, ..", "0x30 and a chain's index for a chain, 0x31 and an entry's index for a reduction";
--- "e entries, each a reduction byte and an expression": no term starts with a byte below 0x10; empty for another byte
+-- reduction, a place term; 0x21 and a 32-bit literal; 0x22, operator, ..", 0x23 with a condition, "0x30 and a chain's index for a chain, 0x31 and an entry's
+-- index for a reduction"; "e entries, each a reduction byte and an expression"; empty for another byte
 abbrev pub tagged : ℕ → List ℕ → ℕ → Term
 tagged tag s i =
     cond (eqb tag 0x10) (Path (path-word s (i + 1)))
@@ -23,14 +27,15 @@ tagged tag s i =
     (cond (eqb tag 0x20) (Reduce (getD s (i + 1) 0))
     (cond (eqb tag 0x21) (ResultLiteral (at32 s (i + 1)))
     (cond (eqb tag 0x22) (ResultApply (getD s (i + 1) 0))
+    (cond (eqb tag 0x23) (ReduceWhere (getD s (i + 1) 0))
     (cond (eqb tag 0x30) (PathIndex (getD s (i + 1) 0))
     (cond (eqb tag 0x31) (EntryIndex (getD s (i + 1) 0))
-    (cond (ltb tag 0x10) (Entry tag) Empty))))))))
+    (cond (reduction-tag tag) (Entry tag) Empty)))))))))
 
 -- where the next term starts: a path reduction has four bytes and its keys, a literal five, every other term two, a reduction byte is one
 abbrev pub passed : ℕ → List ℕ → ℕ → ℕ
 passed tag s i =
-    cond (eqb tag 0x10) (i + 4 + getD s (i + 1) 0) (cond (eqb tag 0x11) (i + 5) (cond (eqb tag 0x21) (i + 5) (cond (ltb tag 0x10) (i + 1) (i + 2))))
+    cond (eqb tag 0x10) (i + 4 + getD s (i + 1) 0) (cond (eqb tag 0x11) (i + 5) (cond (eqb tag 0x21) (i + 5) (cond (reduction-tag tag) (i + 1) (i + 2))))
 
 -- the term at index i; none starts past the end
 unfoldable pub term-at : List ℕ → ℕ → Term

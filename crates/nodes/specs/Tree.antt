@@ -3,13 +3,14 @@ use Prim.Native.Nat.{ℕ}
 use mathlib.Core.Bool.{cond}
 use mathlib.Core.List.{List, [], _∷_, _++_}
 use lib.Dec.{eqb}
-use Rattle.meaning.specs.Query.{ResultTerm, Term, VertexTerm, apply, leaf, literal}
+use Rattle.meaning.specs.Plan.{Term, apply, leaf, literal}
+use Rattle.meaning.specs.Query.{Kind, QueryTerm, number, operator, over, over-where, path, vertex}
 use Rattle.terms.specs.declared.TermKind.{TermKind}
-use Rattle.terms.specs.declared.TermKind.the-variants.{OfVertex, OfResult, OfEntry, OfFinal}
+use Rattle.terms.specs.declared.TermKind.the-variants.{OfEntry, OfFinal}
 use Rattle.terms.specs.Terms.{literal-tag}
-use Rattle.term_text.specs.Text.{path-number}
+use Rattle.term_text.specs.Text.{of-kind, path-number}
 use Rattle.nodes.specs.declared.Node.{Node}
-use Rattle.nodes.specs.declared.Term.the-variants.{Path, Literal, Apply, Reduce, ResultLiteral, ResultApply, PathIndex, EntryIndex}
+use Rattle.nodes.specs.declared.Term.the-variants.{Path, Literal, Apply, Reduce, ReduceWhere, ResultLiteral, ResultApply, PathIndex, EntryIndex}
 use Rattle.nodes.specs.Nodes.{node}
 
 -- a literal, of vertex terms and entries (0x11), or of result terms and final expressions (0x21)
@@ -20,24 +21,24 @@ literal-node tag k = node (cond (eqb tag 0x11) (Literal k) (ResultLiteral k))
 unfoldable pub apply-node : ℕ → ℕ → Node
 apply-node tag o = node (cond (eqb tag 0x11) (Apply o) (ResultApply o))
 
--- "operator first", over the nodes of the leaves
-abbrev pub term-nodes : {A : Type 0} → TermKind → (A → List Node) → Term A → List Node
-term-nodes kind N (leaf a) = N a
-term-nodes kind N (literal k) = literal-node (literal-tag kind) k ∷ []
-term-nodes kind N (apply o s t) = apply-node (literal-tag kind) o ∷ (term-nodes kind N s ++ term-nodes kind N t)
+-- "one term written operator first": a query's, a condition before the value
+abbrev pub query-nodes : (κ : Kind) → QueryTerm κ → List Node
+query-nodes κ (path c) = node (Path (path-number c)) ∷ []
+query-nodes κ (over o t) = node (Reduce o) ∷ query-nodes vertex t
+query-nodes κ (over-where o c t) = node (ReduceWhere o) ∷ (query-nodes vertex c ++ query-nodes vertex t)
+query-nodes κ (number x) = literal-node (literal-tag (of-kind κ)) x ∷ []
+query-nodes κ (operator o s t) = apply-node (literal-tag (of-kind κ)) o ∷ (query-nodes κ s ++ query-nodes κ t)
 
--- "Place terms": a leaf is one node
-abbrev pub vertex-nodes : VertexTerm → List Node
-vertex-nodes = term-nodes OfVertex (λ c. node (Path (path-number c)) ∷ [])
-
--- "Result terms": a leaf is a reduction and its vertex term
-abbrev pub result-nodes : ResultTerm → List Node
-result-nodes = term-nodes OfResult (λ e. node (Reduce (e .reduction)) ∷ vertex-nodes (e .body))
+-- and a worksheet's expression, over the node of an index
+abbrev pub expression-nodes : TermKind → (ℕ → Node) → Term ℕ → List Node
+expression-nodes kind N (leaf i) = N i ∷ []
+expression-nodes kind N (literal x) = literal-node (literal-tag kind) x ∷ []
+expression-nodes kind N (apply o s t) = apply-node (literal-tag kind) o ∷ (expression-nodes kind N s ++ expression-nodes kind N t)
 
 -- "Worksheet expressions": an entry's, over the indices of path reductions
 abbrev pub entry-nodes : Term ℕ → List Node
-entry-nodes = term-nodes OfEntry (λ i. node (PathIndex i) ∷ [])
+entry-nodes = expression-nodes OfEntry (λ i. node (PathIndex i))
 
 -- and the final one, over the indices of entries
 abbrev pub final-nodes : Term ℕ → List Node
-final-nodes = term-nodes OfFinal (λ i. node (EntryIndex i) ∷ [])
+final-nodes = expression-nodes OfFinal (λ i. node (EntryIndex i))

@@ -5,7 +5,7 @@ ghost use Prim.Native.Nat.{_+_, _≤_, _<_};
 ghost use lib.ListN.{length, take};
 ghost use mathlib.Core.List.{_∷_};
 ghost use Rattle.wire.specs.Wire.{le32};
-ghost use Rattle.nodes.specs.Steps.{term-at, next-at, nodes-read};
+ghost use Rattle.nodes.specs.Steps.{reduction-tag, term-at, next-at, nodes-read};
 ghost use Rattle.nodes.specs.Text.{key-text, path-text, term-text, nodes-text};
 ghost use Rattle.draft.specs.Steps.{put-list};
 
@@ -16,6 +16,7 @@ pub enum Term {
     Literal(u32),
     Apply(u8),
     Reduce(u8),
+    ReduceWhere(u8),
     ResultLiteral(u32),
     ResultApply(u8),
     PathIndex(u8),
@@ -26,6 +27,16 @@ pub enum Term {
 // A term in a struct: a field of a struct can be an array of structs, and none of enums.
 pub struct Node {
     pub term: Term,
+}
+
+// Is it the reduction byte of an entry? No term starts with a byte below 0x10 or from 128 on.
+fn reduction_byte(tag: u8) -> bool
+    ensures { λ r. ⌜ r ≡ reduction-tag tag ⌝ }
+{
+    if tag < 0x10 {
+        return true;
+    }
+    128 <= tag
 }
 
 // The term that starts at i, by its tag.
@@ -54,13 +65,16 @@ fn term_of(s: &[u8], i: usize) -> Term
     if tag == 0x22 {
         return Term::ResultApply(wire::byte(s, i + 1));
     }
+    if tag == 0x23 {
+        return Term::ReduceWhere(wire::byte(s, i + 1));
+    }
     if tag == 0x30 {
         return Term::PathIndex(wire::byte(s, i + 1));
     }
     if tag == 0x31 {
         return Term::EntryIndex(wire::byte(s, i + 1));
     }
-    if tag < 0x10 {
+    if reduction_byte(tag) {
         return Term::Entry(tag);
     }
     Term::Empty
@@ -83,7 +97,7 @@ fn next_of(s: &[u8], i: usize) -> usize
     if tag == 0x21 {
         return i + 5;
     }
-    if tag < 0x10 {
+    if reduction_byte(tag) {
         return i + 1;
     }
     i + 2
@@ -144,6 +158,7 @@ fn put_term(d: Draft, t: Term) -> Draft
         Term::Literal(x) => put_literal(d, 0x11, x),
         Term::Apply(o) => draft::put_two(d, 0x12, o),
         Term::Reduce(o) => draft::put_two(d, 0x20, o),
+        Term::ReduceWhere(o) => draft::put_two(d, 0x23, o),
         Term::ResultLiteral(x) => put_literal(d, 0x21, x),
         Term::ResultApply(o) => draft::put_two(d, 0x22, o),
         Term::PathIndex(i) => draft::put_two(d, 0x30, i),

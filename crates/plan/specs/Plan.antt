@@ -1,5 +1,5 @@
 -- How the bytes of a plan (document 01: worksheet `LPW`) are read, left to right.
-use Prim.Native.Nat.{ℕ, zero, suc, _+_}
+use Prim.Native.Nat.{ℕ, zero, suc, _+_, _%_}
 use mathlib.Core.Bool.{cond}
 use mathlib.Core.List.{List}
 use lib.Dec.{leb, ltb, eqb}
@@ -55,21 +55,26 @@ unfoldable pub listed-scan : ℕ → List ℕ → Progress → Progress
 listed-scan zero s w = w
 listed-scan (suc k) s w = cond (eqb (w .code) 0) (listed-scan k s (listed-step s w)) w
 
--- "Kind 0 has .. reduction byte 0; kind 1 has .. reduction bytes 1 to 5"
+-- "Kind 0 has .. reduction byte 0; kind 1 has .. reduction bytes 1 to 5"; with a condition "the entry's reduction byte has 128 added"
 abbrev pub reduction-code : ℕ → ℕ → ℕ
-reduction-code kind b = cond (eqb kind 0) (filler-code b) (code-of b 5)
+reduction-code kind b = cond (eqb kind 0) (filler-code b) (cond (ltb 255 b) 1 (code-of (b % 128) 5))
 
 -- the same state further on, with so many entries met
 unfoldable pub moved : Progress → ℕ → ℕ → Progress
 moved w at reductions = record { code = w .code; at = at; terms = w .terms; paths = w .paths; reductions = reductions; table = w .table }
 
+-- the expressions behind the reduction byte b: "the condition's expression precedes the value's"
+unfoldable pub expressions-scan : ℕ → List ℕ → Progress → Progress
+expressions-scan b s w = read OfEntry 16 s (cond (leb 128 b) (read OfEntry 16 s w) w)
+
 -- "e entries, each a reduction byte and an expression": one more is met; this 14 is never given, as e was judged
 unfoldable pub entry-scan : ℕ → List ℕ → Progress → Progress
 entry-scan kind s w =
-    let c = reduction-code kind (getD s (w .at) 256) in
+    let b = getD s (w .at) 256 in
+    let c = reduction-code kind b in
     cond (leb (length s) (w .at)) (blank 1)
     (cond (eqb c 0)
-    (cond (leb 8 (w .reductions)) (blank 14) (read OfEntry 16 s (moved w (w .at + 1) (w .reductions + 1))))
+    (cond (leb 8 (w .reductions)) (blank 14) (expressions-scan b s (moved w (w .at + 1) (w .reductions + 1))))
     (blank c))
 
 -- k of them; a refusal is handed on

@@ -1,9 +1,10 @@
 -- THE BYTES OF A PLAN (document 01, "Layouts": worksheet `LPW`).
-use Prim.Native.Nat.{ℕ}
+use Prim.Native.Nat.{ℕ, _+_}
 use mathlib.Core.List.{List, [], _∷_, _++_}
+use mathlib.Core.Option.{Option, none, some}
 use lib.ListN.{length, getD}
-use Rattle.meaning.specs.Plan.{Body, Plan, each-vertex, one-result}
-use Rattle.meaning.specs.Query.{PathReduction, VertexReduction}
+use Rattle.meaning.specs.Plan.{Body, Plan, Term, VertexReduction, each-vertex, one-result}
+use Rattle.meaning.specs.Query.{PathReduction}
 use Rattle.terms.specs.declared.TermKind.the-variants.{OfEntry, OfFinal}
 use Rattle.term_text.specs.Text.{expression-bytes}
 use Rattle.wire.specs.Header.{header-bytes}
@@ -18,10 +19,22 @@ abbrev pub all-listed-bytes : List PathReduction → List ℕ
 all-listed-bytes [] = []
 all-listed-bytes (c ∷ cs) = listed-bytes c ++ all-listed-bytes cs
 
+-- "the entry's reduction byte has 128 added and the condition's expression precedes the value's"
+abbrev pub reduction-byte : ℕ → Option (Term ℕ) → ℕ
+reduction-byte r none = r
+reduction-byte r (some c) = 128 + r
+
+abbrev pub condition-bytes : Option (Term ℕ) → List ℕ
+condition-bytes none = []
+condition-bytes (some c) = expression-bytes OfEntry c
+
 -- "e entries, each a reduction byte and an expression"
+abbrev pub entry-bytes : VertexReduction ℕ → List ℕ
+entry-bytes e = reduction-byte (e .reduction) (e .condition) ∷ (condition-bytes (e .condition) ++ expression-bytes OfEntry (e .body))
+
 abbrev pub entries-bytes : List (VertexReduction ℕ) → List ℕ
 entries-bytes [] = []
-entries-bytes (e ∷ es) = e .reduction ∷ (expression-bytes OfEntry (e .body) ++ entries-bytes es)
+entries-bytes (e ∷ es) = entry-bytes e ++ entries-bytes es
 
 -- "Kind 0 has e = 1 and reduction byte 0"; "for kind 1 a final expression"
 abbrev pub body-bytes : Body → List ℕ

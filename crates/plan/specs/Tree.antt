@@ -1,11 +1,12 @@
 -- THE PLAN THAT ACCEPTED BYTES WRITE: of every legal plan's encoding it is the plan (`plan-back`, proofs/Tree).
-use Prim.Native.Nat.{ℕ, _+_}
+use Prim.Native.Nat.{ℕ, _+_, _-_}
 use mathlib.Core.Bool.{true, false}
 use mathlib.Core.List.{List}
-use lib.Dec.{eqb}
+use mathlib.Core.Option.{none, some}
+use lib.Dec.{leb, eqb}
 use lib.ListN.{getD, take, drop}
-use Rattle.meaning.specs.Plan.{Body, Plan, each-vertex, one-result}
-use Rattle.meaning.specs.Query.{PathReduction, VertexReduction}
+use Rattle.meaning.specs.Plan.{Body, Plan, VertexReduction, each-vertex, one-result}
+use Rattle.meaning.specs.Query.{PathReduction}
 use Rattle.term_text.specs.Tree.{Reader, expression-of, several-of}
 use Rattle.wire.specs.Wire.{at16}
 
@@ -13,9 +14,16 @@ use Rattle.wire.specs.Wire.{at16}
 unfoldable pub listed-path : Reader PathReduction
 listed-path s i = record { tree = record { keys = take (getD s i 0) (drop (i + 1) s); source = at16 s (i + 4) }; end = i + 6 }
 
--- "a reduction byte and an expression"
+-- "a reduction byte and an expression"; with 128 added "the condition's expression precedes the value's"
 unfoldable pub entry-of : Reader (VertexReduction ℕ)
-entry-of s i = let t = expression-of 0x11 s (i + 1) in record { tree = record { reduction = getD s i 0; body = t .tree }; end = t .end }
+entry-of s i =
+    let t = expression-of 0x11 s (i + 1) in
+    elim (leb 128 (getD s i 0)) [
+      | true ↦
+          let u = expression-of 0x11 s (t .end) in
+          record { tree = record { reduction = getD s i 0 - 128; condition = some (t .tree); body = u .tree }; end = u .end }
+      | false ↦ record { tree = record { reduction = getD s i 0; condition = none; body = t .tree }; end = t .end }
+    ]
 
 -- "entry count e; e entries ..; for kind 1 a final expression"; "Kind 0 has e = 1 and reduction byte 0"
 unfoldable pub body-of : (kind : ℕ) → List ℕ → ℕ → Body

@@ -5,7 +5,7 @@ ghost use mathlib.Core.Path.{_≡_};
 ghost use Prim.Native.Nat.{_+_, _≤_, _<_};
 ghost use lib.ListN.{length};
 ghost use Rattle.plan.specs.Plan.{filler-code, slot-code, listed-code, listed-word, listed-step, listed-scan};
-ghost use Rattle.plan.specs.Plan.{reduction-code, entry-scan, entries-scan, count-code, final-scan, body-scan, plan-scan, plan-code};
+ghost use Rattle.plan.specs.Plan.{reduction-code, expressions-scan, entry-scan, entries-scan, count-code, final-scan, body-scan, plan-scan, plan-code};
 
 // An unused key byte: 1 missing, 9 other than 0.
 fn filler_code_of(b: u16) -> u8
@@ -113,17 +113,31 @@ fn listed(s: &[u8], w: Progress, k: usize) -> Progress
     state
 }
 
-// An entry's reduction byte: 0 for kind 0, one of the five for kind 1.
+// An entry's reduction byte: 0 for kind 0; for kind 1 one of the five, 128 added where a condition follows.
 fn reduction_code_of(kind: u16, b: u16) -> u8
     ensures { λ r. ⌜ r ≡ reduction-code kind b ⌝ }
 {
     if kind == 0 {
         return filler_code_of(b);
     }
-    fields::code_of(b, 5)
+    if 255 < b {
+        return 1;
+    }
+    fields::code_of(b % 128, 5)
 }
 
-// An entry: its reduction byte and its expression. One more is met.
+// The expressions behind the reduction byte b: the condition's, where there is one, then the value's. A refusal is handed on.
+fn expressions(s: &[u8], w: Progress, b: u16) -> Progress
+    ensures { λ r. ⌜ r ≡ expressions-scan b (now (s .entry)) w ⌝ }
+{
+    if b < 128 {
+        return terms::read_term(s, w, TermKind::OfEntry, 16);
+    }
+    let condition = terms::read_term(s, w, TermKind::OfEntry, 16);
+    terms::read_term(s, condition, TermKind::OfEntry, 16)
+}
+
+// An entry: its reduction byte and its expressions. One more is met.
 fn entry(s: &[u8], w: Progress, kind: u16) -> Progress
     ensures { λ r. ⌜ r ≡ entry-scan kind (now (s .entry)) w ⌝ }
 {
@@ -131,7 +145,8 @@ fn entry(s: &[u8], w: Progress, kind: u16) -> Progress
     if s.len() <= at {
         return progress::blank_of(1);
     }
-    let c = reduction_code_of(kind, fields::byte(s, at));
+    let b = fields::byte(s, at);
+    let c = reduction_code_of(kind, b);
     if c != 0 {
         return progress::blank_of(c);
     }
@@ -142,7 +157,7 @@ fn entry(s: &[u8], w: Progress, kind: u16) -> Progress
     let mut next = w;
     next.at = at + 1;
     next.reductions = met + 1;
-    terms::read_term(s, next, TermKind::OfEntry, 16)
+    expressions(s, next, b)
 }
 
 // The entries, k of them. A refusal is handed on.

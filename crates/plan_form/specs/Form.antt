@@ -2,11 +2,11 @@
 use Prim.Native.Nat.{ℕ, _+_, _/_}
 use mathlib.Core.Bool.{cond}
 use mathlib.Core.List.{List, [], _∷_, _++_, map}
+use mathlib.Core.Option.{Option, none, some}
 use lib.Dec.{eqb}
 use lib.ListN.{length, drop, take, replicate}
 use Rattle.meaning.specs.Limits.{plan-terms}
-use Rattle.meaning.specs.Plan.{Body, Plan, each-vertex, one-result}
-use Rattle.meaning.specs.Query.{VertexReduction}
+use Rattle.meaning.specs.Plan.{Body, Plan, Term, VertexReduction, each-vertex, one-result}
 use Rattle.nodes.specs.declared.Node.{Node}
 use Rattle.nodes.specs.declared.Term.the-variants.{Empty, Entry}
 use Rattle.draft.specs.Texts.{texts}
@@ -14,7 +14,7 @@ use Rattle.nodes.specs.Text.{nodes-text}
 use Rattle.nodes.specs.Nodes.{node, padded}
 use Rattle.nodes.specs.Tree.{entry-nodes, final-nodes}
 use Rattle.plan.specs.Plan.{plan-code, plan-scan}
-use Rattle.plan.specs.Text.{entry-count, kind-of}
+use Rattle.plan.specs.Text.{entry-count, kind-of, reduction-byte}
 use Rattle.plan.specs.Tree.{plan-of}
 use Rattle.term_text.specs.Text.{path-number}
 use Rattle.wire.specs.Header.{header-bytes}
@@ -22,10 +22,15 @@ use Rattle.wire.specs.Wire.{Reply, fitted, le16, unless}
 use Rattle.plan_form.specs.declared.Form.{Form}
 use Rattle.plan_form.specs.declared.Reading.{Reading}
 
--- the nodes of entries: "e entries, each a reduction byte and an expression"
+-- the nodes of entries: "e entries, each a reduction byte and an expression"; "the condition's expression precedes the value's"
+abbrev pub condition-nodes : Option (Term ℕ) → List Node
+condition-nodes none = []
+condition-nodes (some c) = entry-nodes c
+
 abbrev pub entries-nodes : List (VertexReduction ℕ) → List Node
 entries-nodes [] = []
-entries-nodes (e ∷ es) = node (Entry (e .reduction)) ∷ (entry-nodes (e .body) ++ entries-nodes es)
+entries-nodes (e ∷ es) =
+    node (Entry (reduction-byte (e .reduction) (e .condition))) ∷ (condition-nodes (e .condition) ++ (entry-nodes (e .body) ++ entries-nodes es))
 
 -- and of a plan: "for kind 1 a final expression"; "Kind 0 has e = 1 and reduction byte 0"
 abbrev pub body-nodes : Body → List Node

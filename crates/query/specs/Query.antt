@@ -4,20 +4,20 @@ use mathlib.Core.Bool.{cond}
 use mathlib.Core.List.{List, _∷_, _++_}
 use lib.Dec.{eqb}
 use lib.ListN.{getD}
-use Rattle.meaning.specs.Query.{Query, each, single}
+use Rattle.meaning.specs.Query.{Query, each, result, single, vertex}
 use Rattle.fields.specs.Fields.{opening-code}
 use Rattle.progress.specs.declared.Progress.{Progress}
 use Rattle.terms.specs.declared.TermKind.{TermKind}
 use Rattle.terms.specs.declared.TermKind.the-variants.{OfVertex, OfResult}
 use Rattle.terms.specs.Terms.{read}
 use Rattle.progress.specs.Progress.{blank, ended, started}
-use Rattle.term_text.specs.Text.{result-bytes, vertex-bytes}
+use Rattle.term_text.specs.Text.{query-bytes}
 use Rattle.wire.specs.Header.{header-bytes}
 
 -- "a kind byte, 0 for a value at each place, 1 for one result, then one term written operator first"
 abbrev pub body-bytes : Query → List ℕ
-body-bytes (each t) = 0 ∷ vertex-bytes t
-body-bytes (single t) = 1 ∷ result-bytes t
+body-bytes (each t) = 0 ∷ query-bytes vertex t
+body-bytes (single t) = 1 ∷ query-bytes result t
 
 -- with the header of an `LPQ` file
 abbrev pub encode : Query → List ℕ

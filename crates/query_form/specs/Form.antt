@@ -5,11 +5,11 @@ use mathlib.Core.List.{List, _∷_, _++_}
 use lib.Dec.{eqb}
 use lib.ListN.{take, replicate}
 use Rattle.meaning.specs.Limits.{query-terms}
-use Rattle.meaning.specs.Query.{Query, each, single}
+use Rattle.meaning.specs.Query.{Query, each, result, single, vertex}
 use Rattle.nodes.specs.declared.Term.the-variants.{Empty}
 use Rattle.nodes.specs.Text.{nodes-text}
 use Rattle.nodes.specs.Nodes.{node, padded}
-use Rattle.nodes.specs.Tree.{result-nodes, vertex-nodes}
+use Rattle.nodes.specs.Tree.{query-nodes}
 use Rattle.query.specs.Query.{query-code, query-scan}
 use Rattle.query.specs.Tree.{query-of}
 use Rattle.wire.specs.Header.{header-bytes}
@@ -19,8 +19,8 @@ use Rattle.query_form.specs.declared.Reading.{Reading}
 
 -- the typed form of a query: "a kind byte, 0 for a value at each place, 1 for one result, then one term written operator first"
 unfoldable pub form-of : Query → Form
-form-of (each t) = record { kind = 0; count = query-terms (each t); nodes = padded (vertex-nodes t) }
-form-of (single t) = record { kind = 1; count = query-terms (single t); nodes = padded (result-nodes t) }
+form-of (each t) = record { kind = 0; count = query-terms (each t); nodes = padded (query-nodes vertex t) }
+form-of (single t) = record { kind = 1; count = query-terms (single t); nodes = padded (query-nodes result t) }
 
 -- the bytes of a typed form, legal or not
 unfoldable pub form-bytes : Form → List ℕ

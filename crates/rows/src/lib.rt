@@ -4,7 +4,7 @@ use value::Row;
 use value::Value;
 ghost use mathlib.Core.Path.{_≡_};
 ghost use mathlib.Core.List.{_∷_, []};
-ghost use Prim.Native.Nat.{_+_, _≤_, min};
+ghost use Prim.Native.Nat.{_+_, _%_, _≤_, min};
 ghost use lib.ListN.{length, getD};
 ghost use Rattle.value.specs.Value.{reduce, values};
 ghost use Rattle.eval.specs.Steps.{body-found, count-at, eight, entries-end, entry-rows, final-found, results, row};
@@ -78,7 +78,7 @@ fn values_at(figures: &[u32], paths: usize, v: usize) -> [Row; 8]
     rows
 }
 
-// The expression at `at`, at each of the n vertices.
+// The entry at `at`, at each of the n vertices.
 fn entry_rows(plan: &[u8], at: usize, figures: &[u32], paths: usize, n: usize) -> [Row; 256]
     requires { ⌜ n ≤ 256 ⌝ }
     ensures { λ r. ⌜ r ≡ many (entry-rows (now (plan .entry)) at (rows-at (now (figures .entry)) paths) n) ⌝ }
@@ -89,7 +89,7 @@ fn entry_rows(plan: &[u8], at: usize, figures: &[u32], paths: usize, n: usize) -
     let mut rows = [absent; 256];
     let mut v: usize = 0;
     while v < n {
-        let found = eval::evaluate(plan, values_at(figures, paths, v), at, 16);
+        let found = eval::entry(plan, values_at(figures, paths, v), at);
         let value = found.value;
         rows[v] = Row { value };
         v += 1;
@@ -99,17 +99,17 @@ fn entry_rows(plan: &[u8], at: usize, figures: &[u32], paths: usize, n: usize) -
 
 // The result of the entry whose reduction byte stands at `at`.
 fn result_of(plan: &[u8], at: usize, figures: &[u32], paths: usize, n: usize) -> Value
-    requires { ⌜ (n ≤ 256) × (at ≤ length (now plan) + 4096) ⌝ }
-    ensures { λ r. ⌜ r ≡ reduce (getD (now (plan .entry)) at 0)
-        (values (entry-rows (now (plan .entry)) (at + 1) (rows-at (now (figures .entry)) paths) n)) ⌝ }
+    requires { ⌜ n ≤ 256 ⌝ }
+    ensures { λ r. ⌜ r ≡ reduce (getD (now (plan .entry)) at 0 % 128)
+        (values (entry-rows (now (plan .entry)) at (rows-at (now (figures .entry)) paths) n)) ⌝ }
 {
-    let rows = entry_rows(plan, at + 1, figures, paths, n);
-    value::reduce_rows(wire::byte(plan, at), rows, n)
+    let rows = entry_rows(plan, at, figures, paths, n);
+    value::reduce_rows(wire::byte(plan, at) % 128, rows, n)
 }
 
 // The results of the e entries from `at` on.
 fn results_of(plan: &[u8], at: usize, figures: &[u32], paths: usize, n: usize, e: usize) -> Results
-    requires { ⌜ (n ≤ 256) × (at ≤ 2048) × (e ≤ 8) ⌝ }
+    requires { ⌜ (n ≤ 256) × (e ≤ 8) ⌝ }
     ensures { λ r. ⌜ (r .rows ≡ eight (results e (now (plan .entry)) at (rows-at (now (figures .entry)) paths) n))
         × (r .end ≡ entries-end e (now (plan .entry)) at) ⌝ }
 {
@@ -124,7 +124,7 @@ fn results_of(plan: &[u8], at: usize, figures: &[u32], paths: usize, n: usize, e
             value: result_of(plan, next, figures, paths, n),
         };
         rows[k] = one;
-        next = eval::expression_end(plan, next + 1);
+        next = eval::entry_end(plan, next);
         k += 1;
     }
     Results { rows, end: next }
@@ -132,7 +132,7 @@ fn results_of(plan: &[u8], at: usize, figures: &[u32], paths: usize, n: usize, e
 
 // The final expression over the results of the e entries from `at` on.
 fn final_of(plan: &[u8], at: usize, figures: &[u32], paths: usize, n: usize, e: usize) -> Value
-    requires { ⌜ (n ≤ 256) × (at ≤ 2048) × (e ≤ 8) ⌝ }
+    requires { ⌜ (n ≤ 256) × (e ≤ 8) ⌝ }
     ensures { λ r. ⌜ r ≡ final-found e (now (plan .entry)) at (rows-at (now (figures .entry)) paths) n ⌝ }
 {
     let entries = results_of(plan, at, figures, paths, n, e);
@@ -160,7 +160,7 @@ pub fn body_rows(plan: &[u8], figures: &[u32], paths: usize, n: usize) -> [Row; 
     let count = wire::lesser(n, 256);
     let at = count_at(plan);
     if wire::byte(plan, 5) == 0 {
-        return entry_rows(plan, at + 2, figures, paths, count);
+        return entry_rows(plan, at + 1, figures, paths, count);
     }
     let e = wire::lesser(wide(wire::byte(plan, at)), 8);
     single(final_of(plan, at + 1, figures, paths, count, e))

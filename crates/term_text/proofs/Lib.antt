@@ -4,5 +4,4 @@ pub mod Steps
 pub mod Shape
 pub mod Exact
 pub mod Ends
-pub mod Unique
 pub mod Tree

@@ -12,9 +12,8 @@ use Rattle.meaning.specs.Query.{PathReduction}
 use Rattle.wire.specs.Wire.{le32}
 use Rattle.terms.specs.declared.Step.{Step}
 use Rattle.terms.specs.declared.TermKind.{TermKind}
-use Rattle.terms.specs.declared.TermKind.the-variants.{OfVertex}
 use Rattle.progress.specs.declared.Progress.{Progress}
-use Rattle.terms.specs.Terms.{advanced, apply-step, leaf-step, leaf-tag, literal-step, literal-tag, read, refused-step, term-step}
+use Rattle.terms.specs.Terms.{advanced, apply-step, leaf-step, literal-step, literal-tag, read, refused-step, term-step}
 use Rattle.progress.specs.Progress.{blank}
 use Rattle.terms.proofs.Laws.{accepted-as, read-next}
 use Rattle.term_text.proofs.Paths.{digits, nth, two-bytes}
@@ -42,9 +41,7 @@ table-advanced w cs n t =
 module _ (s : List ℕ) (m : TermKind) where
   -- what the tag of a term says
   abbrev tagged : ℕ → Progress → Step
-  tagged tag w =
-      cond (eqb tag (leaf-tag m)) (leaf-step m s w)
-      (cond (eqb tag (literal-tag m)) (literal-step s w) (cond (eqb tag (literal-tag m + 1)) (apply-step s w) (refused-step 9)))
+  tagged tag w = cond (eqb tag (literal-tag m)) (literal-step s w) (cond (eqb tag (literal-tag m + 1)) (apply-step m s w) (leaf-step m tag s w))
 
   -- a step within the limits goes by the tag; and a term is read by its step
   pub step-is : (d : ℕ) (w : Progress) → w .at < length s → w .terms < 64 → term-step m (suc d) s w ≡ tagged (getD s (w .at) 0) w
@@ -53,7 +50,7 @@ module _ (s : List ℕ) (m : TermKind) where
 
   pub read-by : (d : ℕ) (w : Progress) → w .code ≡ 0 → (h : Step) → term-step m (suc d) s w ≡ h
       → read m (suc d) s w ≡ cond (eqb (h .follow) 0) (h .progress)
-      (cond (eqb (h .follow) 1) (read OfVertex d s (h .progress)) (read m d s (read m d s (h .progress))))
+      (cond (eqb (h .follow) 1) (read (h .inner) d s (h .progress)) (read (h .inner) d s (read (h .inner) d s (h .progress))))
   read-by d w z h e =
       let p : suc d - 1 ≡ d = omega arith in
       rw (read-next m (suc d) s w (λ n. omega arith), eq-eqb (w .code) 0 z, e, p) refl

@@ -1,4 +1,4 @@
--- THE BYTES OF A LEGAL TERM GIVE BACK THE TERM AND WHERE IT ENDS, over any kind of leaf of which both hold (`term-back`). Assumes nothing.
+-- THE BYTES OF A LEGAL TERM GIVE BACK THE TERM AND WHERE IT ENDS: a query's (`query-back`), a plan's expression (`expression-back`). Assumes nothing.
 use Prim.Native.Nat.{ℕ, zero, suc, _+_, _^_, _≤_, _<_}
 use mathlib.Core.Path.{_≡_, refl, ap, _∙_}
 use mathlib.Core.Bool.{Bool, true, false, cond}
@@ -8,13 +8,28 @@ use borrow.Author.Tests.{eq-eqb, ne-eqb}
 use lib.Dec.{eqb}
 use lib.ListN.{length, getD, drop, length-append}
 use lib.Seq.{take-at}
-use Rattle.meaning.specs.Limits.{Every, EveryBody, PathFits, depth, unit}
-use Rattle.meaning.specs.Query.{PathReduction, ResultTerm, Term, VertexReduction, VertexTerm, apply, leaf, literal}
+use Rattle.meaning.specs.Limits.{Every, PathFits, TermFits, depth, depth-of, unit}
+use Rattle.meaning.specs.Plan.{Term, apply, leaf, literal}
+use Rattle.meaning.specs.Query.{Kind, PathReduction, QueryTerm, VertexTerm, number, operator, over, over-where, path, result, vertex}
+use Rattle.terms.specs.declared.TermKind.{TermKind}
 use Rattle.terms.specs.Terms.{literal-tag}
 use Rattle.walks.specs.Lists.{All}
 use Rattle.wire.specs.Wire.{at16, at32, le16, le32}
-use Rattle.term_text.specs.Text.{path-bytes, result-bytes, vertex-bytes}
-use Rattle.term_text.specs.Tree.{Read, Reader, expression-of, written-index, written-path, reduction-of, result-of, several-of, term-of, vertex-of}
+use Rattle.term_text.specs.Text.{expression-bytes, index-tag, of-kind, path-bytes, query-bytes}
+use Rattle.term_text.specs.Tree.{
+  Read,
+  Reader,
+  by-tag,
+  expression-of,
+  expression-to,
+  one-of,
+  query-term-of,
+  several-of,
+  two-of,
+  written-index,
+  written-path,
+  written-reduction,
+}
 use Rattle.term_text.proofs.Paths.{nth, source-small}
 use Rattle.term_text.proofs.Steps.{drop-on, tag-there}
 
@@ -32,79 +47,58 @@ literal-behind s i x k l h e =
 abbrev pub whole : {A : Type 0} → A → ℕ → Read A
 whole a n = record { tree = a; end = n }
 
--- where the bytes of a thing stand, the reader gives it back
+-- where a text stands, the reader gives the thing; where the bytes of a thing stand, it gives it back
+abbrev Gives : {A : Type 0} → Reader A → List ℕ → List ℕ → A → Type 0
+Gives read s l a = (at : ℕ) (rest : List ℕ) → drop at s ≡ l ++ rest → read s at ≡ whole a (at + length l)
+
 abbrev pub Back : {A : Type 0} → Reader A → (A → List ℕ) → List ℕ → A → Type 0
-Back read text s a = (at : ℕ) (rest : List ℕ) → drop at s ≡ text a ++ rest → read s at ≡ whole a (at + length (text a))
+Back read text s a = Gives read s (text a) a
+
+-- two bytes, and one thing or two
+module _ {A B : Type 0} (read : Reader A) (s : List ℕ) (first o : ℕ) (l : List ℕ) (t : A) (gives : Gives read s l t) where
+  one-back : (make : ℕ → A → B) → Gives (one-of make read) s (first ∷ o ∷ l) (make o t)
+  one-back make at rest e =
+      let end : at + 2 + length l ≡ at + suc (suc (length l)) = omega arith in
+      rw (byte-behind s at first o (l ++ rest) e, gives (at + 2) rest (drop-on s at 2 (first ∷ o ∷ []) (l ++ rest) e refl), end) refl
+
+  two-back : (make : ℕ → A → A → B) (m : List ℕ) (u : A) → Gives read s m u → Gives (two-of make read) s (first ∷ o ∷ (l ++ m)) (make o t u)
+  two-back make m u second at rest e =
+      let d1 = drop-on s at 2 (first ∷ o ∷ []) ((l ++ m) ++ rest) e refl ∙ append-assoc l m rest in
+      let d2 = drop-on s (at + 2) (length l) l (m ++ rest) d1 refl in
+      let end : at + 2 + length l + length m ≡ at + suc (suc (length (l ++ m))) = omega (arith, length-append l m) in
+      rw (byte-behind s at first o ((l ++ m) ++ rest) e, gives (at + 2) (m ++ rest) d1, second (at + 2 + length l) rest d2, end) refl
 
 -- a term is read by its first byte
-module _ {A : Type 0} (leaf-of : Reader A) (tag d : ℕ) (s : List ℕ) (i : ℕ) where
-  abbrev literal-read : Read (Term A)
-  literal-read = whole (literal (at32 s (i + 1))) (i + 5)
-
-  abbrev apply-read : Read (Term A)
-  apply-read =
-      let t = term-of leaf-of tag d s (i + 2) in
-      let u = term-of leaf-of tag d s (t .end) in
-      whole (apply (getD s (i + 1) 0) (t .tree) (u .tree)) (u .end)
-
-  abbrev leaf-read : Read (Term A)
-  leaf-read = let a = leaf-of s i in whole (leaf (a .tree)) (a .end)
-
-  by-byte : term-of leaf-of tag (suc d) s i ≡ cond (eqb (getD s i 0) tag) literal-read (cond (eqb (getD s i 0) (tag + 1)) apply-read leaf-read)
-  unfolding term-of
-  by-byte = go (eqb (getD s i 0) tag) (eqb (getD s i 0) (tag + 1))
+module _ {A : Type 0} (make : ℕ → A) (join : ℕ → A → A → A) (tag : ℕ) (read other : Reader A) (s : List ℕ) where
+  by-byte : (i : ℕ)
+      → by-tag make join tag read other s i
+      ≡ cond (eqb (getD s i 0) tag) (whole (make (at32 s (i + 1))) (i + 5)) (cond (eqb (getD s i 0) (tag + 1)) (two-of join read s i) (other s i))
+  by-byte i = go (eqb (getD s i 0) tag) (eqb (getD s i 0) (tag + 1))
     where
       go : (a b : Bool)
-          → elim a [ true ↦ literal-read | false ↦ elim b [ true ↦ apply-read | false ↦ leaf-read ] ]
-          ≡ cond a literal-read (cond b apply-read leaf-read)
+          → elim a [ true ↦ whole (make (at32 s (i + 1))) (i + 5) | false ↦ elim b [ true ↦ two-of join read s i | false ↦ other s i ] ]
+          ≡ cond a (whole (make (at32 s (i + 1))) (i + 5)) (cond b (two-of join read s i) (other s i))
       go true b = refl
       go false true = refl
       go false false = refl
 
--- a kind of leaf: its reader and bytes, how deep it is and what is legal; the terms over it are written by `text`, their literals behind the byte `tag`
-module _ {A : Type 0} (leaf-of : Reader A) (L : A → List ℕ) (deep : A → ℕ) (fine : A → Type 0) (tag : ℕ) (text : Term A → List ℕ)
-    (leaf-text : (a : A) → text (leaf a) ≡ L a) (literal-text : (k : ℕ) → text (literal k) ≡ tag ∷ le32 k)
-    (apply-text : (o : ℕ) (t u : Term A) → text (apply o t u) ≡ (tag + 1) ∷ o ∷ (text t ++ text u))
-    (first : ℕ) (tail : A → List ℕ) (tagged : (a : A) → L a ≡ first ∷ tail a) (no-literal : eqb first tag ≡ false)
-    (no-apply : eqb first (tag + 1) ≡ false)
-    (some-depth : (a : A) → 1 ≤ deep a) (s : List ℕ) (leaf-back : (a : A) → fine a → deep a ≤ 16 → Back leaf-of L s a) where
-  -- THE TERM, AND WHERE IT ENDS
-  pub term-back : (t : Term A) → Every fine t → (d : ℕ) → depth deep t ≤ d → d ≤ 16 → Back (term-of leaf-of tag d) text s t
-  term-back t f zero h k at rest e = absurd (deep-term t h)
-    where
-      deep-term : (t : Term A) → depth deep t ≤ 0 → ⊥
-      deep-term (leaf a) h = omega (arith, some-depth a)
-      deep-term (literal k) h = omega arith
-      deep-term (apply o t u) h = omega arith
-  term-back (leaf a) f (suc d) h k at rest e =
-      let e1 : drop at s ≡ L a ++ rest = e ∙ ap (λ (l : List ℕ). l ++ rest) (leaf-text a) in
-      let e2 : drop at s ≡ first ∷ (tail a ++ rest) = e1 ∙ ap (λ (l : List ℕ). l ++ rest) (tagged a) in
-      rw (by-byte leaf-of tag d s at, tag-there s at first (tail a ++ rest) e2, no-literal, no-apply, leaf-back a f (omega arith) at rest e1, leaf-text a) refl
-  term-back (literal x) f (suc d) h k at rest e =
-      let e1 : drop at s ≡ tag ∷ (le32 x ++ rest) = e ∙ ap (λ (l : List ℕ). l ++ rest) (literal-text x) in
-      rw (by-byte leaf-of tag d s at, tag-there s at tag (le32 x ++ rest) e1, eq-eqb tag tag refl, literal-behind s at tag x rest f e1, literal-text x) refl
-  term-back (apply o t u) f (suc d) h k at rest e =
-      let e1 : drop at s ≡ (tag + 1) ∷ o ∷ ((text t ++ text u) ++ rest) = e ∙ ap (λ (l : List ℕ). l ++ rest) (apply-text o t u) in
-      let d1 : drop (at + 2) s ≡ text t ++ (text u ++ rest) =
-      drop-on s at 2 ((tag + 1) ∷ o ∷ []) ((text t ++ text u) ++ rest) e1 refl ∙ append-assoc (text t) (text u) rest in
-      let d2 = drop-on s (at + 2) (length (text t)) (text t) (text u ++ rest) d1 refl in
-      let a = term-back t (f .2) d (omega arith) (omega arith) (at + 2) (text u ++ rest) d1 in
-      let b = term-back u (f .3) d (omega arith) (omega arith) (at + 2 + length (text t)) rest d2 in
-      let end : at + 2 + length (text t) + length (text u) ≡ at + suc (suc (length (text t ++ text u))) = omega (arith, length-append (text t) (text u)) in
-      rw (
-        by-byte leaf-of tag d s at,
-        tag-there s at (tag + 1) (o ∷ ((text t ++ text u) ++ rest)) e1,
-        ne-eqb (tag + 1) tag (λ z. omega arith),
-        eq-eqb (tag + 1) (tag + 1) refl,
-        byte-behind s at (tag + 1) o ((text t ++ text u) ++ rest) e1,
-        a,
-        b,
-        end,
-        apply-text o t u,
-      ) refl
+  literal-back : (x : ℕ) → x < 2 ^ 32 → Gives (by-tag make join tag read other) s (tag ∷ le32 x) (make x)
+  literal-back x h at rest e =
+      by-byte at ∙ rw (tag-there s at tag (le32 x ++ rest) e, eq-eqb tag tag refl, literal-behind s at tag x rest h e) refl
+
+  operator-back : (o : ℕ) (l m : List ℕ) (t u : A) → Gives read s l t → Gives read s m u
+      → Gives (by-tag make join tag read other) s ((tag + 1) ∷ o ∷ (l ++ m)) (join o t u)
+  operator-back o l m t u first second at rest e =
+      by-byte at
+      ∙ rw (tag-there s at (tag + 1) (o ∷ ((l ++ m) ++ rest)) e, ne-eqb (tag + 1) tag (λ z. omega arith), eq-eqb (tag + 1) (tag + 1) refl)
+      (two-back read s (tag + 1) o l t first join m u second at rest e)
+
+  other-back : (first : ℕ) (l : List ℕ) (a : A) → eqb first tag ≡ false → eqb first (tag + 1) ≡ false → Gives other s (first ∷ l) a
+      → Gives (by-tag make join tag read other) s (first ∷ l) a
+  other-back first l a p q gives at rest e = by-byte at ∙ rw (tag-there s at first (l ++ rest) e, p, q) (gives at rest e)
 
 -- a path reduction
-path-back : (s : List ℕ) (c : PathReduction) → PathFits 256 c → Back written-path (λ c. 0x10 ∷ path-bytes c) s c
+path-back : (s : List ℕ) (c : PathReduction) → PathFits 256 c → Gives written-path s (0x10 ∷ path-bytes c) (path c)
 unfolding written-path
 path-back s c f at rest e =
     let n = length (c .keys) in
@@ -116,44 +110,92 @@ path-back s c f at rest e =
     let end : at + 4 + n ≡ at + length (0x10 ∷ path-bytes c) = omega (arith, length-append (c .keys) (le16 (c .source))) in
     rw (byte-behind s at 0x10 n ((c .keys ++ le16 (c .source)) ++ rest) e, source, d1, take-at (c .keys) (le16 (c .source) ++ rest) n refl, end) refl
 
--- A VERTEX TERM
-pub vertex-back : (s : List ℕ) (t : VertexTerm) → Every (PathFits 256) t → depth unit t ≤ 16 → Back vertex-of vertex-bytes s t
+-- a reduction, by its first byte
+module _ (read : Reader VertexTerm) (s : List ℕ) where
+  reduction-by : (i : ℕ) → written-reduction read s i ≡ cond (eqb (getD s i 0) 0x23) (two-of over-where read s i) (one-of over read s i)
+  unfolding written-reduction
+  reduction-by i = go (eqb (getD s i 0) 0x23)
+    where
+      go : (b : Bool) → elim b [ true ↦ two-of over-where read s i | false ↦ one-of over read s i ]
+          ≡ cond b (two-of over-where read s i) (one-of over read s i)
+      go true = refl
+      go false = refl
+
+  over-back : (o : ℕ) (l : List ℕ) (t : VertexTerm) → Gives read s l t → Gives (written-reduction read) s (0x20 ∷ o ∷ l) (over o t)
+  over-back o l t gives at rest e =
+      reduction-by at ∙ rw (tag-there s at 0x20 (o ∷ (l ++ rest)) e) (one-back read s 0x20 o l t gives over at rest e)
+
+  where-back : (o : ℕ) (l m : List ℕ) (c t : VertexTerm) → Gives read s l c → Gives read s m t
+      → Gives (written-reduction read) s (0x23 ∷ o ∷ (l ++ m)) (over-where o c t)
+  where-back o l m c t first second at rest e =
+      reduction-by at ∙ rw (tag-there s at 0x23 (o ∷ ((l ++ m) ++ rest)) e) (two-back read s 0x23 o l c first over-where m t second at rest e)
+
+-- what stands behind the bytes that are neither a literal's nor an operator's
+abbrev other : (κ : Kind) → ℕ → Reader (QueryTerm κ)
+other vertex d = written-path
+other result d = written-reduction (query-term-of d vertex)
+
+by-kind : (κ : Kind) (d : ℕ) (s : List ℕ) (i : ℕ)
+    → query-term-of (suc d) κ s i ≡ by-tag number operator (literal-tag (of-kind κ)) (query-term-of d κ) (other κ d) s i
+unfolding query-term-of literal-tag
+by-kind vertex d s i = refl
+by-kind result d s i = refl
+
+no-depth : {κ : Kind} (t : QueryTerm κ) → depth-of t ≤ 0 → ⊥
+no-depth (path c) h = omega arith
+no-depth (over o t) h = omega arith
+no-depth (over-where o c t) h = omega arith
+no-depth (number x) h = omega arith
+no-depth (operator o t u) h = omega arith
+
+-- A TERM OF A QUERY
+pub query-back : (s : List ℕ) (κ : Kind) (t : QueryTerm κ) → TermFits 256 t → (d : ℕ) → depth-of t ≤ d → Back (query-term-of d κ) (query-bytes κ) s t
 unfolding literal-tag
-vertex-back s t f h =
-    term-back written-path (λ c. 0x10 ∷ path-bytes c) unit (PathFits 256) 0x11 vertex-bytes (λ a. refl) (λ k. refl) (λ o t u. refl)
-    0x10 path-bytes (λ c. refl) refl refl (λ c. omega arith) s (λ c g k. path-back s c g) t f 16 h (omega arith)
+query-back s κ t f zero h at rest e = absurd (no-depth t h)
+query-back s κ (path c) f (suc d) h at rest e =
+    by-kind vertex d s at
+    ∙ other-back number operator 0x11 (query-term-of d vertex) written-path s 0x10 (path-bytes c) (path c) refl refl (path-back s c f) at rest e
+query-back s κ (over o t) f (suc d) h at rest e =
+    by-kind result d s at
+    ∙ other-back number operator 0x21 (query-term-of d result) (other result d) s 0x20 (o ∷ query-bytes vertex t) (over o t) refl refl
+    (over-back (query-term-of d vertex) s o (query-bytes vertex t) t (query-back s vertex t (f .2) d (omega arith))) at rest e
+query-back s κ (over-where o c t) f (suc d) h at rest e =
+    by-kind result d s at
+    ∙ other-back number operator 0x21 (query-term-of d result) (other result d) s 0x23 (o ∷ (query-bytes vertex c ++ query-bytes vertex t))
+    (over-where o c t) refl refl
+    (where-back (query-term-of d vertex) s o (query-bytes vertex c) (query-bytes vertex t) c t (query-back s vertex c (f .2) d (omega arith))
+    (query-back s vertex t (f .3) d (omega arith))) at rest e
+query-back s κ (number x) f (suc d) h at rest e =
+    by-kind κ d s at ∙ literal-back number operator (literal-tag (of-kind κ)) (query-term-of d κ) (other κ d) s x f at rest e
+query-back s κ (operator o t u) f (suc d) h at rest e =
+    by-kind κ d s at
+    ∙ operator-back number operator (literal-tag (of-kind κ)) (query-term-of d κ) (other κ d) s o (query-bytes κ t) (query-bytes κ u) t u
+    (query-back s κ t (f .2) d (omega arith)) (query-back s κ u (f .3) d (omega arith)) at rest e
 
--- a reduction
-abbrev under : VertexReduction PathReduction → ℕ
-under e = suc (depth unit (e .body))
+-- AN EXPRESSION of a plan, whose literals have the byte `tag`
+module _ (m : TermKind) (tag count : ℕ) (literals : literal-tag m ≡ tag) (p : eqb (index-tag m) tag ≡ false) (q : eqb (index-tag m) (tag + 1) ≡ false)
+    (s : List ℕ) where
+  expression-back-to : (t : Term ℕ) → Every (λ i. i < count) t → (d : ℕ) → depth unit t ≤ d → Back (expression-to d tag) (expression-bytes m) s t
+  unfolding expression-to written-index
+  expression-back-to t f zero h at rest e = absurd (no-level t h)
+    where
+      no-level : (t : Term ℕ) → depth unit t ≤ 0 → ⊥
+      no-level (leaf i) h = omega arith
+      no-level (literal x) h = omega arith
+      no-level (apply o t u) h = omega arith
+  expression-back-to (leaf i) f (suc d) h at rest e =
+      other-back literal apply tag (expression-to d tag) written-index s (index-tag m) (i ∷ []) (leaf i) p q index-back at rest e
+    where
+      index-back : Gives written-index s (index-tag m ∷ i ∷ []) (leaf i)
+      index-back at rest e = rw (byte-behind s at (index-tag m) i rest e) refl
+  expression-back-to (literal x) f (suc d) h at rest e =
+      literal-back literal apply tag (expression-to d tag) written-index s x f at rest (rw literals at e)
+  expression-back-to (apply o t u) f (suc d) h at rest e =
+      operator-back literal apply tag (expression-to d tag) written-index s o (expression-bytes m t) (expression-bytes m u) t u
+      (expression-back-to t (f .2) d (omega arith)) (expression-back-to u (f .3) d (omega arith)) at rest (rw literals at e)
 
-reduction-back : (s : List ℕ) (e : VertexReduction PathReduction) → EveryBody (PathFits 256) e → under e ≤ 16
-    → Back reduction-of (λ e. 0x20 ∷ e .reduction ∷ vertex-bytes (e .body)) s e
-unfolding reduction-of
-reduction-back s e f h at rest d =
-    let d1 = drop-on s at 2 (0x20 ∷ e .reduction ∷ []) (vertex-bytes (e .body) ++ rest) d refl in
-    let b = vertex-back s (e .body) (f .2) (omega arith) (at + 2) rest d1 in
-    let end : at + 2 + length (vertex-bytes (e .body)) ≡ at + suc (suc (length (vertex-bytes (e .body)))) = omega arith in
-    rw (byte-behind s at 0x20 (e .reduction) (vertex-bytes (e .body) ++ rest) d, b, end) refl
-
--- A RESULT TERM
-pub result-back : (s : List ℕ) (t : ResultTerm) → Every (EveryBody (PathFits 256)) t → depth under t ≤ 16 → Back result-of result-bytes s t
-unfolding literal-tag
-result-back s t f h =
-    term-back reduction-of (λ e. 0x20 ∷ e .reduction ∷ vertex-bytes (e .body)) under (EveryBody (PathFits 256)) 0x21 result-bytes
-    (λ a. refl) (λ k. refl) (λ o t u. refl) 0x20 (λ e. e .reduction ∷ vertex-bytes (e .body)) (λ e. refl) refl refl (λ e. omega arith)
-    s (reduction-back s) t f 16 h (omega arith)
-
--- AN EXPRESSION, whose leaves are indices behind the byte `first`
-pub expression-back : (first tag count : ℕ) (text : Term ℕ → List ℕ) → ((i : ℕ) → text (leaf i) ≡ first ∷ i ∷ [])
-    → ((k : ℕ) → text (literal k) ≡ tag ∷ le32 k)
-    → ((o : ℕ) (t u : Term ℕ) → text (apply o t u) ≡ (tag + 1) ∷ o ∷ (text t ++ text u)) → eqb first tag ≡ false → eqb first (tag + 1)
-    ≡ false
-    → (s : List ℕ) (t : Term ℕ) → Every (λ i. i < count) t → depth unit t ≤ 16 → Back (expression-of tag) text s t
-unfolding written-index
-expression-back first tag count text l k a p q s t f h =
-    term-back written-index (λ i. first ∷ i ∷ []) unit (λ i. i < count) tag text l k a first (λ i. i ∷ []) (λ i. refl) p q (λ i. omega arith)
-    s (λ i g n at rest e. rw (byte-behind s at first i rest e) refl) t f 16 h (omega arith)
+  pub expression-back : (t : Term ℕ) → Every (λ i. i < count) t → depth unit t ≤ 16 → Back (expression-of tag) (expression-bytes m) s t
+  expression-back t f h = expression-back-to t f 16 h
 
 -- SEVERAL THINGS, one behind the other, where each is given back
 pub several-back : {A : Type 0} (one : Reader A) (L : A → List ℕ) (fine : A → Type 0) (text : List A → List ℕ) → text [] ≡ []

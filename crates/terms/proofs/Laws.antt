@@ -10,7 +10,6 @@ use lib.Dec.{leb, eqb}
 use lib.ListN.{getD}
 use Rattle.terms.specs.declared.Step.{Step}
 use Rattle.terms.specs.declared.TermKind.{TermKind}
-use Rattle.terms.specs.declared.TermKind.the-variants.{OfVertex}
 use Rattle.progress.specs.declared.Progress.{Progress}
 use Rattle.terms.specs.Terms.{read, slot-of, term-step}
 
@@ -36,7 +35,8 @@ pub read-next : (kind : TermKind) (left : ℕ) (s : List ℕ) (w : Progress) →
     ≡ cond (eqb (w .code) 0)
     (let h = term-step kind left s w in
     cond (eqb (h .follow) 0) (h .progress)
-    (cond (eqb (h .follow) 1) (read OfVertex (left - 1) s (h .progress)) (read kind (left - 1) s (read kind (left - 1) s (h .progress)))))
+    (cond (eqb (h .follow) 1) (read (h .inner) (left - 1) s (h .progress))
+    (read (h .inner) (left - 1) s (read (h .inner) (left - 1) s (h .progress)))))
     w
 unfolding read
 read-next kind zero s w n = absurd (n refl)
@@ -49,14 +49,17 @@ read-next kind (suc left) s w n = go (eqb (w .code) 0) (eqb (h .follow) 0) (eqb 
         → elim a [
           | true ↦ elim b [
             | true ↦ h .progress
-            | false ↦ elim c [ true ↦ read OfVertex left s (h .progress) | false ↦ read kind left s (read kind left s (h .progress)) ]
+            | false ↦ elim c [
+              | true ↦ read (h .inner) left s (h .progress)
+              | false ↦ read (h .inner) left s (read (h .inner) left s (h .progress))
+            ]
           ]
           | false ↦ w
         ]
-        ≡ cond a (cond b (h .progress) (cond c (read OfVertex m s (h .progress)) (read kind m s (read kind m s (h .progress))))) w
+        ≡ cond a (cond b (h .progress) (cond c (read (h .inner) m s (h .progress)) (read (h .inner) m s (read (h .inner) m s (h .progress))))) w
     go true true c e = refl
-    go true false true e = ap (λ (k : ℕ). read OfVertex k s (h .progress)) e
-    go true false false e = ap (λ (k : ℕ). read kind k s (read kind k s (h .progress))) e
+    go true false true e = ap (λ (k : ℕ). read (h .inner) k s (h .progress)) e
+    go true false false e = ap (λ (k : ℕ). read (h .inner) k s (read (h .inner) k s (h .progress))) e
     go false b c e = refl
 
 -- a refusal is handed on

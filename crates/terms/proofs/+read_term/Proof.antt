@@ -91,8 +91,8 @@ read-term-returns-4 t c = rw (
   eq-eqb _ _ (c .before .before .before .before .before .before .if1 .left),
   ← c .before .before .before .before .before .term-step-of .ensures,
   ne-eqb _ _ (c .before .before .if3 .left),
-  eq-eqb _ _ (c .before .if4 .taken),
-) (c .read-term .ensures)
+  eq-eqb _ _ (c .if4 .taken),
+) (c .before .read-term .ensures)
 
 read-term-sub-read-term-2 : (t : ℕ) → read-term-lts.Need-sub-read-term-2 (
   term-step-of-reads.Asked,
@@ -110,22 +110,6 @@ read-term-read-term-requires-2 : (t : ℕ) → read-term-lts.Need-read-term-requ
 ) (read-term-at t) read-term.Post
 read-term-read-term-requires-2 t c κs = search needs
 
-read-term-sub-read-term-3 : (t : ℕ) → read-term-lts.Need-sub-read-term-3 (
-  term-step-of-reads.Asked,
-  term-step-of-reads.Learnt,
-  read-term-below t,
-  read-term.Post,
-) (read-term-at t) read-term.Post
-read-term-sub-read-term-3 t c = search needs
-
-read-term-read-term-requires-3 : (t : ℕ) → read-term-lts.Need-read-term-requires-3 (
-  term-step-of-reads.Asked,
-  term-step-of-reads.Learnt,
-  read-term-below t,
-  read-term.Post,
-) (read-term-at t) read-term.Post
-read-term-read-term-requires-3 t c κs = search needs
-
 read-term-returns-5 : (t : ℕ) → read-term-lts.Need-returns-5 (
   term-step-of-reads.Asked,
   term-step-of-reads.Learnt,
@@ -137,9 +121,9 @@ read-term-returns-5 t c = rw (
   eq-eqb _ _ (c .before .before .before .before .before .before .before .if1 .left),
   ← c .before .before .before .before .before .before .term-step-of .ensures,
   ne-eqb _ _ (c .before .before .before .if3 .left),
-  ne-eqb _ _ (c .before .before .if4 .left),
-  ← c .before .read-term2 .ensures,
-) (c .read-term3 .ensures)
+  ne-eqb _ _ (c .before .if4 .left),
+  ← c .before .before .read-term .ensures,
+) (c .read-term2 .ensures)
 
 pub +read-term-spec : {M : Type 1} → statement M
 +read-term-spec = close μ-read-term λ t. read-term-lts.spec (
@@ -159,6 +143,4 @@ pub +read-term-spec : {M : Type 1} → statement M
     (read-term-returns-4 t)
     (read-term-sub-read-term-2 t)
     (read-term-read-term-requires-2 t)
-    (read-term-sub-read-term-3 t)
-    (read-term-read-term-requires-3 t)
     (read-term-returns-5 t)

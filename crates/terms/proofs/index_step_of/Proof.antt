@@ -1,6 +1,5 @@
 -- `terms::index_step_of` meets its contract. Assumes nothing.
 use borrow.Author.Needs.{needs}
-use mathlib.Core.Path.{refl}
 use borrow.Author.Tests.{le-leb, le-ltb, lt-leb, lt-ltb}
 use Rattle.terms.specs.Terms.{index-step}
 use Rattle.terms.proofs.index_step_of.Statement.{statement}
@@ -17,8 +16,12 @@ returns-2 c =
 
 returns-3 : tie.Need-returns-3
 unfolding index-step
-returns-3 c =
-    rw (← c .before .before .before .byte .ensures .0, le-ltb _ _ (c .before .before .if1 .left), lt-leb _ _ (c .before .if2 .left), c .advance .ensures) refl
+returns-3 c = rw (
+  ← c .before .before .before .before .byte .ensures .0,
+  le-ltb _ _ (c .before .before .before .if1 .left),
+  lt-leb _ _ (c .before .before .if2 .left),
+  ← c .before .advance .ensures,
+) (c .alone-of .ensures)
 
 pub index-step-of-spec : {M : Type 1} → statement M
 index-step-of-spec =
@@ -32,5 +35,6 @@ index-step-of-spec =
     (λ c κs. search needs)
     returns-2
     (λ c. search needs)
+    (λ c κs. search needs)
     (λ c κs. search needs)
     returns-3)

@@ -6,19 +6,19 @@ use Rattle.terms.proofs.leaf_step_of.Tie as tie
 
 returns : tie.Need-returns
 unfolding leaf-step
-returns c = rw (c .before .enum-told .given .1) (c .path-step-of .ensures)
+returns c = rw (c .before .enum-told .given .1) (c .path-leaf-of .ensures)
 
 returns-2 : tie.Need-returns-2
 unfolding leaf-step
-returns-2 c = rw (c .before .enum-told2 .given .1) (c .reduce-step-of .ensures)
+returns-2 c = rw (c .before .enum-told2 .given .1) (c .reduce-leaf-of .ensures)
 
 returns-3 : tie.Need-returns-3
 unfolding leaf-step
-returns-3 c = rw (c .before .enum-told3 .given .1) (c .index-step-of .ensures)
+returns-3 c = rw (c .before .enum-told3 .given .1) (c .index-leaf-of .ensures)
 
 returns-4 : tie.Need-returns-4
 unfolding leaf-step
-returns-4 c = rw (c .before .enum-told4 .given .1) (c .index-step-of2 .ensures)
+returns-4 c = rw (c .before .enum-told4 .given .1) (c .index-leaf-of2 .ensures)
 
 pub leaf-step-of-spec : {M : Type 1} → statement M
 leaf-step-of-spec =

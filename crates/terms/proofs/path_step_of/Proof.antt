@@ -1,6 +1,5 @@
 -- `terms::path_step_of` meets its contract. Assumes nothing.
 use borrow.Author.Needs.{needs}
-use mathlib.Core.Path.{refl}
 use borrow.Author.Tests.{eq-eqb, ne-eqb}
 use Rattle.terms.specs.Terms.{path-step}
 use Rattle.terms.proofs.path_step_of.Statement.{statement}
@@ -40,16 +39,19 @@ advance-requires c κs = search needs
 keep-path-requires : tie.Need-keep-path-requires
 keep-path-requires c κs = search needs
 
+alone-of-requires : tie.Need-alone-of-requires
+alone-of-requires c κs = search needs
+
 returns-2 : tie.Need-returns-2
 unfolding path-step
 returns-2 c = rw (
-  ← c .before .before .before .before .before .path-code .ensures,
-  eq-eqb _ _ (c .before .before .before .before .if1 .left),
-  ← c .before .before .before .byte .ensures .0,
-  ← c .before .before .path-word .ensures,
-  ← c .before .advance .ensures,
-  c .keep-path .ensures,
-) refl
+  ← c .before .before .before .before .before .before .path-code .ensures,
+  eq-eqb _ _ (c .before .before .before .before .before .if1 .left),
+  ← c .before .before .before .before .byte .ensures .0,
+  ← c .before .before .before .path-word .ensures,
+  ← c .before .before .advance .ensures,
+  ← c .before .keep-path .ensures,
+) (c .alone-of .ensures)
 
 pub path-step-of-spec : {M : Type 1} → statement M
 path-step-of-spec =
@@ -66,4 +68,5 @@ path-step-of-spec =
     add-advance-2
     advance-requires
     keep-path-requires
+    alone-of-requires
     returns-2)

@@ -24,47 +24,31 @@ returns-4 c = rw (
   lt-leb _ _ (c .before .before .before .before .before .before .before .if1 .left),
   lt-leb _ _ (c .before .before .before .before .before .if2 .left),
   ne-eqb _ _ (c .before .before .before .before .if3 .left),
-  ← c .before .before .leaf-tag-of .ensures,
+  ← c .before .before .literal-tag-of .ensures .0,
   eq-eqb _ _ (c .before .if4 .taken),
-) (c .leaf-step-of .ensures)
+) (c .literal-step-of .ensures)
 
 returns-5 : tie.Need-returns-5
 unfolding term-step
 returns-5 c = rw (
-  lt-leb _ _ (c .before .before .before .before .before .before .before .before .before .if1 .left),
-  lt-leb _ _ (c .before .before .before .before .before .before .before .if2 .left),
-  ne-eqb _ _ (c .before .before .before .before .before .before .if3 .left),
-  ← c .before .before .before .before .leaf-tag-of .ensures,
-  ne-eqb _ _ (c .before .before .before .if4 .left),
-  ← c .before .before .literal-tag-of .ensures .0,
+  lt-leb _ _ (c .before .before .before .before .before .before .before .before .if1 .left),
+  lt-leb _ _ (c .before .before .before .before .before .before .if2 .left),
+  ne-eqb _ _ (c .before .before .before .before .before .if3 .left),
+  ← c .before .before .before .literal-tag-of .ensures .0,
+  ne-eqb _ _ (c .before .before .if4 .left),
   eq-eqb _ _ (c .before .if5 .taken),
-) (c .literal-step-of .ensures)
+) (c .apply-step-of .ensures)
 
 returns-6 : tie.Need-returns-6
 unfolding term-step
 returns-6 c = rw (
-  lt-leb _ _ (c .before .before .before .before .before .before .before .before .before .before .if1 .left),
-  lt-leb _ _ (c .before .before .before .before .before .before .before .before .if2 .left),
-  ne-eqb _ _ (c .before .before .before .before .before .before .before .if3 .left),
-  ← c .before .before .before .before .before .leaf-tag-of .ensures,
-  ne-eqb _ _ (c .before .before .before .before .if4 .left),
+  lt-leb _ _ (c .before .before .before .before .before .before .before .before .if1 .left),
+  lt-leb _ _ (c .before .before .before .before .before .before .if2 .left),
+  ne-eqb _ _ (c .before .before .before .before .before .if3 .left),
   ← c .before .before .before .literal-tag-of .ensures .0,
-  ne-eqb _ _ (c .before .before .if5 .left),
-  eq-eqb _ _ (c .before .if6 .taken),
-) (c .apply-step-of .ensures)
-
-returns-7 : tie.Need-returns-7
-unfolding term-step
-returns-7 c = rw (
-  lt-leb _ _ (c .before .before .before .before .before .before .before .before .before .before .if1 .left),
-  lt-leb _ _ (c .before .before .before .before .before .before .before .before .if2 .left),
-  ne-eqb _ _ (c .before .before .before .before .before .before .before .if3 .left),
-  ← c .before .before .before .before .before .leaf-tag-of .ensures,
-  ne-eqb _ _ (c .before .before .before .before .if4 .left),
-  ← c .before .before .before .literal-tag-of .ensures .0,
-  ne-eqb _ _ (c .before .before .if5 .left),
-  ne-eqb _ _ (c .before .if6 .left),
-) (c .refuse4 .ensures)
+  ne-eqb _ _ (c .before .before .if4 .left),
+  ne-eqb _ _ (c .before .if5 .left),
+) (c .leaf-step-of .ensures)
 
 pub term-step-of-spec : {M : Type 1} → statement M
 term-step-of-spec =
@@ -80,11 +64,8 @@ term-step-of-spec =
     (λ c κs. search needs)
     (λ c κs. search needs)
     returns-4
-    (λ c κs. search needs)
-    (λ c κs. search needs)
-    returns-5
     (λ c. search needs)
     (λ c κs. search needs)
-    returns-6
+    returns-5
     (λ c κs. search needs)
-    returns-7)
+    returns-6)

@@ -1,3 +1,2 @@
 pub mod Exact
-pub mod Unique
 pub mod Tree

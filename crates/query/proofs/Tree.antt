@@ -3,10 +3,10 @@ use Prim.Native.Nat.{ℕ}
 use mathlib.Core.Path.{_≡_, sym, ap, _∙_, subst}
 use mathlib.Core.List.{List, [], append-nil}
 use Rattle.meaning.specs.Limits.{QueryLegal}
-use Rattle.meaning.specs.Query.{Query, ResultTerm, VertexTerm, each, single}
-use Rattle.term_text.specs.Text.{result-bytes, vertex-bytes}
+use Rattle.meaning.specs.Query.{Query, ResultTerm, VertexTerm, each, result, single, vertex}
+use Rattle.term_text.specs.Text.{query-bytes}
 use Rattle.term_text.specs.Tree.{Read}
-use Rattle.term_text.proofs.Tree.{result-back, vertex-back}
+use Rattle.term_text.proofs.Tree.{term-back}
 use Rattle.wire.specs.Wire.{Bytes}
 use Rattle.query.specs.Query.{encode, query-code}
 use Rattle.query.specs.Tree.{query-of}
@@ -16,9 +16,15 @@ use Rattle.query.proofs.Exact.{read-complete, read-sound}
 pub query-back : (q : Query) → QueryLegal 256 q → query-of (encode q) ≡ q
 unfolding query-of
 query-back (each t) l =
-    ap (λ (r : Read VertexTerm). each (r .tree)) (vertex-back (encode (each t)) t (l .legal) (l .shallow) 6 [] (sym (append-nil (vertex-bytes t))))
+    ap (λ (r : Read VertexTerm). each (r .tree))
+    (term-back (encode (each t)) vertex t (l .legal) 16 (l .shallow) 6 [] (sym (append-nil (query-bytes vertex t))))
 query-back (single t) l =
-    ap (λ (r : Read ResultTerm). single (r .tree)) (result-back (encode (single t)) t (l .legal) (l .shallow) 6 [] (sym (append-nil (result-bytes t))))
+    ap (λ (r : Read ResultTerm). single (r .tree))
+    (term-back (encode (single t)) result t (l .legal) 16 (l .shallow) 6 [] (sym (append-nil (query-bytes result t))))
+
+-- so a query is seen from its bytes: accepted bytes are read as one query
+pub encode-unique : (q r : Query) → QueryLegal 256 q → QueryLegal 256 r → encode q ≡ encode r → q ≡ r
+encode-unique q r l m e = sym (query-back q l) ∙ ap query-of e ∙ query-back r m
 
 -- THE READER ACCEPTS EVERY LEGAL QUERY'S BYTES
 pub query-accepted : (q : Query) → QueryLegal 256 q → query-code (encode q) ≡ 0

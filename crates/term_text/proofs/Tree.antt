@@ -1,4 +1,4 @@
--- THE BYTES OF A LEGAL TERM GIVE BACK THE TERM AND WHERE IT ENDS: a query's (`query-back`), a plan's expression (`expression-back`). Assumes nothing.
+-- THE BYTES OF A LEGAL TERM GIVE BACK THE TERM AND WHERE IT ENDS: a query's (`term-back`), a plan's expression (`expression-back`). Assumes nothing.
 use Prim.Native.Nat.{ℕ, zero, suc, _+_, _^_, _≤_, _<_}
 use mathlib.Core.Path.{_≡_, refl, ap, _∙_}
 use mathlib.Core.Bool.{Bool, true, false, cond}
@@ -149,28 +149,28 @@ no-depth (number x) h = omega arith
 no-depth (operator o t u) h = omega arith
 
 -- A TERM OF A QUERY
-pub query-back : (s : List ℕ) (κ : Kind) (t : QueryTerm κ) → TermFits 256 t → (d : ℕ) → depth-of t ≤ d → Back (query-term-of d κ) (query-bytes κ) s t
+pub term-back : (s : List ℕ) (κ : Kind) (t : QueryTerm κ) → TermFits 256 t → (d : ℕ) → depth-of t ≤ d → Back (query-term-of d κ) (query-bytes κ) s t
 unfolding literal-tag
-query-back s κ t f zero h at rest e = absurd (no-depth t h)
-query-back s κ (path c) f (suc d) h at rest e =
+term-back s κ t f zero h at rest e = absurd (no-depth t h)
+term-back s κ (path c) f (suc d) h at rest e =
     by-kind vertex d s at
     ∙ other-back number operator 0x11 (query-term-of d vertex) written-path s 0x10 (path-bytes c) (path c) refl refl (path-back s c f) at rest e
-query-back s κ (over o t) f (suc d) h at rest e =
+term-back s κ (over o t) f (suc d) h at rest e =
     by-kind result d s at
     ∙ other-back number operator 0x21 (query-term-of d result) (other result d) s 0x20 (o ∷ query-bytes vertex t) (over o t) refl refl
-    (over-back (query-term-of d vertex) s o (query-bytes vertex t) t (query-back s vertex t (f .2) d (omega arith))) at rest e
-query-back s κ (over-where o c t) f (suc d) h at rest e =
+    (over-back (query-term-of d vertex) s o (query-bytes vertex t) t (term-back s vertex t (f .2) d (omega arith))) at rest e
+term-back s κ (over-where o c t) f (suc d) h at rest e =
     by-kind result d s at
     ∙ other-back number operator 0x21 (query-term-of d result) (other result d) s 0x23 (o ∷ (query-bytes vertex c ++ query-bytes vertex t))
     (over-where o c t) refl refl
-    (where-back (query-term-of d vertex) s o (query-bytes vertex c) (query-bytes vertex t) c t (query-back s vertex c (f .2) d (omega arith))
-    (query-back s vertex t (f .3) d (omega arith))) at rest e
-query-back s κ (number x) f (suc d) h at rest e =
+    (where-back (query-term-of d vertex) s o (query-bytes vertex c) (query-bytes vertex t) c t (term-back s vertex c (f .2) d (omega arith))
+    (term-back s vertex t (f .3) d (omega arith))) at rest e
+term-back s κ (number x) f (suc d) h at rest e =
     by-kind κ d s at ∙ literal-back number operator (literal-tag (of-kind κ)) (query-term-of d κ) (other κ d) s x f at rest e
-query-back s κ (operator o t u) f (suc d) h at rest e =
+term-back s κ (operator o t u) f (suc d) h at rest e =
     by-kind κ d s at
     ∙ operator-back number operator (literal-tag (of-kind κ)) (query-term-of d κ) (other κ d) s o (query-bytes κ t) (query-bytes κ u) t u
-    (query-back s κ t (f .2) d (omega arith)) (query-back s κ u (f .3) d (omega arith)) at rest e
+    (term-back s κ t (f .2) d (omega arith)) (term-back s κ u (f .3) d (omega arith)) at rest e
 
 -- AN EXPRESSION of a plan, whose literals have the byte `tag`
 module _ (m : TermKind) (tag count : ℕ) (literals : literal-tag m ≡ tag) (p : eqb (index-tag m) tag ≡ false) (q : eqb (index-tag m) (tag + 1) ≡ false)

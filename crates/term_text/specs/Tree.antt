@@ -1,5 +1,5 @@
 -- BYTES AS TREES (document 01, "Layouts"): the terms that accepted bytes write. Of the bytes of every legal term these give back the term and where it ends
--- (`query-back`, `expression-back`, proofs/Tree). Other bytes are given some term, and accepted bytes do not reach that.
+-- (`term-back`, `expression-back`, proofs/Tree). Other bytes are given some term, and accepted bytes do not reach that.
 use Prim.Native.Nat.{ℕ, zero, suc, _+_}
 use mathlib.Core.Bool.{true, false}
 use mathlib.Core.List.{List, [], _∷_}

@@ -14,7 +14,7 @@ use Rattle.terms.specs.declared.Step.{Step}
 use Rattle.terms.specs.declared.TermKind.{TermKind}
 use Rattle.terms.specs.declared.TermKind.the-variants.{OfVertex, OfResult, OfEntry, OfFinal}
 use Rattle.progress.specs.declared.Progress.{Progress}
-use Rattle.terms.specs.Terms.{advanced, apply-step, index-step, kept-path, leaf-step, leaf-tag, literal-step, literal-tag, path-step, read, reduce-step}
+use Rattle.terms.specs.Terms.{advanced, alone, apply-step, index-step, kept-path, leaf-step, literal-step, literal-tag, path-step, read, reduce-step}
 use Rattle.terms.specs.Terms.{slot-of, refused-step, term-step}
 use Rattle.progress.specs.Progress.{blank, ended, started}
 use Rattle.term_text.proofs.Paths.{code-range}
@@ -94,16 +94,16 @@ module _ (s t : List ℕ) (a : Alike s t) where
       i = w .at + 1
 
       made : List ℕ → Step
-      made u = record { progress = kept-path (advanced w (i + 3 + getD u i 256)) (path-word u i); follow = 0 }
+      made u = alone (kept-path (advanced w (i + 3 + getD u i 256)) (path-word u i))
 
       go : (b : Bool) → eqb (path-code s i) 0 ≡ b → cond b (made t) (refused-step (path-code s i)) ≡ cond b (made s) (refused-step (path-code s i))
       go true e =
           rw (a .bytes i 256 (omega arith), path-word-same i (omega arith) (path-range i (eqb-true (path-code s i) 0 e))) refl
       go false e = refl
 
-  reduce-same : (w : Progress) → w .at ≤ 447 → reduce-step t w ≡ reduce-step s w
+  reduce-same : (follow : ℕ) (w : Progress) → w .at ≤ 447 → reduce-step follow t w ≡ reduce-step follow s w
   unfolding reduce-step
-  reduce-same w h = rw (a .bytes (w .at + 1) 256 (omega arith)) refl
+  reduce-same follow w h = rw (a .bytes (w .at + 1) 256 (omega arith)) refl
 
   index-same : (w : Progress) (n : ℕ) → w .at ≤ 447 → index-step t w n ≡ index-step s w n
   unfolding index-step
@@ -113,16 +113,16 @@ module _ (s t : List ℕ) (a : Alike s t) where
   unfolding literal-step
   literal-same w h = rw (a .bytes (w .at + 4) 256 (omega arith)) refl
 
-  apply-same : (w : Progress) → w .at ≤ 447 → apply-step t w ≡ apply-step s w
+  apply-same : (kind : TermKind) (w : Progress) → w .at ≤ 447 → apply-step kind t w ≡ apply-step kind s w
   unfolding apply-step
-  apply-same w h = rw (a .bytes (w .at + 1) 256 (omega arith)) refl
+  apply-same kind w h = rw (a .bytes (w .at + 1) 256 (omega arith)) refl
 
-  leaf-same : (kind : TermKind) (w : Progress) → w .at ≤ 447 → leaf-step kind t w ≡ leaf-step kind s w
+  leaf-same : (kind : TermKind) (tag : ℕ) (w : Progress) → w .at ≤ 447 → leaf-step kind tag t w ≡ leaf-step kind tag s w
   unfolding leaf-step
-  leaf-same OfVertex w h = path-same w h
-  leaf-same OfResult w h = reduce-same w h
-  leaf-same OfEntry w h = index-same w (w .paths) h
-  leaf-same OfFinal w h = index-same w (w .reductions) h
+  leaf-same OfVertex tag w h = rw (path-same w h) refl
+  leaf-same OfResult tag w h = rw (reduce-same 1 w h, reduce-same 2 w h) refl
+  leaf-same OfEntry tag w h = rw (index-same w (w .paths) h) refl
+  leaf-same OfFinal tag w h = rw (index-same w (w .reductions) h) refl
 
   term-same : (kind : TermKind) (left : ℕ) (w : Progress) → Near w → term-step kind left t w ≡ term-step kind left s w
   unfolding term-step
@@ -133,15 +133,14 @@ module _ (s t : List ℕ) (a : Alike s t) where
       further : List ℕ → Step
       further u =
           cond (eqb left 0) (refused-step 11)
-          (cond (eqb (getD u (w .at) 0) (leaf-tag kind)) (leaf-step kind u w)
           (cond (eqb (getD u (w .at) 0) (literal-tag kind)) (literal-step u w)
-          (cond (eqb (getD u (w .at) 0) (literal-tag kind + 1)) (apply-step u w) (refused-step 9))))
+          (cond (eqb (getD u (w .at) 0) (literal-tag kind + 1)) (apply-step kind u w) (leaf-step kind (getD u (w .at) 0) u w)))
 
       go : (b : Bool) → leb 64 (w .terms) ≡ b → cond b (refused-step 12) (further t) ≡ cond b (refused-step 12) (further s)
       go true e = refl
       go false e =
           let h : w .at ≤ 447 = omega (arith, leb-false 64 (w .terms) e, g .near) in
-          rw (a .bytes (w .at) 0 (omega arith), leaf-same kind w h, literal-same w h, apply-same w h) refl
+          rw (a .bytes (w .at) 0 (omega arith), leaf-same kind (getD s (w .at) 0) w h, literal-same w h, apply-same kind w h) refl
 
   -- a refusal is at 0; one term more, of at most 7 bytes, where there were under 64
   near-blank : (c : ℕ) → Near (blank c)
@@ -186,9 +185,9 @@ module _ (s t : List ℕ) (a : Alike s t) where
       })
       (near-refused (path-code s (w .at + 1)))
 
-  near-reduce : (w : Progress) → w .terms < 64 → w .at ≤ 6 + 7 * w .terms → NearStep (reduce-step s w)
+  near-reduce : (follow : ℕ) (w : Progress) → w .terms < 64 → w .at ≤ 6 + 7 * w .terms → NearStep (reduce-step follow s w)
   unfolding reduce-step
-  near-reduce w l g =
+  near-reduce follow w l g =
       let n = near-next w (w .at + 1 + 1) l g (omega arith) in
       near-cond (eqb (code-of (getD s (w .at + 1) 256) 5) 0)
       (λ e. near-cond (leb 8 (w .reductions)) (λ f. near-refused 14) (record { progress = record { few = n .few; near = n .near } }))
@@ -204,19 +203,20 @@ module _ (s t : List ℕ) (a : Alike s t) where
   unfolding literal-step
   near-literal w l g = near-cond (ltb 255 (getD s (w .at + 4) 256)) (λ e. near-refused 1) (record { progress = near-next w (w .at + 4 + 1) l g (omega arith) })
 
-  near-apply : (w : Progress) → w .terms < 64 → w .at ≤ 6 + 7 * w .terms → NearStep (apply-step s w)
+  near-apply : (kind : TermKind) (w : Progress) → w .terms < 64 → w .at ≤ 6 + 7 * w .terms → NearStep (apply-step kind s w)
   unfolding apply-step
-  near-apply w l g =
+  near-apply kind w l g =
       near-cond (eqb (code-of (getD s (w .at + 1) 256) 11) 0)
       (λ e. record { progress = near-next w (w .at + 1 + 1) l g (omega arith) })
       (near-refused (code-of (getD s (w .at + 1) 256) 11))
 
-  near-leaf : (kind : TermKind) (w : Progress) → w .terms < 64 → w .at ≤ 6 + 7 * w .terms → NearStep (leaf-step kind s w)
+  near-leaf : (kind : TermKind) (tag : ℕ) (w : Progress) → w .terms < 64 → w .at ≤ 6 + 7 * w .terms → NearStep (leaf-step kind tag s w)
   unfolding leaf-step
-  near-leaf OfVertex w l g = near-path w l g
-  near-leaf OfResult w l g = near-reduce w l g
-  near-leaf OfEntry w l g = near-index w (w .paths) l g
-  near-leaf OfFinal w l g = near-index w (w .reductions) l g
+  near-leaf OfVertex tag w l g = near-cond (eqb tag 0x10) (λ e. near-path w l g) (near-refused 9)
+  near-leaf OfResult tag w l g =
+      near-cond (eqb tag 0x20) (λ e. near-reduce 1 w l g) (near-cond (eqb tag 0x23) (λ e. near-reduce 2 w l g) (near-refused 9))
+  near-leaf OfEntry tag w l g = near-cond (eqb tag 0x30) (λ e. near-index w (w .paths) l g) (near-refused 9)
+  near-leaf OfFinal tag w l g = near-cond (eqb tag 0x31) (λ e. near-index w (w .reductions) l g) (near-refused 9)
 
   near-term : (kind : TermKind) (left : ℕ) (w : Progress) → Near w → NearStep (term-step kind left s w)
   unfolding term-step
@@ -228,18 +228,15 @@ module _ (s t : List ℕ) (a : Alike s t) where
       further : Step
       further =
           cond (eqb left 0) (refused-step 11)
-          (cond (eqb tag (leaf-tag kind)) (leaf-step kind s w)
-          (cond (eqb tag (literal-tag kind)) (literal-step s w)
-          (cond (eqb tag (literal-tag kind + 1)) (apply-step s w) (refused-step 9))))
+          (cond (eqb tag (literal-tag kind)) (literal-step s w) (cond (eqb tag (literal-tag kind + 1)) (apply-step kind s w) (leaf-step kind tag s w)))
 
       go : (b : Bool) → leb 64 (w .terms) ≡ b → NearStep (cond b (refused-step 12) further)
       go true e = near-refused 12
       go false e =
           let l = leb-false 64 (w .terms) e in
           near-cond (eqb left 0) (λ f. near-refused 11)
-          (near-cond (eqb tag (leaf-tag kind)) (λ f. near-leaf kind w l (g .near))
           (near-cond (eqb tag (literal-tag kind)) (λ f. near-literal w l (g .near))
-          (near-cond (eqb tag (literal-tag kind + 1)) (λ f. near-apply w l (g .near)) (near-refused 9))))
+          (near-cond (eqb tag (literal-tag kind + 1)) (λ f. near-apply kind w l (g .near)) (near-leaf kind tag w l (g .near))))
 
   -- a term and all that it contains
   read-same : (kind : TermKind) (left : ℕ) (w : Progress) → Near w → (read kind left t w ≡ read kind left s w) × Near (read kind left s w)
@@ -267,7 +264,10 @@ module _ (s t : List ℕ) (a : Alike s t) where
           elim x [
             | true ↦ elim y [
               | true ↦ h .progress
-              | false ↦ elim z [ true ↦ read OfVertex left u (h .progress) | false ↦ read kind left u (read kind left u (h .progress)) ]
+              | false ↦ elim z [
+                | true ↦ read (h .inner) left u (h .progress)
+                | false ↦ read (h .inner) left u (read (h .inner) left u (h .progress))
+              ]
             ]
             | false ↦ w
           ]
@@ -275,11 +275,11 @@ module _ (s t : List ℕ) (a : Alike s t) where
       go : ((m : TermKind) (v : Progress) → Near v → (read m left t v ≡ read m left s v) × Near (read m left s v)) → (x y z : Bool)
           → (after t here x y z ≡ after s here x y z) × Near (after s here x y z)
       go deeper true true z = (refl, n)
-      go deeper true false true = deeper OfVertex (here .progress) n
+      go deeper true false true = deeper (here .inner) (here .progress) n
       go deeper true false false =
-          let p = deeper kind (here .progress) n in
-          let q = deeper kind (read kind left s (here .progress)) (p .1) in
-          (ap (read kind left t) (p .0) ∙ q .0, q .1)
+          let p = deeper (here .inner) (here .progress) n in
+          let q = deeper (here .inner) (read (here .inner) left s (here .progress)) (p .1) in
+          (ap (read (here .inner) left t) (p .0) ∙ q .0, q .1)
       go deeper false y z = (refl, g)
 
   -- header and kind

@@ -5,19 +5,19 @@ use mathlib.Core.Bool.{Bool, true, false}
 use mathlib.Core.List.{List, [], _∷_, _++_, map, append-nil}
 use native.Mathlib.Omega.{arith}
 use borrow.Author.Tests.{eqb-true, le-ltb, ne-eqb}
-use lib.Dec.{T, eqb, ltb}
+use lib.Dec.{eqb, ltb}
 use lib.ListN.{length, take, replicate, length-append, length-map, length-replicate}
 use Rattle.meaning.specs.Limits.{PlanLegal, QueryLegal, query-reductions, query-terms}
-use Rattle.meaning.specs.Plan.{Plan, among, entry, enumerate, fuse, position, put-all, rename}
-use Rattle.meaning.specs.Query.{Query, bodies, each, leaves, single}
-use Rattle.meaning.proofs.Limits.{fuse-legal}
+use Rattle.meaning.specs.Plan.{Plan, entries, expression, final, fuse}
+use Rattle.meaning.specs.Query.{Query, each, paths, result, single, vertex}
+use Rattle.meaning.proofs.Limits.{entries-length, fuse-legal}
 use Rattle.meaning.proofs.Paths.{put-all-has}
 use Rattle.nodes.specs.declared.Node.{Node}
 use Rattle.nodes.specs.declared.Term.the-variants.{Empty, Entry}
 use Rattle.nodes.specs.Nodes.{node}
 use Rattle.nodes.specs.Text.{nodes-text}
-use Rattle.nodes.specs.Tree.{entry-nodes, final-nodes, result-nodes, vertex-nodes}
-use Rattle.nodes.proofs.Exact.{result-size, vertex-size}
+use Rattle.nodes.specs.Tree.{entry-nodes, final-nodes, query-nodes}
+use Rattle.nodes.proofs.Exact.{query-size}
 use Rattle.nodes.proofs.Held.{first-nodes}
 use Rattle.nodes.proofs.Text.{nodes-short}
 use Rattle.plan.specs.Plan.{plan-code}
@@ -41,7 +41,7 @@ use Rattle.wire.specs.Wire.{Bytes, done, fitted, refused, reply-number}
 use Rattle.fusion.specs.declared.Written.{Written}
 use Rattle.fusion.specs.Fusion.{fuse-reply}
 use Rattle.fusion.specs.Steps.{entries-of, first-written, fused-form, put-part, steps-reply}
-use Rattle.fusion.proofs.Fused.{each-body, result-entries, result-final, vertex-entry, vertex-final}
+use Rattle.fusion.proofs.Fused.{result-entries, result-final, vertex-entry, vertex-final}
 use Rattle.fusion.proofs.Selected.{Holds, holds-part, selected}
 
 -- at most 64 terms and 8 entries
@@ -60,9 +60,9 @@ both-parts table nodes d l a b h p q r =
     (holds-part 1 table nodes 0 (put-part 0 table 0 d nodes) (l ++ a) one (omega (arith, n, ap length q)))
 
 -- a query's nodes and kind, the table of its path reductions, and the nodes that fusing makes of them
-abbrev query-nodes : Query → List Node
-query-nodes (each t) = vertex-nodes t
-query-nodes (single t) = result-nodes t
+abbrev nodes-of : Query → List Node
+nodes-of (each t) = query-nodes vertex t
+nodes-of (single t) = query-nodes result t
 
 abbrev query-kind : Query → ℕ
 query-kind (each t) = 0
@@ -76,24 +76,24 @@ both table kind nodes = put-part 1 table 0 (put-part 0 table 0 (first-written ki
 
 -- which are those of the fused plan
 parts-held : (q : Query) → QueryLegal 256 q → (rest : List ℕ)
-    → Holds (both (table-of q rest) (query-kind q) (query-nodes q)) (body-nodes (fuse q .body))
+    → Holds (both (table-of q rest) (query-kind q) (nodes-of q)) (body-nodes (fuse q .body))
 unfolding first-written
 parts-held (each t) h rest =
     let l = fuse-legal 256 (each t) h in
-    let cs = put-all [] (leaves t) in
-    let a = entry-nodes (rename (λ c. position c cs) t) in
+    let cs = fuse (each t) .paths in
+    let a = entry-nodes (expression cs t) in
     let s : Holds (first-written 0) (node (Entry 0) ∷ []) = record { list = refl; len = refl } in
     let e : (node (Entry 0) ∷ []) ++ a ++ [] ≡ node (Entry 0) ∷ a = append-nil (node (Entry 0) ∷ a) in
-    subst (Holds (both (table-of (each t) rest) 0 (vertex-nodes t))) e
-    (both-parts (table-of (each t) rest) (vertex-nodes t) (first-written 0) (node (Entry 0) ∷ []) a [] s
-    (vertex-entry cs (l .paths-legal) rest 0 t (h .legal) (put-all-has [] (leaves t))) (vertex-final (table-of (each t) rest) 0 t)
+    subst (Holds (both (table-of (each t) rest) 0 (query-nodes vertex t))) e
+    (both-parts (table-of (each t) rest) (query-nodes vertex t) (first-written 0) (node (Entry 0) ∷ []) a [] s
+    (vertex-entry cs (l .paths-legal) rest 0 t (h .legal) (put-all-has [] (paths t))) (vertex-final (table-of (each t) rest) 0 t)
     (omega (arith, ap length e, body-short 256 (fuse (each t)) l)))
 parts-held (single t) h rest =
     let l = fuse-legal 256 (single t) h in
-    let cs = put-all [] (bodies (leaves t)) in
+    let cs = fuse (single t) .paths in
     let s : Holds (first-written 1) [] = record { list = refl; len = refl } in
-    both-parts (table-of (single t) rest) (result-nodes t) (first-written 1) [] (entries-nodes (map (entry cs) (leaves t))) (final-nodes (enumerate 0 t)) s
-    (result-entries cs (l .paths-legal) rest 0 t (h .legal) (each-body (λ c. T (among c cs)) (leaves t) (put-all-has [] (bodies (leaves t)))))
+    both-parts (table-of (single t) rest) (query-nodes result t) (first-written 1) [] (entries-nodes (entries cs t)) (final-nodes (final 0 t)) s
+    (result-entries cs (l .paths-legal) rest 0 t (h .legal) (put-all-has [] (paths t)))
     (result-final (table-of (single t) rest) 0 t) (body-short 256 (fuse (single t)) l)
 
 -- the fields of the query's typed form
@@ -102,10 +102,10 @@ unfolding form-of
 kind-read (each t) = refl
 kind-read (single t) = refl
 
-nodes-read : (q : Query) → take (form-of q .count) (form-of q .nodes) ≡ query-nodes q
+nodes-read : (q : Query) → take (form-of q .count) (form-of q .nodes) ≡ nodes-of q
 unfolding form-of
-nodes-read (each t) = first-nodes (query-terms (each t)) (vertex-nodes t) (vertex-size t)
-nodes-read (single t) = first-nodes (query-terms (single t)) (result-nodes t) (result-size t)
+nodes-read (each t) = first-nodes (query-terms (each t)) (query-nodes vertex t) (query-size vertex t)
+nodes-read (single t) = first-nodes (query-terms (single t)) (query-nodes result t) (query-size result t)
 
 -- kind and entry count are those of the fused plan
 kind-fused : (q : Query) → query-kind q ≡ plan.kind-of (fuse q .body)
@@ -115,14 +115,14 @@ kind-fused (single t) = refl
 entries-fused : (q : Query) → QueryLegal 256 q → (r : ℕ) → r ≡ query-reductions q → entries-of (query-kind q) r ≡ plan.entry-count (fuse q .body)
 unfolding entries-of
 entries-fused (each t) h r e = refl
-entries-fused (single t) h r e = omega (arith, h .few-reductions, length-map (leaves t) (entry (put-all [] (bodies (leaves t)))))
+entries-fused (single t) h r e = omega (arith, h .few-reductions, entries-length (fuse (single t) .paths) t)
 
 -- WHAT IS MADE OF THE READING OF A LEGAL QUERY IS THE TYPED FORM OF ITS FUSED PLAN
 fused-as : (q : Query) → QueryLegal 256 q → (r : Reading) → (a : ReadAs r q) → fused-form r ≡ plan-form.form-of (fuse q) (a .rest)
 unfolding fused-form plan-form.form-of
 fused-as q h r a =
     let kind : r .form .kind ≡ query-kind q = ap (λ (f : query-form.Form). f .kind) (a .form) ∙ kind-read q in
-    let list : take (r .form .count) (r .form .nodes) ≡ query-nodes q =
+    let list : take (r .form .count) (r .form .nodes) ≡ nodes-of q =
     ap (λ (f : query-form.Form). take (f .count) (f .nodes)) (a .form) ∙ nodes-read q in
     let w : Holds (both (r .table) (r .form .kind) (take (r .form .count) (r .form .nodes))) (body-nodes (fuse q .body)) =
     rw (kind, list, a .table) (parts-held q h (a .rest)) in

@@ -1,22 +1,37 @@
 -- THE PARTS OF A LEGAL QUERY'S NODES ARE THE NODES OF ITS FUSED PLAN. Assumes nothing.
-use Prim.Native.Nat.{ℕ, zero, suc, _+_}
+use Prim.Native.Nat.{ℕ, zero, suc, _+_, _%_}
 use mathlib.Core.Path.{_≡_, refl, sym, ap, ap₂, _∙_}
 use mathlib.Core.Bool.{Bool, true, false, cond, _||_}
 use mathlib.Core.List.{List, [], _∷_, _++_, map, append-assoc, append-nil}
 use native.Mathlib.Omega.{arith}
 use lib.Dec.{T}
-use lib.ListN.{length, length-append}
-use Rattle.meaning.specs.Limits.{Every, EveryBody, PathFits}
-use Rattle.meaning.specs.Plan.{among, entry, enumerate, position, rename, same-path}
-use Rattle.meaning.specs.Query.{PathReduction, ResultTerm, VertexReduction, VertexTerm, apply, bodies, leaf, leaves, literal}
-use Rattle.meaning.proofs.Lists.{all-left, all-right, map-append}
+use Rattle.meaning.specs.Limits.{PathFits, TermFits}
+use Rattle.meaning.specs.Plan.{VertexReduction, among, entries, expression, final, position, same-path}
+use Rattle.meaning.specs.Query.{
+  Kind,
+  PathReduction,
+  QueryTerm,
+  ResultTerm,
+  VertexTerm,
+  number,
+  operator,
+  over,
+  over-where,
+  path,
+  paths,
+  reduction-count,
+  result,
+  vertex,
+}
+use Rattle.meaning.proofs.Lists.{all-left, all-right}
 use Rattle.nodes.specs.declared.Node.{Node}
-use Rattle.nodes.specs.declared.Term.the-variants.{Apply, Entry, EntryIndex, PathIndex, Reduce, ResultApply}
+use Rattle.nodes.specs.declared.Term.the-variants.{Apply, Entry, EntryIndex, PathIndex, Reduce, ReduceWhere, ResultApply}
 use Rattle.nodes.specs.Nodes.{node}
-use Rattle.nodes.specs.Tree.{apply-node, entry-nodes, final-nodes, literal-node, result-nodes, vertex-nodes}
-use Rattle.plan_form.specs.Form.{entries-nodes}
+use Rattle.nodes.specs.Tree.{apply-node, entry-nodes, final-nodes, literal-node, query-nodes}
+use Rattle.plan.specs.Text.{reduction-byte}
+use Rattle.plan_form.specs.Form.{condition-nodes, entries-nodes}
 use Rattle.terms.specs.Terms.{literal-tag}
-use Rattle.term_text.specs.Text.{path-number}
+use Rattle.term_text.specs.Text.{of-kind, path-number}
 use Rattle.term_text.proofs.Table.{same-number}
 use Rattle.walks.specs.Lists.{All}
 use Rattle.fusion.specs.Steps.{entry-term, final-term, fused-term, index-of, reduces, size}
@@ -34,89 +49,108 @@ index-position c f (d ∷ ds) g rest t = rw (same-number c d f (g .0)) (go (same
     go true t h = refl
     go false t h = ap suc (h t)
 
--- a vertex term has no reduction
-vertex-reduced : (t : VertexTerm) → reduced (vertex-nodes t) ≡ 0
-unfolding reduced reduces apply-node literal-node literal-tag
-vertex-reduced (leaf c) = refl
-vertex-reduced (literal x) = refl
-vertex-reduced (apply o s t) = omega (arith, reduced-append (vertex-nodes s) (vertex-nodes t), vertex-reduced s, vertex-reduced t)
+-- a term has as many reductions among its nodes
+literal-reduces : (κ : Kind) (x : ℕ) → reduced (literal-node (literal-tag (of-kind κ)) x ∷ []) ≡ 0
+unfolding reduced reduces literal-node literal-tag
+literal-reduces vertex x = refl
+literal-reduces result x = refl
 
--- and nothing of it is in the final expression
-pub vertex-final : (table : List ℕ) (k : ℕ) (t : VertexTerm) → selected 1 table k (vertex-nodes t) ≡ []
+operator-reduces : (κ : Kind) (o : ℕ) (l : List Node) → reduced (apply-node (literal-tag (of-kind κ)) o ∷ l) ≡ reduced l
+unfolding reduced reduces apply-node literal-tag
+operator-reduces vertex o l = omega arith
+operator-reduces result o l = omega arith
+
+term-reduced : (κ : Kind) (t : QueryTerm κ) → reduced (query-nodes κ t) ≡ reduction-count t
+unfolding reduced reduces
+term-reduced κ (path c) = refl
+term-reduced κ (over o t) = omega (arith, term-reduced vertex t)
+term-reduced κ (over-where o c t) =
+    omega (arith, reduced-append (query-nodes vertex c) (query-nodes vertex t), term-reduced vertex c, term-reduced vertex t)
+term-reduced κ (number x) = literal-reduces κ x
+term-reduced κ (operator o s t) =
+    operator-reduces κ o (query-nodes κ s ++ query-nodes κ t)
+    ∙ (let e : reduced (query-nodes κ s ++ query-nodes κ t) ≡ reduction-count s + reduction-count t =
+    omega (arith, reduced-append (query-nodes κ s) (query-nodes κ t), term-reduced κ s, term-reduced κ t) in e)
+
+-- nothing of a vertex term is in the final expression, and so nothing of two
+vertices-final : (table : List ℕ) (k : ℕ) (s t : VertexTerm) → selected 1 table k (query-nodes vertex s) ≡ []
+    → selected 1 table (k + reduced (query-nodes vertex s)) (query-nodes vertex t) ≡ []
+    → selected 1 table k (query-nodes vertex s ++ query-nodes vertex t) ≡ []
+vertices-final table k s t p q = selected-append 1 table k (query-nodes vertex s) (query-nodes vertex t) ∙ ap₂ _++_ p q
+
+pub vertex-final : (table : List ℕ) (k : ℕ) (t : VertexTerm) → selected 1 table k (query-nodes vertex t) ≡ []
 unfolding selected fused-term final-term size apply-node literal-node literal-tag
-vertex-final table k (leaf c) = refl
-vertex-final table k (literal x) = refl
-vertex-final table k (apply o s t) =
-    let j = k + reduces (Apply o) in
-    selected-append 1 table j (vertex-nodes s) (vertex-nodes t) ∙ ap₂ _++_ (vertex-final table j s) (vertex-final table (j + reduced (vertex-nodes s)) t)
-
--- a result term has as many reductions as leaves
-result-reduced : (t : ResultTerm) → reduced (result-nodes t) ≡ length (leaves t)
-unfolding reduced reduces apply-node literal-node literal-tag
-result-reduced (leaf e) = omega (arith, vertex-reduced (e .body))
-result-reduced (literal x) = refl
-result-reduced (apply o s t) =
-    omega (arith, reduced-append (result-nodes s) (result-nodes t), result-reduced s, result-reduced t, length-append (leaves s) (leaves t))
+vertex-final table k (path c) = refl
+vertex-final table k (number x) = refl
+vertex-final table k (operator o s t) = vertices-final table (k + reduces (Apply o)) s t (vertex-final table (k + reduces (Apply o)) s)
+    (vertex-final table (k + reduces (Apply o) + reduced (query-nodes vertex s)) t)
 
 -- THE FINAL EXPRESSION: the reductions are numbered as written
-pub result-final : (table : List ℕ) (k : ℕ) (t : ResultTerm) → selected 1 table k (result-nodes t) ≡ final-nodes (enumerate k t)
+pub result-final : (table : List ℕ) (k : ℕ) (t : ResultTerm) → selected 1 table k (query-nodes result t) ≡ final-nodes (final k t)
 unfolding selected fused-term final-term size reduces apply-node literal-node literal-tag
-result-final table k (leaf e) = ap (λ (l : List Node). node (EntryIndex k) ∷ l) (vertex-final table (k + 1) (e .body))
-result-final table k (literal x) = refl
-result-final table k (apply o s t) =
+result-final table k (over o t) = ap (λ (l : List Node). node (EntryIndex k) ∷ l) (vertex-final table (k + 1) t)
+result-final table k (over-where o c t) =
+    ap (λ (l : List Node). node (EntryIndex k) ∷ l)
+    (vertices-final table (k + 1) c t (vertex-final table (k + 1) c) (vertex-final table (k + 1 + reduced (query-nodes vertex c)) t))
+result-final table k (number x) = refl
+result-final table k (operator o s t) =
     let e : k + 0 ≡ k = omega arith in
     ap (λ (l : List Node). node (ResultApply o) ∷ l)
-    (selected-append 1 table (k + 0) (result-nodes s) (result-nodes t)
-    ∙ ap₂ _++_ (ap (λ (j : ℕ). selected 1 table j (result-nodes s)) e ∙ result-final table k s)
-    (ap₂ (λ (i j : ℕ). selected 1 table (i + j) (result-nodes t)) e (result-reduced s) ∙ result-final table (k + length (leaves s)) t))
+    (selected-append 1 table (k + 0) (query-nodes result s) (query-nodes result t)
+    ∙ ap₂ _++_ (ap (λ (j : ℕ). selected 1 table j (query-nodes result s)) e ∙ result-final table k s)
+    (ap₂ (λ (i j : ℕ). selected 1 table (i + j) (query-nodes result t)) e (term-reduced result s) ∙ result-final table (k + reduction-count s) t))
 
 -- the nodes of two lists of entries are one behind the other
 entries-append : (es ds : List (VertexReduction ℕ)) → entries-nodes (es ++ ds) ≡ entries-nodes es ++ entries-nodes ds
 entries-append [] ds = refl
 entries-append (e ∷ es) ds =
-    ap (λ (l : List Node). node (Entry (e .reduction)) ∷ l)
-    (ap (λ (l : List Node). entry-nodes (e .body) ++ l) (entries-append es ds)
-    ∙ sym (append-assoc (entry-nodes (e .body)) (entries-nodes es) (entries-nodes ds)))
+    let a = condition-nodes (e .condition) in
+    let b = entry-nodes (e .body) in
+    ap (λ (l : List Node). node (Entry (reduction-byte (e .reduction) (e .condition))) ∷ l)
+    (ap (λ (l : List Node). a ++ (b ++ l)) (entries-append es ds)
+    ∙ ap (λ (l : List Node). a ++ l) (sym (append-assoc b (entries-nodes es) (entries-nodes ds)))
+    ∙ sym (append-assoc a (b ++ entries-nodes es) (entries-nodes ds)))
 
 -- over the different path reductions of the query
 module _ (cs : List PathReduction) (legal : All (PathFits 256) cs) (rest : List ℕ) where
   abbrev table : List ℕ
   table = map path-number cs ++ rest
 
-  -- its path reductions are among them
-  abbrev Known : VertexTerm → Type 0
-  Known t = All (λ c. T (among c cs)) (leaves t)
+  -- they are among them
+  abbrev Known : List PathReduction → Type 0
+  Known = All (λ c. T (among c cs))
 
   -- A VERTEX TERM IN AN ENTRY: each path reduction by its position
-  pub vertex-entry : (k : ℕ) (t : VertexTerm) → Every (PathFits 256) t → Known t
-      → selected 0 table k (vertex-nodes t) ≡ entry-nodes (rename (λ c. position c cs) t)
+  pub vertex-entry : (k : ℕ) (t : VertexTerm) → TermFits 256 t → Known (paths t) → selected 0 table k (query-nodes vertex t) ≡ entry-nodes (expression cs t)
   unfolding selected fused-term entry-term size apply-node literal-node literal-tag
-  vertex-entry k (leaf c) f h = ap (λ (i : ℕ). node (PathIndex i) ∷ []) (index-position c f cs legal rest (h .0))
-  vertex-entry k (literal x) f h = refl
-  vertex-entry k (apply o s t) f h =
+  vertex-entry k (path c) f h = ap (λ (i : ℕ). node (PathIndex i) ∷ []) (index-position c f cs legal rest (h .0))
+  vertex-entry k (number x) f h = refl
+  vertex-entry k (operator o s t) f h =
       let j = k + reduces (Apply o) in
       ap (λ (l : List Node). node (Apply o) ∷ l)
-      (selected-append 0 table j (vertex-nodes s) (vertex-nodes t)
-      ∙ ap₂ _++_ (vertex-entry j s (f .2) (all-left _ (leaves s) (leaves t) h))
-      (vertex-entry (j + reduced (vertex-nodes s)) t (f .3) (all-right _ (leaves s) (leaves t) h)))
+      (selected-append 0 table j (query-nodes vertex s) (query-nodes vertex t)
+      ∙ ap₂ _++_ (vertex-entry j s (f .2) (all-left _ (paths s) (paths t) h))
+      (vertex-entry (j + reduced (query-nodes vertex s)) t (f .3) (all-right _ (paths s) (paths t) h)))
 
   -- THE ENTRIES: one for each reduction, in written order
-  pub result-entries : (k : ℕ) (t : ResultTerm) → Every (EveryBody (PathFits 256)) t → All (λ e. Known (e .body)) (leaves t)
-      → selected 0 table k (result-nodes t) ≡ entries-nodes (map (entry cs) (leaves t))
+  pub result-entries : (k : ℕ) (t : ResultTerm) → TermFits 256 t → Known (paths t)
+      → selected 0 table k (query-nodes result t) ≡ entries-nodes (entries cs t)
   unfolding selected fused-term entry-term size apply-node literal-node literal-tag
-  result-entries k (leaf e) f h =
-      ap (λ (l : List Node). node (Entry (e .reduction)) ∷ l)
-      (vertex-entry (k + reduces (Reduce (e .reduction))) (e .body) (f .2) (h .0) ∙ sym (append-nil (entry-nodes (rename (λ c. position c cs) (e .body)))))
-  result-entries k (literal x) f h = refl
-  result-entries k (apply o s t) f h =
+  result-entries k (over o t) f h =
+      ap (λ (l : List Node). node (Entry o) ∷ l)
+      (vertex-entry (k + reduces (Reduce o)) t (f .2) h ∙ sym (append-nil (entry-nodes (expression cs t))))
+  result-entries k (over-where o c t) f h =
+      let j = k + reduces (ReduceWhere o) in
+      let byte : o % 128 + 128 ≡ 128 + o = omega (arith, f .1) in
+      ap₂ (λ (b : ℕ) (l : List Node). node (Entry b) ∷ l) byte
+      (selected-append 0 table j (query-nodes vertex c) (query-nodes vertex t)
+      ∙ ap₂ _++_ (vertex-entry j c (f .2) (all-left _ (paths c) (paths t) h))
+      (vertex-entry (j + reduced (query-nodes vertex c)) t (f .3) (all-right _ (paths c) (paths t) h)
+      ∙ sym (append-nil (entry-nodes (expression cs t)))))
+  result-entries k (number x) f h = refl
+  result-entries k (operator o s t) f h =
       let j = k + reduces (ResultApply o) in
-      selected-append 0 table j (result-nodes s) (result-nodes t)
-      ∙ ap₂ _++_ (result-entries j s (f .2) (all-left _ (leaves s) (leaves t) h))
-      (result-entries (j + reduced (result-nodes s)) t (f .3) (all-right _ (leaves s) (leaves t) h))
-      ∙ sym (entries-append (map (entry cs) (leaves s)) (map (entry cs) (leaves t)))
-      ∙ ap entries-nodes (sym (map-append (entry cs) (leaves s) (leaves t)))
-
--- what holds of the path reductions of all bodies holds of those of each
-pub each-body : (P : PathReduction → Type 0) (es : List (VertexReduction PathReduction)) → All P (bodies es) → All (λ e. All P (leaves (e .body))) es
-each-body P [] h = tt
-each-body P (e ∷ es) h = (all-left P (leaves (e .body)) (bodies es) h, each-body P es (all-right P (leaves (e .body)) (bodies es) h))
+      selected-append 0 table j (query-nodes result s) (query-nodes result t)
+      ∙ ap₂ _++_ (result-entries j s (f .2) (all-left _ (paths s) (paths t) h))
+      (result-entries (j + reduced (query-nodes result s)) t (f .3) (all-right _ (paths s) (paths t) h))
+      ∙ sym (entries-append (entries cs s) (entries cs t))

@@ -11,7 +11,7 @@ use lib.ListN.{length, set, take, replicate, length-append}
 use lib.Seq.{append-snoc, set-at}
 use Rattle.nodes.specs.declared.Node.{Node}
 use Rattle.nodes.specs.declared.Term.{Term}
-use Rattle.nodes.specs.declared.Term.the-variants.{Apply, Empty, Entry, EntryIndex, Literal, Path, PathIndex, Reduce, ResultApply, ResultLiteral}
+use Rattle.nodes.specs.declared.Term.the-variants.{Apply, Empty, Entry, EntryIndex, Literal, Path, PathIndex, Reduce, ReduceWhere, ResultApply, ResultLiteral}
 use Rattle.nodes.specs.Nodes.{node, padded}
 use Rattle.fusion.specs.declared.Written.{Written}
 use Rattle.fusion.specs.Steps.{fused-term, put-part, put-term, reduces, size}
@@ -61,6 +61,7 @@ size-cases (Path w) = inr refl
 size-cases (Literal x) = inr refl
 size-cases (Apply o) = inr refl
 size-cases (Reduce o) = inr refl
+size-cases (ReduceWhere o) = inr refl
 size-cases (ResultLiteral x) = inr refl
 size-cases (ResultApply o) = inr refl
 size-cases (PathIndex i) = inr refl

@@ -6,3 +6,4 @@ pub mod Rounds
 pub mod Main
 pub mod Limits
 pub mod Bounds
+pub mod Samples

@@ -9,18 +9,18 @@ use lib.Dec.{eqb}
 use lib.ListN.{length}
 use Rattle.meaning.specs.Limits.{QueryLegal, query-reductions, query-terms}
 use Rattle.meaning.specs.Plan.{put-all}
-use Rattle.meaning.specs.Query.{Query, each, single, written-paths}
+use Rattle.meaning.specs.Query.{Query, each, result, single, vertex, written-paths}
 use Rattle.nodes.specs.declared.Node.{Node}
 use Rattle.nodes.specs.Text.{nodes-text}
 use Rattle.nodes.specs.Steps.{nodes-read}
-use Rattle.nodes.specs.Tree.{result-nodes, vertex-nodes}
-use Rattle.nodes.proofs.Exact.{result-collected, result-size, result-text, vertex-collected, vertex-size, vertex-text}
+use Rattle.nodes.specs.Tree.{query-nodes}
+use Rattle.nodes.proofs.Exact.{query-collected, query-size, query-text}
 use Rattle.nodes.proofs.Held.{first-nodes, read-whole}
 use Rattle.query.specs.Query.{encode, query-code, query-scan}
 use Rattle.query.specs.Tree.{query-of}
 use Rattle.query.proofs.Exact.{read-complete}
 use Rattle.query.proofs.Tree.{query-back, query-read}
-use Rattle.term_text.specs.Text.{path-number, result-bytes, vertex-bytes}
+use Rattle.term_text.specs.Text.{path-number, query-bytes}
 use Rattle.wire.specs.Header.{header-bytes}
 use Rattle.wire.specs.Wire.{Bytes, done}
 use Rattle.query_form.specs.declared.Reading.{Reading}
@@ -31,11 +31,11 @@ use Rattle.query_form.specs.Steps.{form-after, read-after}
 nodes-are : (q : Query) → QueryLegal 256 q → nodes-read (query-terms q) (encode q) 6 ≡ form-of q .nodes
 unfolding form-of
 nodes-are (each t) l =
-    read-whole (encode (each t)) 6 (6 + length (vertex-bytes t)) (query-terms (each t)) (vertex-nodes t) (omega (arith, l .few-terms))
-    (vertex-collected (encode (each t)) t (l .legal) 6 0 [] (sym (append-nil (vertex-bytes t))))
+    read-whole (encode (each t)) 6 (6 + length (query-bytes vertex t)) (query-terms (each t)) (query-nodes vertex t) (omega (arith, l .few-terms))
+    (query-collected (encode (each t)) vertex t (l .legal) 6 0 [] (sym (append-nil (query-bytes vertex t))))
 nodes-are (single t) l =
-    read-whole (encode (single t)) 6 (6 + length (result-bytes t)) (query-terms (single t)) (result-nodes t) (omega (arith, l .few-terms))
-    (result-collected (encode (single t)) t (l .legal) 6 0 [] (sym (append-nil (result-bytes t))))
+    read-whole (encode (single t)) 6 (6 + length (query-bytes result t)) (query-terms (single t)) (query-nodes result t) (omega (arith, l .few-terms))
+    (query-collected (encode (single t)) result t (l .legal) 6 0 [] (sym (append-nil (query-bytes result t))))
 
 -- the form made of the bytes of a legal query is the query's
 form-made : (q : Query) → QueryLegal 256 q → form-after (encode q) (query-terms q) ≡ form-of q
@@ -90,11 +90,11 @@ read-steps s b = go (eqb (query-code s) 0) refl
 pub write-form : (q : Query) → QueryLegal 256 q → form-bytes (form-of q) ≡ encode q
 unfolding form-of form-bytes
 write-form (each t) l =
-    let list = first-nodes (query-terms (each t)) (vertex-nodes t) (vertex-size t) in
-    ap (λ (b : List ℕ). header-bytes 0x51 ++ (0 ∷ b)) (ap nodes-text list ∙ vertex-text t (l .legal))
+    let list = first-nodes (query-terms (each t)) (query-nodes vertex t) (query-size vertex t) in
+    ap (λ (b : List ℕ). header-bytes 0x51 ++ (0 ∷ b)) (ap nodes-text list ∙ query-text vertex t (l .legal))
 write-form (single t) l =
-    let list = first-nodes (query-terms (single t)) (result-nodes t) (result-size t) in
-    ap (λ (b : List ℕ). header-bytes 0x51 ++ (1 ∷ b)) (ap nodes-text list ∙ result-text t (l .legal))
+    let list = first-nodes (query-terms (single t)) (query-nodes result t) (query-size result t) in
+    ap (λ (b : List ℕ). header-bytes 0x51 ++ (1 ∷ b)) (ap nodes-text list ∙ query-text result t (l .legal))
 
 -- WRITING WHAT WAS READ GIVES THE BYTES READ
 pub write-read : (s : List ℕ) → Bytes s → query-code s ≡ 0 → (room : ℕ) → length s ≤ room → write-reply (query-reading s .form) room

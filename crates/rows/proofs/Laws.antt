@@ -1,5 +1,5 @@
 -- What the code's proofs cite: the rows as arrays that a loop fills from the front. Assumes nothing.
-use Prim.Native.Nat.{ℕ, zero, suc, _+_, _-_, min}
+use Prim.Native.Nat.{ℕ, zero, suc, _+_, _-_, _%_, min}
 use mathlib.Core.Path.{_≡_, refl, ap, ap₂, _∙_}
 use mathlib.Core.List.{List, [], _∷_, _++_, map}
 use borrow.Author.Tests.{eq-eqb, ne-eqb}
@@ -10,7 +10,7 @@ use Rattle.value.specs.declared.Row.{Row}
 use Rattle.value.specs.declared.Value.{Value}
 use Rattle.value.specs.declared.Value.the-variants.{Absent}
 use Rattle.value.specs.Value.{reduce, values}
-use Rattle.eval.specs.Steps.{body-found, count-at, eight, entries-end, entry-rows, evaluated, expression-end, final-found, results, row}
+use Rattle.eval.specs.Steps.{body-found, count-at, eight, entries-end, entry-end, entry-found, entry-rows, final-found, results, row}
 use Rattle.eval.proofs.Fill.{filled, fill-front}
 use Rattle.rounds.specs.Steps.{value-in}
 use Rattle.rows.specs.Steps.{many, rows-at}
@@ -36,7 +36,7 @@ rows-at-filled figures paths v = eight-filled (λ j. value-in figures j v) (min 
 
 -- the row of an entry at the vertex v
 abbrev pub entry-row : List ℕ → (ℕ → List Row) → ℕ → ℕ → Row
-entry-row s F at v = row (evaluated 16 s (F v) at .value)
+entry-row s F at v = row (entry-found s (F v) at .value)
 
 -- where entry k starts, the first at `at`
 module _ (s : List ℕ) where
@@ -46,10 +46,10 @@ module _ (s : List ℕ) where
   end-none at = refl
 
   -- the next
-  pub end-next : (k at : ℕ) → expression-end s (entries-end k s at + 1) ≡ entries-end (suc k) s at
+  pub end-next : (k at : ℕ) → entry-end s (entries-end k s at) ≡ entries-end (suc k) s at
   unfolding entries-end
   end-next zero at = refl
-  end-next (suc k) at = end-next k (expression-end s (at + 1))
+  end-next (suc k) at = end-next k (entry-end s at)
 
 module _ (s : List ℕ) (F : ℕ → List Row) (n : ℕ) where
   -- the rows of an entry at all vertices, and the first n of the array
@@ -63,7 +63,7 @@ module _ (s : List ℕ) (F : ℕ → List Row) (n : ℕ) where
 
   -- the result of the entry at a position; the row of entry k
   abbrev pub result-at : ℕ → Value
-  result-at at = reduce (getD s at 0) (values (entry-rows s (at + 1) F n))
+  result-at at = reduce (getD s at 0 % 128) (values (entry-rows s at F n))
 
   abbrev pub result-row : ℕ → ℕ → Row
   result-row at k = row (result-at (entries-end k s at))
@@ -81,7 +81,7 @@ module _ (s : List ℕ) (F : ℕ → List Row) (n : ℕ) where
       ∙ eight-filled (λ j. result-at (entries-end j s at)) k
 
   -- the body of kind 0
-  pub body-each : getD s 5 0 ≡ 0 → body-found s F n ≡ entry-rows s (count-at s + 2) F n
+  pub body-each : getD s 5 0 ≡ 0 → body-found s F n ≡ entry-rows s (count-at s + 1) F n
   unfolding body-found
   body-each e = rw (eq-eqb (getD s 5 0) 0 e) refl
 

@@ -4,15 +4,14 @@ use mathlib.Core.List.{map}
 use Rattle.meaning.specs.Run.{pull, push, run, stopped}
 use Rattle.query.specs.Query.{query-code, query-scan}
 use Rattle.query.specs.Tree.{query-of}
-use Rattle.plan.specs.Plan.{body-scan, plan-code, entries-scan, entry-scan, final-scan, moved, plan-scan, listed-code, listed-scan, listed-step, listed-word}
+use Rattle.plan.specs.Plan.{body-scan, plan-code, entries-scan, entry-scan, expressions-scan, final-scan, moved, plan-scan, listed-code, listed-scan, listed-step, listed-word}
 use Rattle.fusion.specs.Fusion.{fuse-reply}
-use Rattle.term_text.specs.Tree.{written-path, reduction-of, term-of}
+use Rattle.term_text.specs.Tree.{query-term-of, written-path, written-reduction}
 use Rattle.path_fields.specs.Paths.{keys-code, path-code, path-word}
 use Rattle.terms.specs.Terms.{
   advanced,
   kept-path,
   leaf-step,
-  leaf-tag,
   literal-tag,
   path-step,
   read,
@@ -33,8 +32,8 @@ use Rattle.trials.specs.Trials.{finding, stated, trials}
 
 -- THE MARKED TRIALS HOLD: by pull and by push, what readers say, what fusing gives
 pub marked-trials : map finding trials ≡ map stated trials
-unfolding run stopped rounds first state marked gather best key-row query-scan header-code ended started blank read term-step leaf-step leaf-tag literal-tag
-    path-step path-code keys-code kept-path slot-of advanced path-word reduce-step fuse-reply query-of term-of written-path reduction-of compute combine
+unfolding run stopped rounds first state marked gather best key-row query-scan header-code ended started blank read term-step leaf-step literal-tag
+    path-step path-code keys-code kept-path slot-of advanced path-word reduce-step fuse-reply query-of query-term-of written-path written-reduction compute combine
 marked-trials = refl
 
 -- operators and reductions
@@ -50,7 +49,7 @@ runs-hold = (refl, refl)
 -- the numbers that readers of questions and worksheets give
 pub numbers-hold : (map (λ (r : Reading). query-code (r .bytes)) queries ≡ map (λ (r : Reading). r .number) queries)
     × (map (λ (r : Reading). plan-code (r .bytes)) plans ≡ map (λ (r : Reading). r .number) plans)
-unfolding query-scan header-code ended started blank read term-step leaf-step leaf-tag literal-tag path-step path-code keys-code kept-path slot-of advanced
+unfolding query-scan header-code ended started blank read term-step leaf-step literal-tag path-step path-code keys-code kept-path slot-of advanced
     path-word reduce-step index-step literal-step key-row plan-scan listed-scan listed-step listed-code listed-word body-scan moved entries-scan entry-scan
-    final-scan
+    expressions-scan final-scan
 numbers-hold = (refl, refl)

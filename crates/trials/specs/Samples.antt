@@ -4,7 +4,7 @@ use mathlib.Core.List.{List, [], _∷_}
 use mathlib.Core.Option.{Option, none, some}
 use Rattle.meaning.specs.Meaning.{Outcome}
 use Rattle.meaning.specs.Plan.{fuse}
-use Rattle.meaning.specs.Query.{PathReduction, Query, apply, each, leaf, literal, single}
+use Rattle.meaning.specs.Query.{Query, VertexTerm, each, number, operator, over, over-where, path, single}
 use Rattle.meaning.specs.Run.{Way, run, stopped}
 use Rattle.value.specs.declared.Value.{Value}
 use Rattle.value.specs.declared.Value.the-variants.{Absent, Number}
@@ -73,14 +73,17 @@ outcome-by way s = limited (way (s .graph)) (s .graph) (s .query) (s .limit)
 abbrev sample : Graph → Query → Option ℕ → ℕ → List Value → Run
 sample g q limit rounds xs = record { graph = g; query = q; limit = limit; outcome = record { rounds = rounds; rows = xs } }
 
-abbrev path : List ℕ → ℕ → PathReduction
-path ks s = record { keys = ks; source = s }
+abbrev from : List ℕ → ℕ → VertexTerm
+from ks s = path (record { keys = ks; source = s })
 
 -- the sum over vertices of the least weight from 0, less the greatest sum of fewest edges and least weight: 12 - 7
 abbrev two-paths : Query
 two-paths =
-    single (apply 4 (leaf (record { reduction = 3; body = leaf (path (2 ∷ []) 0) }))
-    (leaf (record { reduction = 2; body = apply 3 (leaf (path (1 ∷ []) 0)) (leaf (path (2 ∷ []) 0)) })))
+    single (operator 4 (over 3 (from (2 ∷ []) 0)) (over 2 (operator 3 (from (1 ∷ []) 0) (from (2 ∷ []) 0))))
+
+-- "the sum, or the largest, over places farther than a given time": of the seconds from 0, where they are above k
+abbrev farther : ℕ → ℕ → Query
+farther o k = single (over-where o (operator 9 (from (2 ∷ []) 0) (number k)) (from (2 ∷ []) 0))
 
 -- 0→1 9 s, 0→2 1 s, 2→1 1 s, all of size 3: in round 2 only the weight at 1 changes
 abbrev detour : Graph
@@ -90,22 +93,28 @@ detour = record { vertices = 3; edges = edge 0 1 9 3 ∷ edge 0 2 1 3 ∷ edge 2
 abbrev pub runs : List Run
 runs =
     -- keys 3 and 4, from anywhere: the least and the greatest vertex that a walk starts at
-    sample graph-a (each (leaf (path (3 ∷ []) 65535))) none 3 (Number 0 ∷ Number 0 ∷ Number 0 ∷ Number 0 ∷ [])
-    ∷ sample graph-a (each (leaf (path (4 ∷ []) 65535))) none 2 (Number 0 ∷ Number 2 ∷ Number 2 ∷ Number 3 ∷ [])
-    ∷ sample graph-a (each (leaf (path (4 ∷ []) 2))) none 3 (Absent ∷ Number 2 ∷ Number 2 ∷ Number 2 ∷ [])
+    sample graph-a (each (from (3 ∷ []) 65535)) none 3 (Number 0 ∷ Number 0 ∷ Number 0 ∷ Number 0 ∷ [])
+    ∷ sample graph-a (each (from (4 ∷ []) 65535)) none 2 (Number 0 ∷ Number 2 ∷ Number 2 ∷ Number 3 ∷ [])
+    ∷ sample graph-a (each (from (4 ∷ []) 2)) none 3 (Absent ∷ Number 2 ∷ Number 2 ∷ Number 2 ∷ [])
     -- three keys: of the walks of least weight those of fewest edges
-    ∷ sample graph-a (each (leaf (path (2 ∷ 1 ∷ 6 ∷ []) 0))) none 3 (Number 65535 ∷ Number 10 ∷ Number 4 ∷ Number 7 ∷ [])
+    ∷ sample graph-a (each (from (2 ∷ 1 ∷ 6 ∷ []) 0)) none 3 (Number 65535 ∷ Number 10 ∷ Number 4 ∷ Number 7 ∷ [])
     -- "when the figure of any of its keys changes, the earlier keys included"
-    ∷ sample detour (each (leaf (path (2 ∷ 6 ∷ []) 0))) none 3 (Number 65535 ∷ Number 3 ∷ Number 3 ∷ [])
+    ∷ sample detour (each (from (2 ∷ 6 ∷ []) 0)) none 3 (Number 65535 ∷ Number 3 ∷ Number 3 ∷ [])
     -- two path reductions, three times written; operands in order
     ∷ sample graph-a two-paths none 3 (Number 5 ∷ [])
-    ∷ sample graph-a (each (apply 6 (literal 7) (leaf (path (2 ∷ []) 0)))) none 3 (Absent ∷ Number 1 ∷ Number 3 ∷ Number 1 ∷ [])
+    ∷ sample graph-a (each (operator 6 (number 7) (from (2 ∷ []) 0))) none 3 (Absent ∷ Number 1 ∷ Number 3 ∷ Number 1 ∷ [])
+    -- "A place counts where the condition is a number other than 0; an absent condition leaves the place out"; an absent value is skipped; with none left absent
+    ∷ sample graph-a (farther 3 2) none 3 (Number 10 ∷ [])
+    ∷ sample graph-a (farther 2 2) none 3 (Number 5 ∷ [])
+    ∷ sample graph-a (farther 3 9) none 3 (Absent ∷ [])
+    ∷ sample graph-a (single (over-where 3 (from (2 ∷ []) 2) (number 7))) none 3 (Number 14 ∷ [])
+    ∷ sample graph-a (single (over-where 1 (number 1) (from (2 ∷ []) 2))) none 3 (Number 0 ∷ [])
     -- "With no chain that is round 1."
-    ∷ sample graph-a (single (literal 9)) none 1 (Number 9 ∷ [])
+    ∷ sample graph-a (single (number 9)) none 1 (Number 9 ∷ [])
     -- "stopped after a given 16-bit number of rounds, 0 allowed; it then does that many, quiet or not"
-    ∷ sample graph-a (each (leaf (path (2 ∷ []) 0))) (some 0) 0 (Number 0 ∷ Absent ∷ Absent ∷ Absent ∷ [])
-    ∷ sample graph-a (each (leaf (path (2 ∷ []) 0))) (some 1) 1 (Number 0 ∷ Number 5 ∷ Number 2 ∷ Absent ∷ [])
-    ∷ sample graph-a (each (leaf (path (2 ∷ []) 0))) (some 5) 5 (Number 0 ∷ Number 5 ∷ Number 2 ∷ Number 5 ∷ [])
+    ∷ sample graph-a (each (from (2 ∷ []) 0)) (some 0) 0 (Number 0 ∷ Absent ∷ Absent ∷ Absent ∷ [])
+    ∷ sample graph-a (each (from (2 ∷ []) 0)) (some 1) 1 (Number 0 ∷ Number 5 ∷ Number 2 ∷ Absent ∷ [])
+    ∷ sample graph-a (each (from (2 ∷ []) 0)) (some 5) 5 (Number 0 ∷ Number 5 ∷ Number 2 ∷ Number 5 ∷ [])
     ∷ []
 
 -- the bytes of a question or a worksheet, with the number that reading them gives
@@ -135,6 +144,14 @@ queries =
     ∷ headed 0x51 (0x00 ∷ 0x11 ∷ 0x00 ∷ 0x00 ∷ 0x00 ∷ []) 1
     ∷ headed 0x51 (0x00 ∷ 0x11 ∷ 0x00 ∷ 0x00 ∷ 0x00 ∷ 0x00 ∷ 0x00 ∷ []) 6
     ∷ headed 0x57 (0x00 ∷ 0x11 ∷ 0x00 ∷ 0x00 ∷ 0x00 ∷ 0x00 ∷ []) 2
+    -- a condition and a value; no value, no condition, no reduction; a sixth reduction; a result term for a condition; a reduction in a place term
+    ∷ headed 0x51 (0x01 ∷ 0x23 ∷ 0x03 ∷ 0x11 ∷ 0x01 ∷ 0x00 ∷ 0x00 ∷ 0x00 ∷ 0x10 ∷ 0x01 ∷ 0x02 ∷ 0x00 ∷ 0x00 ∷ []) 0
+    ∷ headed 0x51 (0x01 ∷ 0x23 ∷ 0x03 ∷ 0x11 ∷ 0x01 ∷ 0x00 ∷ 0x00 ∷ 0x00 ∷ []) 1
+    ∷ headed 0x51 (0x01 ∷ 0x23 ∷ 0x03 ∷ []) 1
+    ∷ headed 0x51 (0x01 ∷ 0x23 ∷ []) 1
+    ∷ headed 0x51 (0x01 ∷ 0x23 ∷ 0x06 ∷ []) 9
+    ∷ headed 0x51 (0x01 ∷ 0x23 ∷ 0x03 ∷ 0x21 ∷ 0x01 ∷ 0x00 ∷ 0x00 ∷ 0x00 ∷ []) 9
+    ∷ headed 0x51 (0x00 ∷ 0x23 ∷ 0x03 ∷ []) 9
     ∷ []
 
 -- samples of worksheets
@@ -148,4 +165,10 @@ plans =
     ∷ headed 0x57 (0x00 ∷ 0x00 ∷ 0x01 ∷ 0x00 ∷ 0x11 ∷ 0x07 ∷ 0x00 ∷ 0x00 ∷ 0x00 ∷ []) 0
     ∷ headed 0x57 (0x00 ∷ 0x00 ∷ 0x01 ∷ 0x00 ∷ 0x30 ∷ 0x00 ∷ []) 16
     ∷ headed 0x57 (0x00 ∷ 0x01 ∷ 0x01 ∷ 0x02 ∷ 0x03 ∷ 0x00 ∷ 0x00 ∷ 0x00 ∷ 0x01 ∷ 0x00 ∷ 0x30 ∷ 0x00 ∷ []) 9
+    -- with 128 added a condition stands before the value: 129 to 133 and no other, for kind 1 alone
+    ∷ headed 0x57 (0x01 ∷ 0x00 ∷ 0x01 ∷ 0x81 ∷ 0x11 ∷ 0x01 ∷ 0x00 ∷ 0x00 ∷ 0x00 ∷ 0x11 ∷ 0x07 ∷ 0x00 ∷ 0x00 ∷ 0x00 ∷ 0x31 ∷ 0x00 ∷ []) 0
+    ∷ headed 0x57 (0x01 ∷ 0x00 ∷ 0x01 ∷ 0x81 ∷ 0x11 ∷ 0x01 ∷ 0x00 ∷ 0x00 ∷ 0x00 ∷ 0x31 ∷ 0x00 ∷ []) 9
+    ∷ headed 0x57 (0x01 ∷ 0x00 ∷ 0x01 ∷ 0x80 ∷ []) 9
+    ∷ headed 0x57 (0x01 ∷ 0x00 ∷ 0x01 ∷ 0x86 ∷ []) 9
+    ∷ headed 0x57 (0x00 ∷ 0x00 ∷ 0x01 ∷ 0x81 ∷ []) 9
     ∷ []

@@ -4,7 +4,7 @@ use mathlib.Core.List.{List, [], _∷_}
 use mathlib.Core.Option.{Option, none, some}
 use Rattle.fusion.specs.Fusion.{fuse-reply}
 use Rattle.meaning.specs.Plan.{fuse}
-use Rattle.meaning.specs.Query.{Query, each, leaf}
+use Rattle.meaning.specs.Query.{Query, each, path}
 use Rattle.meaning.specs.Run.{Way, pull, push, run}
 use Rattle.query.specs.Query.{query-code}
 use Rattle.query.specs.Tree.{query-of}
@@ -61,7 +61,7 @@ graph n es = record { vertices = n; edges = es }
 
 -- a trial of one path reduction: its keys and source, the rounds and the values
 abbrev path-answers : Graph → List ℕ → ℕ → Option ℕ → List Value → Trial
-path-answers g ks s r xs = answers g (each (leaf (record { keys = ks; source = s }))) (expected xs r)
+path-answers g ks s r xs = answers g (each (path (record { keys = ks; source = s }))) (expected xs r)
 
 -- "Map A: 4 places; 0→1 5 s size 10; 0→2 2 s size 4; 2→1 3 s size 20; 1→3 0 s size 7."
 abbrev pub graph-a : Graph

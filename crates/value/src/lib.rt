@@ -4,7 +4,7 @@ ghost use Prim.Native.Nat.{_+_, _-_, _*_, _/_, min, max};
 ghost use lib.Dec.{leb, eqb};
 ghost use lib.ListN.{take};
 ghost use mathlib.Core.Bool.{cond};
-ghost use Rattle.value.specs.Value.{number, truth, both, either, compute, operate, reduce, values};
+ghost use Rattle.value.specs.Value.{number, truth, both, either, compute, operate, reduce, values, counts};
 ghost use Rattle.value.specs.Steps.{start, joining, step, finish, where-counts};
 
 // "A value is a number or is absent."
@@ -188,17 +188,25 @@ fn finish_of(partial: Partial) -> Value
     }
 }
 
-// "A place counts where the condition is a number other than 0; an absent condition leaves the place out": its value, or absent.
+// "A place counts where the condition is a number other than 0; an absent condition leaves the place out."
+fn counts_by(condition: Value) -> bool
+    ensures { λ r. ⌜ r ≡ counts condition ⌝ }
+{
+    let Value::Number(x) = condition else {
+        return false;
+    };
+    x != 0
+}
+
+// The value of a place that counts; absent at another.
 pub fn where_counts(condition: Value, v: Value) -> Value
     ensures { λ r. ⌜ r ≡ where-counts condition v ⌝ }
 {
-    let Value::Number(x) = condition else {
-        return Value::Absent;
-    };
-    if x == 0 {
-        return Value::Absent;
+    if counts_by(condition) {
+        v
+    } else {
+        Value::Absent
     }
-    v
 }
 
 fn at_most_256(n: usize) -> usize

@@ -23,10 +23,14 @@ unfolding entry-term
 returns-4 c = rw (c .before .t4 .given .1) refl
 
 returns-5 : tie.Need-returns-5
-returns-5 c = rw (entry-others _ _ (c .match .keys5)) refl
+unfolding entry-term
+returns-5 c = rw (c .before .t5 .given .1) refl
+
+returns-6 : tie.Need-returns-6
+returns-6 c = rw (entry-others _ _ (c .match .keys6)) refl
 
 pub entry-term-of-spec : {M : Type 1} → statement M
 entry-term-of-spec =
     tie.close
     (tie.spec (λ c. search needs) (λ c κs. search needs) (λ c. search needs) (λ c. search needs) (λ c. search needs) (λ c. search needs)
-    returns returns-2 returns-3 returns-4 returns-5)
+    (λ c. search needs) (λ c. search needs) returns returns-2 returns-3 returns-4 returns-5 returns-6)

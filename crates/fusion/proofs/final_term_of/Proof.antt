@@ -19,7 +19,11 @@ unfolding final-term
 returns-3 c = rw (c .before .t3 .given .1) refl
 
 returns-4 : tie.Need-returns-4
-returns-4 c = rw (final-others _ _ (c .match .keys4)) refl
+unfolding final-term
+returns-4 c = rw (c .before .t4 .given .1) refl
+
+returns-5 : tie.Need-returns-5
+returns-5 c = rw (final-others _ _ (c .match .keys5)) refl
 
 pub final-term-of-spec : {M : Type 1} → statement M
-final-term-of-spec = tie.close (tie.spec (λ c. search needs) (λ c. search needs) (λ c. search needs) returns returns-2 returns-3 returns-4)
+final-term-of-spec = tie.close (tie.spec (λ c. search needs) (λ c. search needs) (λ c. search needs) (λ c. search needs) returns returns-2 returns-3 returns-4 returns-5)

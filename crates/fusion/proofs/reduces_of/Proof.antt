@@ -12,7 +12,11 @@ unfolding reduces
 returns c = (rw (c .before .t .given .1) refl, omega arith)
 
 returns-2 : tie.Need-returns-2
-returns-2 c = (rw (reduces-others _ (c .match .keys2)) refl, omega arith)
+unfolding reduces
+returns-2 c = (rw (c .before .t2 .given .1) refl, omega arith)
+
+returns-3 : tie.Need-returns-3
+returns-3 c = (rw (reduces-others _ (c .match .keys3)) refl, omega arith)
 
 pub reduces-of-spec : {M : Type 1} → statement M
-reduces-of-spec = tie.close (tie.spec (λ c. search needs) returns returns-2)
+reduces-of-spec = tie.close (tie.spec (λ c. search needs) (λ c. search needs) returns returns-2 returns-3)

@@ -36,7 +36,7 @@ returns c =
     let count = c .before .before .before .before .lesser .ensures .0 in
     let kind = sym (c .before .before .byte .ensures) ∙ c .before .if1 .taken in
     c .entry-rows .ensures
-    ∙ ap many (ap₂ (λ (i k : ℕ). entry-rows plan (i + 2) F k) at count ∙ sym (body-each plan F (min (a .n) 256) kind))
+    ∙ ap many (ap₂ (λ (i k : ℕ). entry-rows plan (i + 1) F k) at count ∙ sym (body-each plan F (min (a .n) 256) kind))
 
 byte-requires-2 : tie.Need-byte-requires-2
 byte-requires-2 c κs = search needs

@@ -9,7 +9,7 @@ use Rattle.value.specs.declared.Row.{Row}
 use Rattle.value.specs.declared.Value.{Value}
 use Rattle.value.specs.declared.Value.the-variants.{Absent}
 use Rattle.eval.specs.declared.Found.{Found}
-use Rattle.eval.specs.Steps.{evaluated, row}
+use Rattle.eval.specs.Steps.{entry-found, row}
 use Rattle.eval.proofs.Fill.{filled, fill-next, fill-none}
 use Rattle.rows.specs.Steps.{rows-at}
 use Rattle.rows.proofs.Laws.{entry-filled, entry-row}
@@ -39,7 +39,7 @@ loop-again c =
     let a = s .args in
     let l = c .before .before .before .loop in
     let F : ℕ → List Row = rows-at (a .figures .now) (a .paths) in
-    let one = c .evaluate .ensures ∙ ap (λ (rows : List Row). evaluated 16 (a .plan .now) rows (a .at)) (c .before .values-at .ensures) in (
+    let one = c .entry .ensures ∙ ap (λ (rows : List Row). entry-found (a .plan .now) rows (a .at)) (c .before .values-at .ensures) in (
       omega arith,
       ap₂ (λ (rows : List Row) (value : Value). set rows (l .v) (row value)) (l .inv .1) (ap (λ (f : Found). f .value) one)
           ∙ fill-next 256 (entry-row (a .plan .now) F (a .at)) (row Absent) (l .v) (omega (arith, s .pre)),

@@ -8,8 +8,7 @@ use lib.ListN.{length, set}
 use Rattle.value.specs.declared.Row.{Row}
 use Rattle.value.specs.declared.Value.{Value}
 use Rattle.value.specs.declared.Value.the-variants.{Absent}
-use Rattle.eval.specs.Steps.{entries-end, expression-end, row}
-use Rattle.eval.proofs.Ends.{end-within}
+use Rattle.eval.specs.Steps.{entries-end, entry-end, row}
 use Rattle.eval.proofs.Fill.{filled, fill-next, fill-none}
 use Rattle.rows.specs.Steps.{rows-at}
 use Rattle.rows.proofs.Laws.{end-next, end-none, result-at, result-row, results-filled}
@@ -18,7 +17,7 @@ use Rattle.rows.proofs.results_of.Tie as tie
 
 abbrev Inv-loop : tie.InvT-loop
 Inv-loop plan at figures paths n e rows₀ next₀ k₀ rows next k =
-    (k ≤ e) × (next ≤ length plan + 2048 + k) × (next ≡ entries-end k plan at)
+    (k ≤ e) × (next ≡ entries-end k plan at)
     × (rows ≡ filled 8 (result-row plan (rows-at figures paths) n at) (row Absent) k)
 
 abbrev μ-loop : tie.MeasureT-loop
@@ -26,28 +25,23 @@ abbrev μ-loop : tie.MeasureT-loop
 
 loop-holds : tie.Need-loop-holds Inv-loop μ-loop
 loop-holds c =
-    let s = c .before .before in
-    let a = s .args in (
+    let a = c .before .before .args in (
       omega arith,
-      omega (arith, s .pre .1),
       end-none (a .plan .now) (a .at),
       sym (fill-none 8 (result-row (a .plan .now) (rows-at (a .figures .now) (a .paths)) (a .n) (a .at)) (row Absent)),
     )
 
 result-of-requires : tie.Need-result-of-requires Inv-loop μ-loop
-result-of-requires c κs = let s = c .before .before .before .before in (s .pre .0, omega (arith, s .pre .2))
+result-of-requires c κs = c .before .before .before .before .pre .0
 
 mul-rows : tie.Need-mul-rows Inv-loop μ-loop
-mul-rows c = omega (arith, c .before .before .before .before .before .pre .2)
+mul-rows c = omega (arith, c .before .before .before .before .before .pre .1)
 
 array-set-from-rows : tie.Need-array-set-from-rows Inv-loop μ-loop
-array-set-from-rows c = omega (arith, c .before .before .before .before .before .pre .2)
+array-set-from-rows c = omega (arith, c .before .before .before .before .before .pre .1)
 
-add-expression-end : tie.Need-add-expression-end Inv-loop μ-loop
-add-expression-end c = omega (arith, c .before .before .before .before .before .pre .2)
-
-expression-end-requires : tie.Need-expression-end-requires Inv-loop μ-loop
-expression-end-requires c κs = tt
+entry-end-requires : tie.Need-entry-end-requires Inv-loop μ-loop
+entry-end-requires c κs = tt
 
 add-k : tie.Need-add-k Inv-loop μ-loop
 add-k c = omega arith
@@ -62,16 +56,13 @@ loop-again c =
     let l = c .before .before .before .loop in
     let plan : List ℕ = a .plan .now in
     let F : ℕ → List Row = rows-at (a .figures .now) (a .paths) in
-    let end = c .expression-end .ensures in
-    let within = end-within plan (length plan + 2048 + (l .k + 1)) (l .next + 1) (omega arith) (omega arith) in
-    let next = end ∙ ap (λ (i : ℕ). expression-end plan (i + 1)) (l .inv .2) ∙ end-next plan (l .k) (a .at)
+    let next = c .entry-end .ensures ∙ ap (entry-end plan) (l .inv .1) ∙ end-next plan (l .k) (a .at)
     ∙ ap (λ (k : ℕ). entries-end k plan (a .at)) (sym (add-one (l .k))) in
-    let one = c .before .result-of .ensures ∙ ap (result-at plan F (a .n)) (l .inv .2) in (
+    let one = c .before .result-of .ensures ∙ ap (result-at plan F (a .n)) (l .inv .1) in (
       omega arith,
-      omega (arith, end, within),
       next,
-      ap₂ (λ (rows : List Row) (value : Value). set rows (l .k) (row value)) (l .inv .3) one
-          ∙ fill-next 8 (result-row plan F (a .n) (a .at)) (row Absent) (l .k) (omega (arith, s .pre .2)),
+      ap₂ (λ (rows : List Row) (value : Value). set rows (l .k) (row value)) (l .inv .2) one
+          ∙ fill-next 8 (result-row plan F (a .n) (a .at)) (row Absent) (l .k) (omega (arith, s .pre .1)),
     )
 
 returns : tie.Need-returns Inv-loop μ-loop
@@ -81,8 +72,8 @@ returns c =
     let plan : List ℕ = a .plan .now in
     let F : ℕ → List Row = rows-at (a .figures .now) (a .paths) in
     let e : l .k ≡ a .e = omega arith in (
-      l .inv .3 ∙ ap (filled 8 (result-row plan F (a .n) (a .at)) (row Absent)) e ∙ sym (results-filled plan F (a .n) (a .at) (a .e)),
-      l .inv .2 ∙ ap (λ (k : ℕ). entries-end k plan (a .at)) e,
+      l .inv .2 ∙ ap (filled 8 (result-row plan F (a .n) (a .at)) (row Absent)) e ∙ sym (results-filled plan F (a .n) (a .at) (a .e)),
+      l .inv .1 ∙ ap (λ (k : ℕ). entries-end k plan (a .at)) e,
     )
 
 pub results-of-spec : {M : Type 1} → statement M
@@ -95,8 +86,7 @@ results-of-spec =
     result-of-requires
     mul-rows
     array-set-from-rows
-    add-expression-end
-    expression-end-requires
+    entry-end-requires
     add-k
     loop-less
     loop-again

@@ -24,14 +24,15 @@ static size_t ask_each(uint8_t *bytes, size_t room)
     return grafs_end_question(&q);
 }
 
-/* How much farther is the farthest place than 5 seconds? */
-static size_t ask_farthest(uint8_t *bytes, size_t room)
+/* How many seconds are all places together that are farther than 2 seconds? */
+static size_t ask_farther(uint8_t *bytes, size_t room)
 {
     grafs_question q = grafs_begin_question(bytes, room, GRAFS_KIND_RESULT);
-    grafs_result_operator(&q, GRAFS_OP_MINUS);
-    grafs_reduction(&q, GRAFS_REDUCE_MAX);
+    grafs_reduction_where(&q, GRAFS_REDUCE_SUM);
+    grafs_place_operator(&q, GRAFS_OP_GREATER); /* the condition */
     grafs_chain1(&q, GRAFS_KEY_SECONDS, 0);
-    grafs_result_literal(&q, 5);
+    grafs_place_literal(&q, 2);
+    grafs_chain1(&q, GRAFS_KEY_SECONDS, 0);     /* the value */
     return grafs_end_question(&q);
 }
 
@@ -89,12 +90,12 @@ int main(void)
 {
     uint8_t question[GRAFS_QUESTION_MAX];
     worksheet each = fused(question, ask_each(question, sizeof question));
-    worksheet farthest = fused(question, ask_farthest(question, sizeof question));
+    worksheet farther = fused(question, ask_farther(question, sizeof question));
     for (int turn = 0; turn < 3; turn++) {
         passages[1].closed = turn == 1;
         puts(turn == 1 ? "0 to 2 closed" : "all open");
         run_now(&each);
-        run_now(&farthest);
+        run_now(&farther);
     }
     return 0;
 }

@@ -47,6 +47,9 @@ extern "C" {
 /* What a start is for 'anywhere'. */
 #define GRAFS_ANYWHERE 65535
 
+/* What is added to the reduction byte of a worksheet's entry that has a condition; the condition's expression precedes the value's. */
+#define GRAFS_ENTRY_CONDITION 128
+
 enum grafs_number {
     GRAFS_DONE = 0,          /* everything written */
     GRAFS_SHORT = 1,         /* a header, field or term lacks bytes */
@@ -81,6 +84,7 @@ enum grafs_term {
     GRAFS_TERM_REDUCTION = 0x20,       /* result terms: a reduction over places */
     GRAFS_TERM_RESULT_LITERAL = 0x21,
     GRAFS_TERM_RESULT_OPERATOR = 0x22,
+    GRAFS_TERM_REDUCTION_WHERE = 0x23, /* a reduction over the places where a condition is a number other than 0 */
     GRAFS_TERM_CHAIN_INDEX = 0x30,     /* in a worksheet only: a chain by its index */
     GRAFS_TERM_ENTRY_INDEX = 0x31      /* in a worksheet only: an entry by its index */
 };

@@ -55,7 +55,8 @@ static inline size_t grafs_end(const grafs_bytes *b) { return b->too_wide || b->
 
 /* ---------------------------------------------------------------------------------------------------------------------- questions
  * A question is written operator first: after grafs_begin_question one term is due, a place term for GRAFS_KIND_EACH and a result term
- * for GRAFS_KIND_RESULT; after an operator two more terms of its kind, after a reduction one place term.
+ * for GRAFS_KIND_RESULT; after an operator two more terms of its kind, after a reduction one place term, after one with a condition two:
+ * the condition, then the value.
  * GRAFS_QUESTION_MAX bytes are room enough for every question that is accepted. */
 typedef struct {
     grafs_bytes file;
@@ -100,8 +101,9 @@ static inline void grafs_tagged(grafs_question *q, uint64_t tag, uint64_t x, uns
 static inline void grafs_place_literal(grafs_question *q, uint64_t x) { grafs_tagged(q, GRAFS_TERM_PLACE_LITERAL, x, 4); }
 static inline void grafs_place_operator(grafs_question *q, uint64_t op) { grafs_tagged(q, GRAFS_TERM_PLACE_OPERATOR, op, 1); }
 
-/* Result terms. */
+/* Result terms. A reduction goes over all places, or over those alone where a condition is a number other than 0. */
 static inline void grafs_reduction(grafs_question *q, uint64_t reduction) { grafs_tagged(q, GRAFS_TERM_REDUCTION, reduction, 1); }
+static inline void grafs_reduction_where(grafs_question *q, uint64_t reduction) { grafs_tagged(q, GRAFS_TERM_REDUCTION_WHERE, reduction, 1); }
 static inline void grafs_result_literal(grafs_question *q, uint64_t x) { grafs_tagged(q, GRAFS_TERM_RESULT_LITERAL, x, 4); }
 static inline void grafs_result_operator(grafs_question *q, uint64_t op) { grafs_tagged(q, GRAFS_TERM_RESULT_OPERATOR, op, 1); }
 
@@ -297,18 +299,31 @@ static inline void grafs_say_index(grafs_printer *p, const char *word, uint64_t 
     grafs_say(p, ": ");
 }
 
-static inline void grafs_say_entries(grafs_printer *p, uint64_t kind)
+/* A reduction's byte, and its condition where it has one. */
+static inline void grafs_say_reduction(grafs_printer *p, uint64_t byte)
 {
     static const char *const words[] = { "min", "max", "sum", "and", "or" };
+    uint64_t added = byte & GRAFS_ENTRY_CONDITION;
+    grafs_say_word(p, words, 5, byte - added);
+    grafs_say(p, " over places ");
+    if (added) {
+        grafs_say(p, "where ");
+        grafs_say_expression(p, 0, GRAFS_DEPTH_MAX);
+        grafs_say(p, " ");
+    }
+    grafs_say(p, "of ");
+}
+
+static inline void grafs_say_entries(grafs_printer *p, uint64_t kind)
+{
     uint64_t entries = grafs_next(p, 1);
     for (uint64_t i = 0; i < entries && !p->wrong; i++) {
-        uint64_t reduction = grafs_next(p, 1);
+        uint64_t byte = grafs_next(p, 1);
         if (kind == GRAFS_KIND_EACH) {
             grafs_say(p, "each place: ");
         } else {
             grafs_say_index(p, "entry ", i);
-            grafs_say_word(p, words, 5, reduction);
-            grafs_say(p, " over places of ");
+            grafs_say_reduction(p, byte);
         }
         grafs_say_expression(p, 0, GRAFS_DEPTH_MAX);
         grafs_say(p, "\n");

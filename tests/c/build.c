@@ -1,6 +1,7 @@
-/* grafs_build.h on the case files of crate `cases`: every accepted question and map is built again, byte for byte, in every shorter room and in
- * longer ones; every answer is read, and what was read is laid out again; every worksheet is shown, whatever its bytes. The calls are made on
- * them too. Buffers stand on the heap in their exact lengths, so that a sanitizer sees any step outside. Compiled as C and as C++. */
+/* grafs_build.h on the case files of crate `cases`, and on questions with a condition: every accepted question and map is built again, byte for
+ * byte, in every shorter room and in longer ones; every answer is read, and what was read is laid out again; every worksheet is shown, whatever
+ * its bytes. The calls are made on them too. Buffers stand on the heap in their exact lengths, so that a sanitizer sees any step outside.
+ * Compiled as C and as C++. */
 #include "case_files.h"
 
 static const char *const names[] = { "done", "short", "mark", "version", "places", "passages", "length", "no such place", "crate", "code", "key order",
@@ -30,6 +31,9 @@ static const uint8_t *term_again(grafs_question *q, const uint8_t *p)
         return term_again(q, term_again(q, p + 2));
     case GRAFS_TERM_RESULT_OPERATOR:
         grafs_result_operator(q, p[1]);
+        return term_again(q, term_again(q, p + 2));
+    case GRAFS_TERM_REDUCTION_WHERE:
+        grafs_reduction_where(q, p[1]);
         return term_again(q, term_again(q, p + 2));
     default:
         grafs_reduction(q, p[1]);
@@ -171,6 +175,8 @@ static void try_texts(void)
         255, 255 };
     const uint8_t none[] = { 'L', 'P', 'W', 1, 0, 1, 0, 0, 0x22, 10, 0x22, 5, 0x21, 0, 0, 0, 0, 0x21, 7, 0, 0, 0, 0x22, 11, 0x21, 1, 0, 0, 0, 0x21, 2, 0, 0,
         0 };
+    const uint8_t where[] = { 'L', 'P', 'W', 1, 0, 1, 1, 1, 2, 0, 0, 0, 0, 3, 131, 0x12, 9, 0x30, 0, 0x11, 2, 0, 0, 0, 0x30, 0, 1, 0x30, 0, 133, 0x30, 0,
+        0x12, 2, 0x30, 0, 0x30, 0, 0x22, 4, 0x31, 0, 0x31, 2 };
     try_one_text("the byte case as text", marked, sizeof marked,
         "chain 0: least passages, from 0\n"
         "entry 0: max over places of chain 0\n"
@@ -180,6 +186,12 @@ static void try_texts(void)
         "chain 1: least seconds, least crate, from 255\n"
         "each place: min((chain 0 > chain 1), 4294967295)\n");
     try_one_text("no chain as text", none, sizeof none, "result: ((0 * 7) and (1 or 2))\n");
+    try_one_text("conditions as text", where, sizeof where,
+        "chain 0: least seconds, from 0\n"
+        "entry 0: sum over places where (chain 0 > 2) of chain 0\n"
+        "entry 1: min over places of chain 0\n"
+        "entry 2: or over places where chain 0 of max(chain 0, chain 0)\n"
+        "result: (entry 0 - entry 2)\n");
     uint8_t *head = copy_of(marked, 5);
     try_one_text("a refusal for a length", head, GRAFS_REFUSAL + GRAFS_BUFFER_SHORT, "");
     try_one_text("no worksheet", head, 0, "");
@@ -192,7 +204,8 @@ static void try_wrong_texts(void)
     static const struct {
         size_t at;
         uint8_t byte;
-    } wrong[] = { { 5, 2 }, { 6, 2 }, { 7, 0 }, { 7, 4 }, { 8, 0 }, { 8, 7 }, { 13, 2 }, { 14, 0 }, { 14, 6 }, { 15, 0x31 }, { 17, 0x30 }, { 15, 0x10 } };
+    } wrong[] = { { 5, 2 }, { 6, 2 }, { 7, 0 }, { 7, 4 }, { 8, 0 }, { 8, 7 }, { 13, 2 }, { 14, 0 }, { 14, 6 }, { 15, 0x31 }, { 17, 0x30 }, { 15, 0x10 },
+        { 14, 10 }, { 14, 66 }, { 14, 128 }, { 14, 130 }, { 14, 134 } };
     for (size_t i = 0; i < sizeof wrong / sizeof *wrong; i++) {
         uint8_t sheet[] = { 'L', 'P', 'W', 1, 0, 1, 1, 1, 1, 0, 0, 0, 0, 1, 2, 0x30, 0, 0x31, 0 };
         sheet[wrong[i].at] = wrong[i].byte;
@@ -200,21 +213,51 @@ static void try_wrong_texts(void)
     }
 }
 
-/* So many terms of a final expression, an odd number, in a tree of little depth: greatest literals. */
+/* The greatest literal, which has the most digits. */
+static void put_literal(grafs_bytes *b, uint64_t tag)
+{
+    grafs_put(b, tag, 1);
+    grafs_put(b, 4294967295u, 4);
+}
+
+/* So many terms of a final expression, an odd number, in a tree of little depth. */
 static void put_final(grafs_bytes *b, unsigned terms)
 {
     unsigned left = (terms - 1) / 2 | 1;
-    grafs_put(b, terms == 1 ? GRAFS_TERM_RESULT_LITERAL : GRAFS_TERM_RESULT_OPERATOR, 1);
     if (terms == 1) {
-        grafs_put(b, 4294967295u, 4);
+        put_literal(b, GRAFS_TERM_RESULT_LITERAL);
         return;
     }
+    grafs_put(b, GRAFS_TERM_RESULT_OPERATOR, 1);
     grafs_put(b, GRAFS_OP_AND, 1);
     put_final(b, left);
     put_final(b, terms - 1 - left);
 }
 
-/* The longest worksheet that a run takes, 299 bytes, with the longest words: eight chains, seven entries of a literal, 57 terms of a final expression. */
+/* A condition of 16 levels has a text, one of 17 has none. */
+static void try_deep_condition(unsigned depth)
+{
+    uint8_t sheet[GRAFS_WORKSHEET_MAX];
+    grafs_bytes b = grafs_begin(sheet, sizeof sheet, 'W');
+    grafs_put(&b, GRAFS_KIND_RESULT, 1);
+    grafs_put(&b, 0, 1);
+    grafs_put(&b, 1, 1);
+    grafs_put(&b, GRAFS_ENTRY_CONDITION + GRAFS_REDUCE_MIN, 1);
+    for (unsigned i = 1; i < depth; i++) {
+        grafs_put(&b, GRAFS_TERM_PLACE_OPERATOR, 1);
+        grafs_put(&b, GRAFS_OP_PLUS, 1);
+        put_literal(&b, GRAFS_TERM_PLACE_LITERAL);
+    }
+    put_literal(&b, GRAFS_TERM_PLACE_LITERAL);
+    put_literal(&b, GRAFS_TERM_PLACE_LITERAL);
+    grafs_put(&b, GRAFS_TERM_ENTRY_INDEX, 1);
+    grafs_put(&b, 0, 1);
+    try_text(sheet, grafs_end(&b), depth <= GRAFS_DEPTH_MAX ? GRAFS_DONE : GRAFS_DEEP, depth);
+}
+
+/* The longest worksheet that a run takes, 312 bytes, with the longest words: eight chains, eight entries of a literal, seven of them with a literal as
+ * condition, 49 terms of a final expression. No text has more than its 1,426 characters: an expression of k literals has 17k - 7, the line around an
+ * entry's 29, and 7 more with a condition; so it is 570, 22 for each of at most 8 entries, and 17 for each of at most 40 literals. */
 static void try_longest_text(void)
 {
     const uint8_t map[] = { 'L', 'P', 'M', 1, 0, 1, 0, 0, 0 };
@@ -226,14 +269,16 @@ static void try_longest_text(void)
         grafs_put(&b, 0x04040403, 4); /* three keys, each the greatest start */
         grafs_put(&b, GRAFS_ANYWHERE, 2);
     }
-    grafs_put(&b, 7, 1);
-    for (int i = 0; i < 7; i++) {
-        grafs_put(&b, GRAFS_REDUCE_MAX, 1);
-        grafs_put(&b, GRAFS_TERM_PLACE_LITERAL, 1);
-        grafs_put(&b, 4294967295u, 4);
+    grafs_put(&b, 8, 1);
+    for (int i = 0; i < 8; i++) {
+        grafs_put(&b, i < 7 ? GRAFS_ENTRY_CONDITION + GRAFS_REDUCE_MAX : GRAFS_REDUCE_MAX, 1);
+        if (i < 7)
+            put_literal(&b, GRAFS_TERM_PLACE_LITERAL);
+        put_literal(&b, GRAFS_TERM_PLACE_LITERAL);
     }
-    put_final(&b, 57);
-    expect(grafs_end(&b) == 299 && run(sheet, 299, map, sizeof map, answer, sizeof answer) == 19, "the longest worksheet", grafs_end(&b));
+    put_final(&b, 49);
+    expect(grafs_end(&b) == 312 && run(sheet, 312, map, sizeof map, answer, sizeof answer) == 19, "the longest worksheet", grafs_end(&b));
+    expect(grafs_worksheet_text(sheet, 312, NULL, 0) == 1426, "the longest text", grafs_worksheet_text(sheet, 312, NULL, 0));
     try_text(sheet, grafs_end(&b), GRAFS_DONE, 0);
 }
 
@@ -277,6 +322,19 @@ static void try_case(const file_case *c, size_t index)
         try_answer(r.answer, r.answer_len, index);
 }
 
+/* Conditions: alone; with reductions beside it and operators in all places; refused in a question for each place. */
+static void try_conditions(void)
+{
+    const uint8_t alone[] = { 'L', 'P', 'Q', 1, 0, 1, 0x23, 3, 0x12, 9, 0x10, 1, 2, 0, 0, 0x11, 2, 0, 0, 0, 0x10, 1, 2, 0, 0 };
+    const uint8_t beside[] = { 'L', 'P', 'Q', 1, 0, 1, 0x22, 4, 0x22, 6, 0x23, 1, 0x10, 3, 2, 1, 5, 255, 255, 0x12, 1, 0x11, 1, 2, 3, 4, 0x10, 2, 2, 6, 255, 0,
+        0x20, 2, 0x11, 9, 0, 0, 0, 0x22, 3, 0x21, 255, 255, 255, 255, 0x23, 5, 0x11, 0, 0, 0, 0, 0x11, 1, 0, 0, 0 };
+    const uint8_t each[] = { 'L', 'P', 'Q', 1, 0, 0, 0x23, 3, 0x11, 1, 0, 0, 0, 0x11, 1, 0, 0, 0 };
+    const file_case cases[] = { { CASE_QUESTION, GRAFS_DONE, alone, sizeof alone }, { CASE_QUESTION, GRAFS_DONE, beside, sizeof beside },
+        { CASE_QUESTION, GRAFS_CODE, each, sizeof each } };
+    for (size_t i = 0; i < sizeof cases / sizeof *cases; i++)
+        try_case(&cases[i], i);
+}
+
 /* ---------------------------------------------------------------------------------------------------------------------- numbers */
 static void try_names(void)
 {
@@ -290,13 +348,14 @@ static void try_names(void)
 static void try_wide(void)
 {
     uint8_t out[GRAFS_MAP_MAX];
-    for (int i = 0; i < 8; i++) {
+    for (int i = 0; i < 9; i++) {
         grafs_question q = grafs_begin_question(out, sizeof out, i == 0 ? 256 : 0);
         grafs_chain1(&q, i == 1 ? 257 : 1, i == 2 ? 65536 : i == 3 ? (uint64_t)-1 : 0);
         grafs_place_literal(&q, i == 4 ? 4294967296u : 4294967295u);
         grafs_place_operator(&q, i == 5 ? 259 : 3);
         grafs_reduction(&q, i == 6 ? UINT64_C(1) << 40 : 3);
-        expect((grafs_end_question(&q) == 0) == (i < 7), "a question's number too wide", (size_t)i);
+        grafs_reduction_where(&q, i == 7 ? 256 : 3);
+        expect((grafs_end_question(&q) == 0) == (i < 8), "a question's number too wide", (size_t)i);
     }
     for (int i = 0; i < 6; i++) {
         grafs_map m = grafs_begin_map(out, sizeof out, i == 0 ? 65536 : 4);
@@ -321,6 +380,9 @@ int main(int argc, char **argv)
     try_texts();
     try_wrong_texts();
     try_longest_text();
+    try_deep_condition(GRAFS_DEPTH_MAX);
+    try_deep_condition(GRAFS_DEPTH_MAX + 1);
+    try_conditions();
     try_names();
     try_wide();
     expect(built > 60 && read_back > 100 && shown > 200, "enough of each", 0);

@@ -1,4 +1,4 @@
-/* What grafs.h says beside the calls: the limits, the longest question, the stack that a call takes, calls from several threads at once.
+/* What grafs.h says beside the calls: the limits, the longest files, the stack that a call takes, calls from several threads at once.
  * On the heaviest questions and maps: every limit reached, 256 places in a ring that take 512 rounds, 1,024 passages. */
 #define _DEFAULT_SOURCE /* for anonymous pages */
 #include <pthread.h>
@@ -8,48 +8,98 @@
 
 enum { PAINT = 0x5a, THREADS = 8, TURNS = 40 };
 
-static uint8_t question[GRAFS_QUESTION_MAX], deep[GRAFS_QUESTION_MAX], plan[GRAFS_WORKSHEET_MAX], deep_plan[GRAFS_WORKSHEET_MAX];
-static uint8_t graph[GRAFS_MAP_MAX], answer[GRAFS_ANSWER_MAX], deep_answer[GRAFS_ANSWER_MAX];
-static uint8_t deeper[GRAFS_QUESTION_MAX], deeper_plan[GRAFS_WORKSHEET_MAX]; /* a level too many: refused where reading has gone deepest */
-static size_t question_len, deep_len, deeper_len, graph_len;
-static uint32_t plan_len, deep_plan_len, answer_len, deep_answer_len;
+/* Questions that are fused and worksheets made by hand (PLAN_..); those with a level too many (.._DEEPER) are refused where reading has gone deepest. */
+enum { LONGEST, LONGEST_WHERE, LONGEST_FUSED, DEEP, DEEPER, CONDITION_DEEPER, VALUE_DEEPER, PLAN_WHERE, PLAN_DEEPER, PLAN_WHERE_DEEPER, SAMPLES };
+
+typedef struct {
+    uint8_t question[GRAFS_QUESTION_MAX], plan[GRAFS_WORKSHEET_MAX], answer[GRAFS_ANSWER_MAX];
+    size_t question_len, plan_len;
+    uint32_t fused, ran; /* what the calls return */
+} sample;
+
+static sample samples[SAMPLES];
+static uint8_t graph[GRAFS_MAP_MAX];
+static size_t graph_len;
 
 /* ---------------------------------------------------------------------------------------------------------------------- limits */
-/* So many place terms, an odd number, in a tree of little depth; the chains are eight of three keys, in turn. */
-static void put_tree(grafs_question *q, unsigned terms, unsigned *chain)
+/* So many place terms, an odd number, in a tree of little depth. Its leaves are counted: the first `chains` are chains, eight of three keys in turn, and
+ * literals follow. */
+static void put_tree(grafs_question *q, unsigned terms, unsigned chains, unsigned *leaf)
 {
     static const uint8_t keys[2][3] = { { 2, 1, 6 }, { 1, 2, 5 } };
     unsigned left = (terms - 1) / 2 | 1;
-    if (terms == 1) {
-        grafs_chain(q, keys[*chain % 2], 3, *chain % 8);
-        ++*chain;
+    if (terms > 1) {
+        grafs_place_operator(q, GRAFS_OP_PLUS);
+        put_tree(q, left, chains, leaf);
+        put_tree(q, terms - 1 - left, chains, leaf);
         return;
     }
-    grafs_place_operator(q, GRAFS_OP_PLUS);
-    put_tree(q, left, chain);
-    put_tree(q, terms - 1 - left, chain);
+    if (*leaf < chains)
+        grafs_chain(q, keys[*leaf % 2], 3, *leaf % 8);
+    else
+        grafs_place_literal(q, 1);
+    ++*leaf;
 }
 
 /* So many terms: with a reduction over them where the number is even. Of 64, there is no longer question. */
 static size_t with_terms(unsigned terms, uint8_t *bytes, size_t room)
 {
-    unsigned chain = 0, even = terms % 2 == 0;
+    unsigned leaf = 0, even = terms % 2 == 0;
     grafs_question q = grafs_begin_question(bytes, room, even ? GRAFS_KIND_RESULT : GRAFS_KIND_EACH);
     if (even)
         grafs_reduction(&q, GRAFS_REDUCE_SUM);
-    put_tree(&q, terms - even, &chain);
+    put_tree(&q, terms - even, GRAFS_TERMS_MAX, &leaf);
+    return grafs_end_question(&q);
+}
+
+/* So many terms: a reduction with a condition over most of them, and where the number is even, a reduction without one beside it. Of 64, as long. */
+static size_t with_terms_where(unsigned terms, uint8_t *bytes, size_t room)
+{
+    unsigned leaf = 0, even = terms % 2 == 0, inside = terms - (even ? 4 : 1), first = inside / 2 | 1;
+    grafs_question q = grafs_begin_question(bytes, room, GRAFS_KIND_RESULT);
+    if (even) {
+        grafs_result_operator(&q, GRAFS_OP_PLUS);
+        grafs_reduction(&q, GRAFS_REDUCE_SUM);
+        put_tree(&q, 1, GRAFS_TERMS_MAX, &leaf);
+    }
+    grafs_reduction_where(&q, GRAFS_REDUCE_SUM);
+    put_tree(&q, first, GRAFS_TERMS_MAX, &leaf);
+    put_tree(&q, inside - first, GRAFS_TERMS_MAX, &leaf);
     return grafs_end_question(&q);
 }
 
 /* So deep, a chain at the bottom. */
+static void put_deep(grafs_question *q, unsigned depth)
+{
+    for (unsigned i = 1; i < depth; i++) {
+        grafs_place_operator(q, GRAFS_OP_PLUS);
+        grafs_place_literal(q, 1);
+    }
+    grafs_chain1(q, GRAFS_KEY_NARROWEST, 0);
+}
+
 static size_t with_depth(unsigned depth, uint8_t *bytes, size_t room)
 {
     grafs_question q = grafs_begin_question(bytes, room, GRAFS_KIND_EACH);
-    for (unsigned i = 1; i < depth; i++) {
-        grafs_place_operator(&q, GRAFS_OP_PLUS);
-        grafs_place_literal(&q, 1);
-    }
-    grafs_chain1(&q, GRAFS_KEY_NARROWEST, 0);
+    put_deep(&q, depth);
+    return grafs_end_question(&q);
+}
+
+static size_t with_deep_condition(unsigned depth, uint8_t *bytes, size_t room)
+{
+    grafs_question q = grafs_begin_question(bytes, room, GRAFS_KIND_RESULT);
+    grafs_reduction_where(&q, GRAFS_REDUCE_SUM);
+    put_deep(&q, depth - 1);
+    put_deep(&q, 1);
+    return grafs_end_question(&q);
+}
+
+static size_t with_deep_value(unsigned depth, uint8_t *bytes, size_t room)
+{
+    grafs_question q = grafs_begin_question(bytes, room, GRAFS_KIND_RESULT);
+    grafs_reduction_where(&q, GRAFS_REDUCE_SUM);
+    put_deep(&q, 1);
+    put_deep(&q, depth - 1);
     return grafs_end_question(&q);
 }
 
@@ -72,6 +122,19 @@ static size_t with_chains(unsigned chains, uint8_t *bytes, size_t room)
     return grafs_end_question(&q);
 }
 
+/* All but the last in the condition, that one in the value. */
+static size_t with_chains_where(unsigned chains, uint8_t *bytes, size_t room)
+{
+    grafs_question q = grafs_begin_question(bytes, room, GRAFS_KIND_RESULT);
+    grafs_reduction_where(&q, GRAFS_REDUCE_SUM);
+    for (unsigned i = 0; i < chains; i++) {
+        if (i + 2 < chains)
+            grafs_place_operator(&q, GRAFS_OP_PLUS);
+        grafs_chain1(&q, GRAFS_KEY_PASSAGES, i);
+    }
+    return grafs_end_question(&q);
+}
+
 static size_t with_reductions(unsigned reductions, uint8_t *bytes, size_t room)
 {
     grafs_question q = grafs_begin_question(bytes, room, GRAFS_KIND_RESULT);
@@ -81,6 +144,40 @@ static size_t with_reductions(unsigned reductions, uint8_t *bytes, size_t room)
         grafs_reduction(&q, GRAFS_REDUCE_SUM);
         grafs_place_literal(&q, 1);
     }
+    return grafs_end_question(&q);
+}
+
+/* Without a condition and with one, by turns; the ninth has one. */
+static size_t with_reductions_where(unsigned reductions, uint8_t *bytes, size_t room)
+{
+    grafs_question q = grafs_begin_question(bytes, room, GRAFS_KIND_RESULT);
+    for (unsigned i = 0; i < reductions; i++) {
+        if (i + 1 < reductions)
+            grafs_result_operator(&q, GRAFS_OP_PLUS);
+        if (i % 2 == 0) {
+            grafs_reduction_where(&q, GRAFS_REDUCE_SUM);
+            grafs_place_literal(&q, 1);
+        } else {
+            grafs_reduction(&q, GRAFS_REDUCE_SUM);
+        }
+        grafs_place_literal(&q, 1);
+    }
+    return grafs_end_question(&q);
+}
+
+/* So many reductions, all with a condition but the last, and 64 terms; eight chains, else literals. Of eight, none has a longer worksheet. */
+static size_t with_long_plan(unsigned reductions, uint8_t *bytes, size_t room)
+{
+    unsigned leaf = 0;
+    grafs_question q = grafs_begin_question(bytes, room, GRAFS_KIND_RESULT);
+    for (unsigned i = 1; i < reductions; i++) {
+        grafs_result_operator(&q, GRAFS_OP_PLUS);
+        grafs_reduction_where(&q, GRAFS_REDUCE_SUM);
+        put_tree(&q, 1, GRAFS_CHAINS_MAX, &leaf);
+        put_tree(&q, 1, GRAFS_CHAINS_MAX, &leaf);
+    }
+    grafs_reduction(&q, GRAFS_REDUCE_SUM);
+    put_tree(&q, GRAFS_TERMS_MAX + 3 - 4 * reductions, GRAFS_CHAINS_MAX, &leaf);
     return grafs_end_question(&q);
 }
 
@@ -111,33 +208,151 @@ static uint32_t run_on(unsigned places, unsigned passages)
 static void try_limits(void)
 {
     try_limit("terms", with_terms, GRAFS_TERMS_MAX, GRAFS_TERMS);
+    try_limit("terms of conditions", with_terms_where, GRAFS_TERMS_MAX, GRAFS_TERMS);
     try_limit("depth", with_depth, GRAFS_DEPTH_MAX, GRAFS_DEEP);
+    try_limit("depth of a condition", with_deep_condition, GRAFS_DEPTH_MAX, GRAFS_DEEP);
+    try_limit("depth behind a condition", with_deep_value, GRAFS_DEPTH_MAX, GRAFS_DEEP);
     try_limit("keys", with_keys, GRAFS_KEYS_MAX, GRAFS_CODE);
     try_limit("chains", with_chains, GRAFS_CHAINS_MAX, GRAFS_FULL_SHEET);
+    try_limit("chains of a condition and its value", with_chains_where, GRAFS_CHAINS_MAX, GRAFS_FULL_SHEET);
     try_limit("reductions", with_reductions, GRAFS_REDUCTIONS_MAX, GRAFS_FULL_SHEET);
+    try_limit("reductions with conditions", with_reductions_where, GRAFS_REDUCTIONS_MAX, GRAFS_FULL_SHEET);
     expect(run_on(GRAFS_PLACES_MAX, GRAFS_PASSAGES_MAX) == GRAFS_DONE, "places and passages", 0);
     expect(run_on(GRAFS_PLACES_MAX + 1, 0) == GRAFS_PLACES, "places", GRAFS_PLACES_MAX + 1);
     expect(run_on(1, GRAFS_PASSAGES_MAX + 1) == GRAFS_PASSAGES, "passages", GRAFS_PASSAGES_MAX + 1);
 }
 
-/* The most bytes of a term of so many terms, a place term or a result term, by trying every way to divide them. */
-static void longest_terms(void)
+static size_t greater(size_t a, size_t b) { return a > b ? a : b; }
+
+/* Two parts and some bytes more; 0, for none, where a part is none. */
+static size_t joined(size_t a, size_t b, size_t more) { return a && b ? a + b + more : 0; }
+
+/* The most bytes of a question's term, or of what is made of it, by trying every way to divide its terms and reductions: a place term's leaf and a reduction
+ * without what is in it have so many, an operator 2, a result's literal 5. */
+static size_t longest_term(size_t leaf, size_t reduction)
 {
-    size_t place[GRAFS_TERMS_MAX + 1] = { 0 }, result[GRAFS_TERMS_MAX + 1] = { 0 }, most = 0;
-    for (size_t terms = 1; terms <= GRAFS_TERMS_MAX; terms++) {
-        place[terms] = terms == 1 ? 7 : 0;              /* a chain of three keys; a literal has 5 */
-        result[terms] = terms == 1 ? 5 : place[terms - 1] ? 2 + place[terms - 1] : 0;
-        for (size_t left = 1; left + 1 < terms; left++) {
-            size_t right = terms - 1 - left;
-            if (place[left] && place[right] && 2 + place[left] + place[right] > place[terms])
-                place[terms] = 2 + place[left] + place[right];
-            if (result[left] && result[right] && 2 + result[left] + result[right] > result[terms])
-                result[terms] = 2 + result[left] + result[right];
+    size_t place[GRAFS_TERMS_MAX + 1] = { 0, leaf }, result[GRAFS_TERMS_MAX + 1][GRAFS_REDUCTIONS_MAX + 1] = { { 0 }, { 5 } }, most = leaf;
+    for (size_t terms = 2; terms <= GRAFS_TERMS_MAX; terms++) {
+        result[terms][1] = joined(place[terms - 1], reduction, 0);
+        for (size_t left = 1, right = terms - 2; right > 0; left++, right--) {
+            place[terms] = greater(place[terms], joined(place[left], place[right], 2));
+            result[terms][1] = greater(result[terms][1], joined(place[left], place[right], reduction)); /* a condition and a value */
+            for (size_t all = 0; all <= GRAFS_REDUCTIONS_MAX; all++)
+                for (size_t some = 0; some <= all; some++)
+                    result[terms][all] = greater(result[terms][all], joined(result[left][some], result[right][all - some], 2));
         }
-        most = place[terms] > most ? place[terms] : most;
-        most = result[terms] > most ? result[terms] : most;
+        most = greater(most, place[terms]);
+        for (size_t all = 0; all <= GRAFS_REDUCTIONS_MAX; all++)
+            most = greater(most, result[terms][all]);
     }
-    expect(6 + most == GRAFS_QUESTION_MAX, "no question is longer", 6 + most);
+    return most;
+}
+
+/* The most bytes of a worksheet of kind 1, fused or not; for kind 0 there is one expression only. Its expressions are the final one, and for each entry, which
+ * has a byte of its own, a value and perhaps a condition: `of` has the most bytes of so many expressions of so many terms, whose leaves are literals. */
+static size_t longest_plan(void)
+{
+    enum { MOST = 1 + 2 * GRAFS_REDUCTIONS_MAX };
+    size_t of[MOST + 1][GRAFS_TERMS_MAX + 1] = { { 0 }, { 0, 5 } }, most = 0;
+    for (size_t terms = 2; terms <= GRAFS_TERMS_MAX; terms++)
+        for (size_t left = 1, right = terms - 2; right > 0; left++, right--)
+            of[1][terms] = greater(of[1][terms], joined(of[1][left], of[1][right], 2));
+    for (size_t count = 2; count <= MOST; count++)
+        for (size_t terms = 2; terms <= GRAFS_TERMS_MAX; terms++)
+            for (size_t last = 1; last < terms; last++)
+                of[count][terms] = greater(of[count][terms], joined(of[count - 1][terms - last], of[1][last], 0));
+    for (size_t count = 1; count <= MOST; count++)
+        for (size_t terms = count; terms <= GRAFS_TERMS_MAX; terms++)
+            most = greater(most, of[count][terms] + (count <= GRAFS_REDUCTIONS_MAX ? count - 1 : GRAFS_REDUCTIONS_MAX));
+    return 8 + 6 * GRAFS_CHAINS_MAX + most;
+}
+
+/* In a worksheet a chain has 6 bytes in the table and 2 where it stands, 3 more than a literal; a reduction has the byte of its entry, and an index's 2. */
+static void try_lengths(void)
+{
+    size_t question = 6 + longest_term(7, 2), fused = 8 + 3 * GRAFS_CHAINS_MAX + longest_term(5, 3), plan = longest_plan();
+    expect(question == GRAFS_QUESTION_MAX, "no question is longer", question);
+    expect(fused == 264 && fused <= GRAFS_WORKSHEET_MAX, "no fused worksheet is longer", fused);
+    expect(plan == 312 && plan <= GRAFS_WORKSHEET_MAX, "no worksheet is longer", plan);
+}
+
+/* ---------------------------------------------------------------------------------------------------------------------- samples */
+static size_t done(uint32_t result) { return result < GRAFS_REFUSAL ? result : 0; }
+
+/* What the calls return and write, to be met again. */
+static void fuse_sample(sample *s, size_t (*with)(unsigned, uint8_t *, size_t), unsigned many)
+{
+    s->question_len = with(many, s->question, sizeof s->question);
+    s->fused = fuse(s->question, s->question_len, s->plan, sizeof s->plan);
+    s->plan_len = done(s->fused);
+}
+
+static void run_sample(sample *s)
+{
+    s->ran = run(s->plan, s->plan_len, graph, graph_len, s->answer, sizeof s->answer);
+}
+
+/* The deep worksheet, whose expression starts at 15: with an operator and a literal more before it; with it as condition and as value of a sum. */
+static void make_plan(sample *s, int deeper, int where)
+{
+    const uint8_t level[] = { GRAFS_TERM_PLACE_OPERATOR, GRAFS_OP_PLUS, GRAFS_TERM_PLACE_LITERAL, 1, 0, 0, 0 }, end[] = { GRAFS_TERM_ENTRY_INDEX, 0 };
+    const uint8_t *deep = samples[DEEP].plan;
+    size_t len = samples[DEEP].plan_len - 15, at = 15;
+    memcpy(s->plan, deep, 15);
+    if (deeper)
+        memcpy(s->plan + at, level, sizeof level), at += sizeof level;
+    memcpy(s->plan + at, deep + 15, len), at += len;
+    if (where) {
+        s->plan[5] = GRAFS_KIND_RESULT;
+        s->plan[14] = GRAFS_ENTRY_CONDITION + GRAFS_REDUCE_SUM;
+        memcpy(s->plan + at, deep + 15, len), at += len;
+        memcpy(s->plan + at, end, sizeof end), at += sizeof end;
+    }
+    s->fused = GRAFS_REFUSAL + GRAFS_SHORT; /* of no question */
+    s->plan_len = at;
+}
+
+static void make_samples(void)
+{
+    fuse_sample(&samples[LONGEST], with_terms, GRAFS_TERMS_MAX);
+    fuse_sample(&samples[LONGEST_WHERE], with_terms_where, GRAFS_TERMS_MAX);
+    fuse_sample(&samples[LONGEST_FUSED], with_long_plan, GRAFS_REDUCTIONS_MAX);
+    fuse_sample(&samples[DEEP], with_depth, GRAFS_DEPTH_MAX);
+    fuse_sample(&samples[DEEPER], with_depth, GRAFS_DEPTH_MAX + 1);
+    fuse_sample(&samples[CONDITION_DEEPER], with_deep_condition, GRAFS_DEPTH_MAX + 1);
+    fuse_sample(&samples[VALUE_DEEPER], with_deep_value, GRAFS_DEPTH_MAX + 1);
+    make_plan(&samples[PLAN_WHERE], 0, 1);
+    make_plan(&samples[PLAN_DEEPER], 1, 0);
+    make_plan(&samples[PLAN_WHERE_DEEPER], 1, 1);
+    for (size_t i = 0; i < SAMPLES; i++)
+        run_sample(&samples[i]);
+}
+
+/* The ring takes 512 rounds by its narrow passage; then each place has 2 and 15, also where that is the condition, of 256 places. */
+static void try_samples(void)
+{
+    const sample *deep = &samples[DEEP], *where = &samples[PLAN_WHERE];
+    for (size_t i = LONGEST; i <= LONGEST_FUSED; i++)
+        expect(samples[i].ran == 19, "answered", i);
+    expect(samples[LONGEST].question_len == GRAFS_QUESTION_MAX, "the longest question", samples[LONGEST].question_len);
+    expect(samples[LONGEST_WHERE].question_len == GRAFS_QUESTION_MAX, "the longest question", samples[LONGEST_WHERE].question_len);
+    expect(samples[LONGEST_FUSED].fused == 264, "the longest worksheet that is fused", samples[LONGEST_FUSED].fused);
+    expect(deep->ran == GRAFS_ANSWER_MAX && grafs_get(deep->answer + 7, 2) == 512 && grafs_get(deep->answer + 10 + 9 * 255 + 1, 8) == 17, "deep", deep->ran);
+    expect(where->ran == 19 && grafs_get(where->answer + 7, 2) == 512 && grafs_get(where->answer + 11, 8) == 256 * 17, "deep conditions", where->ran);
+    for (size_t i = DEEPER; i <= VALUE_DEEPER; i++)
+        expect(samples[i].fused == GRAFS_REFUSAL + GRAFS_DEEP, "too deep to be fused", i);
+    for (size_t i = PLAN_DEEPER; i <= PLAN_WHERE_DEEPER; i++)
+        expect(samples[i].ran == GRAFS_REFUSAL + GRAFS_DEEP, "too deep to be run", i);
+}
+
+static int fuses_again(const sample *s, uint8_t *out)
+{
+    return fuse(s->question, s->question_len, out, GRAFS_WORKSHEET_MAX) == s->fused && !memcmp(out, s->plan, done(s->fused));
+}
+
+static int runs_again(const sample *s, uint8_t *out)
+{
+    return run(s->plan, s->plan_len, graph, graph_len, out, GRAFS_ANSWER_MAX) == s->ran && !memcmp(out, s->answer, done(s->ran));
 }
 
 /* ---------------------------------------------------------------------------------------------------------------------- stack */
@@ -145,30 +360,18 @@ static void *do_nothing(void *unused) { return unused; }
 
 static void *do_fuse(void *unused)
 {
-    uint8_t out[GRAFS_WORKSHEET_MAX];
-    expect(fuse(question, question_len, out, sizeof out) == plan_len && !memcmp(out, plan, plan_len), "fuse on little stack", 0);
-    expect(fuse(deep, deep_len, out, sizeof out) == deep_plan_len && !memcmp(out, deep_plan, deep_plan_len), "fuse on little stack", 1);
-    expect(fuse(deeper, deeper_len, out, sizeof out) == GRAFS_REFUSAL + GRAFS_DEEP, "fuse on little stack", 2);
+    static uint8_t out[GRAFS_WORKSHEET_MAX];
+    for (size_t i = 0; i < SAMPLES; i++)
+        expect(fuses_again(&samples[i], out), "fuse on little stack", i);
     return unused;
 }
 
 static void *do_run(void *unused)
 {
     static uint8_t out[GRAFS_ANSWER_MAX];
-    expect(run(plan, plan_len, graph, graph_len, out, sizeof out) == answer_len && !memcmp(out, answer, answer_len), "run on little stack", 0);
-    expect(run(deep_plan, deep_plan_len, graph, graph_len, out, sizeof out) == deep_answer_len && !memcmp(out, deep_answer, deep_answer_len),
-        "run on little stack", 1);
-    expect(run(deeper_plan, deep_plan_len + 7, graph, graph_len, out, sizeof out) == GRAFS_REFUSAL + GRAFS_DEEP, "run on little stack", 2);
+    for (size_t i = 0; i < SAMPLES; i++)
+        expect(runs_again(&samples[i], out), "run on little stack", i);
     return unused;
-}
-
-/* The deep worksheet with one operator and one literal more before its expression, which starts at 15. */
-static void make_deeper_plan(void)
-{
-    const uint8_t level[] = { GRAFS_TERM_PLACE_OPERATOR, GRAFS_OP_PLUS, GRAFS_TERM_PLACE_LITERAL, 1, 0, 0, 0 };
-    memcpy(deeper_plan, deep_plan, 15);
-    memcpy(deeper_plan + 15, level, sizeof level);
-    memcpy(deeper_plan + 15 + sizeof level, deep_plan + 15, deep_plan_len - 15);
 }
 
 /* Runs a function on a thread with so much stack, a page that may not be touched below it; returns how much of the stack was written. */
@@ -208,12 +411,10 @@ static void *take_turns(void *given)
 {
     turns *t = (turns *)given;
     for (unsigned i = 0; i < TURNS; i++) {
+        const sample *s = &samples[(t->first + i) % SAMPLES];
         uint8_t sheet[GRAFS_WORKSHEET_MAX], out[GRAFS_ANSWER_MAX];
-        int is_deep = (t->first + i) % 2 == 1;
-        uint32_t n = is_deep ? fuse(deep, deep_len, sheet, sizeof sheet) : fuse(question, question_len, sheet, sizeof sheet);
-        uint32_t k = run(sheet, n, graph, graph_len, out, sizeof out);
-        t->wrong += n != (is_deep ? deep_plan_len : plan_len) || memcmp(sheet, is_deep ? deep_plan : plan, n);
-        t->wrong += k != (is_deep ? deep_answer_len : answer_len) || memcmp(out, is_deep ? deep_answer : answer, k);
+        t->wrong += !fuses_again(s, sheet);
+        t->wrong += !runs_again(s, out);
     }
     return NULL;
 }
@@ -238,21 +439,12 @@ static void try_threads(void)
 
 int main(void)
 {
-    question_len = with_terms(GRAFS_TERMS_MAX, question, sizeof question);
-    deep_len = with_depth(GRAFS_DEPTH_MAX, deep, sizeof deep);
-    deeper_len = with_depth(GRAFS_DEPTH_MAX + 1, deeper, sizeof deeper);
     graph_len = map_of(GRAFS_PLACES_MAX, GRAFS_PASSAGES_MAX, graph, sizeof graph);
-    expect(question_len == GRAFS_QUESTION_MAX, "the longest question", question_len);
     expect(graph_len == GRAFS_MAP_MAX, "the longest map", graph_len);
-    longest_terms();
     try_limits();
-    plan_len = fuse(question, question_len, plan, sizeof plan);
-    deep_plan_len = fuse(deep, deep_len, deep_plan, sizeof deep_plan);
-    answer_len = run(plan, plan_len, graph, graph_len, answer, sizeof answer);
-    deep_answer_len = run(deep_plan, deep_plan_len, graph, graph_len, deep_answer, sizeof deep_answer);
-    expect(plan_len < GRAFS_REFUSAL && deep_plan_len < GRAFS_REFUSAL && answer_len == 19 && deep_answer_len == GRAFS_ANSWER_MAX, "answered", 0);
-    expect(grafs_get(deep_answer + 7, 2) == 512 && grafs_get(deep_answer + 10 + 9 * 255 + 1, 8) == 17, "512 rounds, and 2 and 15 at place 255", 0);
-    make_deeper_plan();
+    try_lengths();
+    make_samples();
+    try_samples();
     try_stack("fuse", do_fuse, GRAFS_FUSE_STACK);
     try_stack("run", do_run, GRAFS_RUN_STACK);
     try_threads();

@@ -48,6 +48,16 @@ static void try_case(const test_case *c)
 #define PLACE_Q(key, start) BYTES('L', 'P', 'Q', 1, 0, 0, 0x10, 1, key, start, 0)
 #define PLACE_W(key, start) BYTES('L', 'P', 'W', 1, 0, 0, 1, 1, key, 0, 0, start, 0, 1, 0, 0x30, 0)
 
+/* A reduction of the seconds from 0, over places where these are more than so many. */
+#define FARTHER_Q(reduction, than) \
+    BYTES('L', 'P', 'Q', 1, 0, 1, 0x23, reduction, 0x12, 9, 0x10, 1, 2, 0, 0, 0x11, than, 0, 0, 0, 0x10, 1, 2, 0, 0)
+#define FARTHER_W(byte, than) BYTES('L', 'P', 'W', 1, 0, 1, 1, 1, 2, 0, 0, 0, 0, 1, byte, 0x12, 9, 0x30, 0, 0x11, than, 0, 0, 0, 0x30, 0, 0x31, 0)
+#define RESULT_A(...) BYTES('L', 'P', 'A', 1, 0, 4, 0, 3, 0, 1, __VA_ARGS__)
+
+/* Largest crates from 0, added up where the seconds from 2 are neither 0 nor absent. */
+#define BEHIND_Q BYTES('L', 'P', 'Q', 1, 0, 1, 0x23, 3, 0x10, 1, 2, 2, 0, 0x10, 1, 5, 0, 0)
+#define BEHIND_W BYTES('L', 'P', 'W', 1, 0, 1, 2, 1, 2, 0, 0, 2, 0, 1, 5, 0, 0, 0, 0, 1, 131, 0x30, 0, 0x30, 1, 0x31, 0)
+
 int main(void)
 {
     const test_case cases[] = {
@@ -65,6 +75,15 @@ int main(void)
         { "key 1 from 3 on map A", PLACE_W(1, 3), MAP_A, 0, BYTES('L', 'P', 'A', 1, 0, 4, 0, 1, 0, 0, ABSENT, ABSENT, ABSENT, NUMBER(0)) },
         { "the byte case run", BYTES(0x4c, 0x50, 0x57, 1, 0, 1, 1, 1, 1, 0, 0, 0, 0, 1, 2, 0x30, 0, 0x31, 0), MAP_A, 0,
             BYTES('L', 'P', 'A', 1, 0, 4, 0, 3, 0, 1, NUMBER(2)) },
+        { "a condition fused", FARTHER_Q(3, 2), NO_MAP, 0, FARTHER_W(GRAFS_ENTRY_CONDITION + 3, 2) },
+        { "the condition's chain before the value's", BEHIND_Q, NO_MAP, 0, BEHIND_W },
+        { "the sum over places farther than 2 seconds", FARTHER_W(131, 2), MAP_A, 0, RESULT_A(NUMBER(10)) },
+        { "the greatest over places farther than 2 seconds", FARTHER_W(130, 2), MAP_A, 0, RESULT_A(NUMBER(5)) },
+        { "the greatest over no place", FARTHER_W(130, 9), MAP_A, 0, RESULT_A(ABSENT) },
+        { "a condition that is 0 or absent", BEHIND_W, MAP_A, 0, RESULT_A(NUMBER(17)) },
+        { "a condition, and no reduction", FARTHER_W(128, 2), MAP_A, GRAFS_CODE, NOTHING },
+        { "a condition, and no such reduction", FARTHER_W(134, 2), MAP_A, GRAFS_CODE, NOTHING },
+        { "no such reduction", FARTHER_W(6, 2), MAP_A, GRAFS_CODE, NOTHING },
         { "start 4 on map A", PLACE_W(2, 4), MAP_A, GRAFS_START, NOTHING },
         { "a worksheet before its map", BYTES('L', 'P', 'Q', 1, 0), BYTES('L'), GRAFS_MARK, NOTHING },
         { "no map", PLACE_W(2, 4), (const uint8_t *)"", 0, GRAFS_SHORT, NOTHING },

@@ -1,139 +1,109 @@
--- The four kinds of terms: vertex terms, result terms, entries and final expressions of a plan. For each: its bytes are collected as its nodes, the text of
+-- The terms of queries (document 01: place terms and result terms) and the expressions of plans: the bytes of each are collected as its nodes, the text of
 -- these is its bytes, and there are as many as it has terms. Assumes nothing.
 use Prim.Native.Nat.{ℕ, suc, _+_, _<_}
-use mathlib.Core.Path.{_≡_, refl, ap, _∙_}
-use mathlib.Core.List.{List, [], _∷_, _++_, append-nil}
-use native.Mathlib.Omega.{arith}
-use lib.ListN.{length, getD, length-append}
-use Rattle.meaning.specs.Limits.{EveryBody, Every, PathFits, terms, unit}
-use Rattle.meaning.specs.Query.{PathReduction, ResultTerm, Term, VertexReduction, VertexTerm, leaf}
+use mathlib.Core.Path.{_≡_, refl, ap, ap₂, _∙_}
+use mathlib.Core.List.{List, [], _∷_, _++_}
+use lib.ListN.{length, length-append}
+use Rattle.meaning.specs.Limits.{Every, TermFits, size-of, terms, unit}
+use Rattle.meaning.specs.Plan.{Term, apply, leaf, literal}
+use Rattle.meaning.specs.Query.{Kind, QueryTerm, number, operator, over, over-where, path, vertex}
 use Rattle.terms.specs.declared.TermKind.{TermKind}
-use Rattle.terms.specs.declared.TermKind.the-variants.{OfVertex, OfResult, OfEntry, OfFinal}
-use Rattle.terms.specs.Terms.{leaf-tag}
-use Rattle.term_text.specs.Text.{expression-bytes, path-bytes, path-number, result-bytes, vertex-bytes}
-use Rattle.term_text.proofs.Exact.{index-leaves, result-leaves, vertex-leaves}
-use Rattle.term_text.proofs.Steps.{drop-on}
-use Rattle.wire.specs.Wire.{le16}
+use Rattle.terms.specs.declared.TermKind.the-variants.{OfEntry, OfFinal}
+use Rattle.term_text.specs.Text.{expression-bytes, index-tag, of-kind, query-bytes}
 use Rattle.nodes.specs.declared.Node.{Node}
-use Rattle.nodes.specs.declared.Term as single
-use Rattle.nodes.specs.declared.Term.the-variants.{EntryIndex, Path, PathIndex, Reduce}
-use Rattle.draft.specs.Texts.{texts}
-use Rattle.nodes.specs.Text.{nodes-text, path-text, term-text}
+use Rattle.nodes.specs.declared.Term.the-variants.{EntryIndex, PathIndex, Reduce, ReduceWhere}
+use Rattle.nodes.specs.Text.{nodes-text, term-text}
 use Rattle.nodes.specs.Nodes.{node}
-use Rattle.nodes.specs.Steps.{collected, passed, tagged}
-use Rattle.nodes.specs.Tree.{entry-nodes, final-nodes, result-nodes, term-nodes, vertex-nodes}
-use Rattle.nodes.proofs.Fields.{byte-there, collected-on, path-read, path-written}
-use Rattle.nodes.proofs.Shape.{Collects, collected-term, count-term, text-term}
+use Rattle.nodes.specs.Tree.{entry-nodes, expression-nodes, final-nodes, query-nodes}
+use Rattle.nodes.proofs.Fields.{One, apply-one, byte-one, literal-one, path-one}
+use Rattle.nodes.proofs.Shape.{Collects, Written, both-written, more-written, one-written}
 
--- ---- vertex terms: the leaves are path reductions
+-- a node, and those of two terms
+two-size : (l r : List Node) (n m : ℕ) → length l ≡ n → length r ≡ m → suc (length (l ++ r)) ≡ suc (n + m)
+two-size l r n m p q = ap suc (length-append l r ∙ ap₂ _+_ p q)
 
-abbrev path-nodes : PathReduction → List Node
-path-nodes c = node (Path (path-number c)) ∷ []
+-- ---- terms of queries, of both kinds
 
--- its bytes are collected as its nodes
-pub vertex-collected : (s : List ℕ) (t : VertexTerm) → Every (PathFits 256) t → Collects vertex-leaves path-nodes OfVertex s t
-vertex-collected s = collected-term vertex-leaves path-nodes OfVertex s one
-  where
-    one : (c : PathReduction) → PathFits 256 c → Collects vertex-leaves path-nodes OfVertex s (leaf c)
-    one c f i k rest e =
-        ap (λ (j : ℕ). collected j s i) (let p : 1 + k ≡ suc k = omega arith in p)
-        ∙ path-read s i c rest f e k
-        ∙ ap (λ (j : ℕ). node (Path (path-number c)) ∷ collected k s (i + j))
-        (let q : 4 + length (c .keys) ≡ length (0x10 ∷ path-bytes c) = omega (arith, length-append (c .keys) (le16 (c .source))) in q)
-
--- the text of its nodes is its bytes
-pub vertex-text : (t : VertexTerm) → Every (PathFits 256) t → nodes-text (vertex-nodes t) ≡ vertex-bytes t
-unfolding texts term-text
-vertex-text =
-    text-term vertex-leaves path-nodes OfVertex (λ c f. append-nil (0x10 ∷ path-text (path-number c))
-    ∙ ap (λ (l : List ℕ). 0x10 ∷ l) (path-written c f))
-
--- a node for each of its terms
-pub vertex-size : (t : VertexTerm) → length (vertex-nodes t) ≡ terms unit t
-vertex-size = count-term vertex-leaves path-nodes OfVertex (λ c. refl)
-
--- ---- result terms: the leaves are reductions of vertex terms
-
-abbrev reduction-nodes : VertexReduction PathReduction → List Node
-reduction-nodes e = node (Reduce (e .reduction)) ∷ vertex-nodes (e .body)
+-- both laws
+pub query-written : (κ : Kind) (t : QueryTerm κ) → TermFits 256 t → Written (size-of t) (query-bytes κ t) (query-nodes κ t)
+unfolding term-text
+query-written κ (path c) f = one-written (path-one c f)
+query-written κ (over o t) f = more-written (byte-one 0x20 o Reduce (λ s i. refl) (λ s i. refl) refl) (query-written vertex t (f .2))
+query-written κ (over-where o c t) f =
+    more-written (byte-one 0x23 o ReduceWhere (λ s i. refl) (λ s i. refl) refl)
+    (both-written (query-written vertex c (f .2)) (query-written vertex t (f .3)))
+query-written κ (number x) f = one-written (literal-one (of-kind κ) x f)
+query-written κ (operator o s t) f =
+    more-written (apply-one (of-kind κ) o) (both-written (query-written κ s (f .2)) (query-written κ t (f .3)))
 
 -- its bytes are collected as its nodes
-pub result-collected : (s : List ℕ) (t : ResultTerm) → Every (EveryBody (PathFits 256)) t → Collects result-leaves reduction-nodes OfResult s t
-result-collected s = collected-term result-leaves reduction-nodes OfResult s one
-  where
-    one : (e : VertexReduction PathReduction) → EveryBody (PathFits 256) e → Collects result-leaves reduction-nodes OfResult s (leaf e)
-    one e f i k rest d =
-        let body : List ℕ = vertex-bytes (e .body) in
-        let next = drop-on s i 2 (0x20 ∷ e .reduction ∷ []) (body ++ rest) d refl in
-        ap (λ (j : ℕ). collected j s i) (let p : suc (terms unit (e .body)) + k ≡ suc (terms unit (e .body) + k) = omega arith in p)
-        ∙ collected-on s i 0x20 (e .reduction ∷ (body ++ rest)) d (terms unit (e .body) + k) (node (Reduce (e .reduction))) (i + 2)
-        (ap (λ (r : ℕ). node (Reduce r)) (byte-there s i 0x20 (e .reduction) (body ++ rest) d)) refl
-        ∙ ap (λ (l : List Node). node (Reduce (e .reduction)) ∷ l)
-        (vertex-collected s (e .body) (f .2) (i + 2) k rest next
-        ∙ ap (λ (j : ℕ). vertex-nodes (e .body) ++ collected k s j) (let q : i + 2 + length body
-        ≡ i + length (0x20 ∷ e .reduction ∷ body) = omega arith in q))
+pub query-collected : (s : List ℕ) (κ : Kind) (t : QueryTerm κ) → TermFits 256 t → Collects s (size-of t) (query-bytes κ t) (query-nodes κ t)
+query-collected s κ t f = query-written κ t f .collects s
 
 -- the text of its nodes is its bytes
-pub result-text : (t : ResultTerm) → Every (EveryBody (PathFits 256)) t → nodes-text (result-nodes t) ≡ result-bytes t
-unfolding texts term-text
-result-text = text-term result-leaves reduction-nodes OfResult (λ e f. ap (λ (l : List ℕ). 0x20 ∷ e .reduction ∷ l) (vertex-text (e .body) (f .2)))
+pub query-text : (κ : Kind) (t : QueryTerm κ) → TermFits 256 t → nodes-text (query-nodes κ t) ≡ query-bytes κ t
+query-text κ t f = query-written κ t f .text
 
 -- a node for each of its terms
-pub result-size : (t : ResultTerm) → length (result-nodes t) ≡ terms (λ e. suc (terms unit (e .body))) t
-result-size = count-term result-leaves reduction-nodes OfResult (λ e. ap suc (vertex-size (e .body)))
+pub query-size : (κ : Kind) (t : QueryTerm κ) → length (query-nodes κ t) ≡ size-of t
+query-size κ (path c) = refl
+query-size κ (over o t) = ap suc (query-size vertex t)
+query-size κ (over-where o c t) = two-size (query-nodes vertex c) (query-nodes vertex t) (size-of c) (size-of t) (query-size vertex c) (query-size vertex t)
+query-size κ (number x) = refl
+query-size κ (operator o s t) = two-size (query-nodes κ s) (query-nodes κ t) (size-of s) (size-of t) (query-size κ s) (query-size κ t)
 
--- ---- expressions of a plan: the leaves are indices, of two bytes
+-- ---- expressions of plans, over the node of an index
 
--- `made` is the term of an index: what its tag is read as, and the next term starts two bytes on; its text is the tag and the index
-module _ (m : TermKind) (count : ℕ) (made : ℕ → single.Term) (is : (s : List ℕ) (i : ℕ) → tagged (leaf-tag m) s i ≡ made (getD s (i + 1) 0))
-    (on : (s : List ℕ) (i : ℕ) → passed (leaf-tag m) s i ≡ i + 2)
-    (text : (j : ℕ) → term-text (made j) ≡ leaf-tag m ∷ j ∷ []) where
-  abbrev index-nodes : ℕ → List Node
-  index-nodes j = node (made j) ∷ []
+-- the same, where both hold of an index
+module _ (kind : TermKind) (N : ℕ → Node) where
+  expression-written : ((i : ℕ) → One (index-tag kind ∷ i ∷ []) (N i)) → (count : ℕ) (t : Term ℕ) → Every (λ i. i < count) t
+      → Written (terms unit t) (expression-bytes kind t) (expression-nodes kind N t)
+  expression-written one count (leaf i) f = one-written (one i)
+  expression-written one count (literal x) f = one-written (literal-one kind x f)
+  expression-written one count (apply o s t) f =
+      more-written (apply-one kind o)
+      (both-written (expression-written one count s (f .2)) (expression-written one count t (f .3)))
 
-  index-collected : (s : List ℕ) (t : Term ℕ) → Every (λ j. j < count) t → Collects (index-leaves m count) index-nodes m s t
-  index-collected s = collected-term (index-leaves m count) index-nodes m s one
-    where
-      one : (j : ℕ) → j < count → Collects (index-leaves m count) index-nodes m s (leaf j)
-      one j f i k rest e =
-          ap (λ (n : ℕ). collected n s i) (let p : 1 + k ≡ suc k = omega arith in p)
-          ∙ collected-on s i (leaf-tag m) (j ∷ rest) e k (node (made j)) (i + 2) (ap node (is s i ∙ ap made (byte-there s i (leaf-tag m) j rest e)))
-          (on s i)
-
-  index-text : (t : Term ℕ) → Every (λ j. j < count) t → nodes-text (term-nodes m index-nodes t) ≡ expression-bytes m t
-  unfolding texts
-  index-text = text-term (index-leaves m count) index-nodes m (λ j f. append-nil (term-text (made j)) ∙ text j)
+  expression-size : (t : Term ℕ) → length (expression-nodes kind N t) ≡ terms unit t
+  expression-size (leaf i) = refl
+  expression-size (literal x) = refl
+  expression-size (apply o s t) =
+      two-size (expression-nodes kind N s) (expression-nodes kind N t) (terms unit s) (terms unit t) (expression-size s) (expression-size t)
 
 -- ---- entries, over the indices of path reductions
 
+pub entry-written : (count : ℕ) (t : Term ℕ) → Every (λ i. i < count) t → Written (terms unit t) (expression-bytes OfEntry t) (entry-nodes t)
+unfolding term-text
+entry-written = expression-written OfEntry (λ i. node (PathIndex i)) (λ i. byte-one 0x30 i PathIndex (λ s j. refl) (λ s j. refl) refl)
+
 -- its bytes are collected as its nodes
-pub entry-collected : (count : ℕ) (s : List ℕ) (t : Term ℕ) → Every (λ j. j < count) t
-    → Collects (index-leaves OfEntry count) (λ j. node (PathIndex j) ∷ []) OfEntry s t
-unfolding leaf-tag term-text
-entry-collected count = index-collected OfEntry count PathIndex (λ s i. refl) (λ s i. refl) (λ j. refl)
+pub entry-collected : (count : ℕ) (s : List ℕ) (t : Term ℕ) → Every (λ i. i < count) t
+    → Collects s (terms unit t) (expression-bytes OfEntry t) (entry-nodes t)
+entry-collected count s t f = entry-written count t f .collects s
 
 -- the text of its nodes is its bytes
-pub entry-text : (count : ℕ) (t : Term ℕ) → Every (λ j. j < count) t → nodes-text (entry-nodes t) ≡ expression-bytes OfEntry t
-unfolding leaf-tag term-text
-entry-text count = index-text OfEntry count PathIndex (λ s i. refl) (λ s i. refl) (λ j. refl)
+pub entry-text : (count : ℕ) (t : Term ℕ) → Every (λ i. i < count) t → nodes-text (entry-nodes t) ≡ expression-bytes OfEntry t
+entry-text count t f = entry-written count t f .text
 
 -- a node for each of its terms
 pub entry-size : (t : Term ℕ) → length (entry-nodes t) ≡ terms unit t
-entry-size = count-term (index-leaves OfEntry 0) (λ j. node (PathIndex j) ∷ []) OfEntry (λ j. refl)
+entry-size = expression-size OfEntry (λ i. node (PathIndex i))
 
 -- ---- final expressions, over the indices of entries
 
+pub final-written : (count : ℕ) (t : Term ℕ) → Every (λ i. i < count) t → Written (terms unit t) (expression-bytes OfFinal t) (final-nodes t)
+unfolding term-text
+final-written = expression-written OfFinal (λ i. node (EntryIndex i)) (λ i. byte-one 0x31 i EntryIndex (λ s j. refl) (λ s j. refl) refl)
+
 -- its bytes are collected as its nodes
-pub final-collected : (count : ℕ) (s : List ℕ) (t : Term ℕ) → Every (λ j. j < count) t
-    → Collects (index-leaves OfFinal count) (λ j. node (EntryIndex j) ∷ []) OfFinal s t
-unfolding leaf-tag term-text
-final-collected count = index-collected OfFinal count EntryIndex (λ s i. refl) (λ s i. refl) (λ j. refl)
+pub final-collected : (count : ℕ) (s : List ℕ) (t : Term ℕ) → Every (λ i. i < count) t
+    → Collects s (terms unit t) (expression-bytes OfFinal t) (final-nodes t)
+final-collected count s t f = final-written count t f .collects s
 
 -- the text of its nodes is its bytes
-pub final-text : (count : ℕ) (t : Term ℕ) → Every (λ j. j < count) t → nodes-text (final-nodes t) ≡ expression-bytes OfFinal t
-unfolding leaf-tag term-text
-final-text count = index-text OfFinal count EntryIndex (λ s i. refl) (λ s i. refl) (λ j. refl)
+pub final-text : (count : ℕ) (t : Term ℕ) → Every (λ i. i < count) t → nodes-text (final-nodes t) ≡ expression-bytes OfFinal t
+final-text count t f = final-written count t f .text
 
 -- a node for each of its terms
 pub final-size : (t : Term ℕ) → length (final-nodes t) ≡ terms unit t
-final-size = count-term (index-leaves OfFinal 0) (λ j. node (EntryIndex j) ∷ []) OfFinal (λ j. refl)
+final-size = expression-size OfFinal (λ i. node (EntryIndex i))

@@ -1,71 +1,62 @@
--- THE TERMS OF A TREE, over any kind of leaf: the bytes of a legal term are collected as its terms (`collected-term`), and the text of its terms is its bytes
--- (`text-term`), provided that both hold of the leaves. Assumes nothing.
+-- TERMS AND THEIR BYTES, one after the other: the laws of `One`, of several terms. Assumes nothing.
 use Prim.Native.Nat.{ℕ, suc, _+_}
-use mathlib.Core.Path.{_≡_, refl, sym, ap, ap₂, _∙_}
+use mathlib.Core.Path.{_≡_, refl, sym, ap, ap₂, _∙_, subst}
 use mathlib.Core.List.{List, [], _∷_, _++_, append-assoc, append-nil}
 use native.Mathlib.Omega.{arith}
 use lib.ListN.{length, drop, length-append}
-use Rattle.meaning.specs.Limits.{Every, terms}
-use Rattle.meaning.specs.Query.{Term, apply, leaf, literal}
-use Rattle.terms.specs.declared.TermKind.{TermKind}
-use Rattle.terms.specs.Terms.{literal-tag}
-use Rattle.term_text.specs.Text.{term-bytes}
-use Rattle.term_text.proofs.Shape.{Leaves}
 use Rattle.term_text.proofs.Steps.{drop-on}
 use Rattle.nodes.specs.declared.Node.{Node}
 use Rattle.draft.specs.Texts.{texts}
-use Rattle.nodes.specs.Text.{node-text, nodes-text, term-text}
+use Rattle.nodes.specs.Text.{node-text, nodes-text}
 use Rattle.nodes.specs.Steps.{collected}
-use Rattle.nodes.specs.Tree.{apply-node, literal-node, term-nodes}
 use Rattle.draft.proofs.Texts.{text-append}
-use Rattle.nodes.proofs.Fields.{apply-read, apply-text, literal-read, literal-tags, literal-text}
+use Rattle.nodes.proofs.Fields.{One}
 
-module _ {A : Type 0} (K : Leaves A) (N : A → List Node) (m : TermKind) where
-  abbrev bytes : Term A → List ℕ
-  bytes = term-bytes m (K .bytes)
+-- where the bytes b stand in s, the n terms l are collected, and those behind them
+abbrev pub Collects : List ℕ → ℕ → List ℕ → List Node → Type 0
+Collects s n b l = (i k : ℕ) (rest : List ℕ) → drop i s ≡ b ++ rest → collected (n + k) s i ≡ l ++ collected k s (i + length b)
 
-  abbrev nodes : Term A → List Node
-  nodes = term-nodes m N
+-- n terms and their bytes: these are collected as the terms, wherever they stand, and are their text
+pub record Written (n : ℕ) (b : List ℕ) (l : List Node) : Type 0 where
+  pub collects : (s : List ℕ) → Collects s n b l
+  pub text : nodes-text l ≡ b
 
-  -- where the bytes of the term stand, its terms are collected, and those behind it
-  abbrev pub Collects : List ℕ → Term A → Type 0
-  Collects s t =
-      (i k : ℕ) (rest : List ℕ) → drop i s ≡ term-bytes m (K .bytes) t ++ rest
-      → collected (terms (K .size) t + k) s i ≡ term-nodes m N t ++ collected k s (i + length (term-bytes m (K .bytes) t))
+-- none
+pub none-written : Written 0 [] []
+unfolding texts
+none-written = record {
+  collects = λ s i k rest d. ap₂ (λ (n j : ℕ). collected n s j) (let e : 0 + k ≡ k = omega arith in e) (let e : i ≡ i + 0 = omega arith in e);
+  text = refl;
+}
 
-  -- SO IS EVERY TERM WHOSE LEAVES ARE
-  pub collected-term : (s : List ℕ) → ((a : A) → K .fine a → Collects s (leaf a)) → (t : Term A) → Every (K .fine) t → Collects s t
-  collected-term s f (leaf a) e i n rest d = f a e i n rest d
-  collected-term s f (literal k) e i n rest d =
-      ap (λ (j : ℕ). collected j s i) (let p : 1 + n ≡ suc n = omega arith in p) ∙ literal-read s i (literal-tag m) k rest (literal-tags m) e d n
-  collected-term s f (apply o t u) e i n rest d =
-      let a : ℕ = terms (K .size) t in
-      let b : ℕ = terms (K .size) u in
-      let d1 : drop (i + 2) s ≡ bytes t ++ (bytes u ++ rest) =
-      drop-on s i 2 ((literal-tag m + 1) ∷ o ∷ []) ((bytes t ++ bytes u) ++ rest) d refl ∙ append-assoc (bytes t) (bytes u) rest in
-      let d2 = drop-on s (i + 2) (length (bytes t)) (bytes t) (bytes u ++ rest) d1 refl in
-      let p = collected-term s f t (e .2) (i + 2) (b + n) (bytes u ++ rest) d1 in
-      let q = collected-term s f u (e .3) (i + 2 + length (bytes t)) n rest d2 in
-      let end : i + 2 + length (bytes t) + length (bytes u) ≡ i + suc (suc (length (bytes t ++ bytes u))) =
-      omega (arith, length-append (bytes t) (bytes u)) in
-      ap (λ (j : ℕ). collected j s i) (let z : suc (a + b) + n ≡ suc (a + (b + n)) = omega arith in z)
-      ∙ apply-read s i (literal-tag m) o ((bytes t ++ bytes u) ++ rest) (literal-tags m) d (a + (b + n))
-      ∙ ap (λ (l : List Node). apply-node (literal-tag m) o ∷ l)
-      (p ∙ ap (λ (l : List Node). nodes t ++ l) (q ∙ ap (λ (j : ℕ). nodes u ++ collected n s j) end)
-      ∙ sym (append-assoc (nodes t) (nodes u) (collected n s (i + suc (suc (length (bytes t ++ bytes u)))))))
+-- some, and others behind them
+pub both-written : {n m : ℕ} {b c : List ℕ} {l r : List Node} → Written n b l → Written m c r → Written (n + m) (b ++ c) (l ++ r)
+both-written {n} {m} {b} {c} {l} {r} v w = record {
+  collects = λ s i k rest d.
+      let d1 : drop i s ≡ b ++ (c ++ rest) = d ∙ append-assoc b c rest in
+      let d2 = drop-on s i (length b) b (c ++ rest) d1 refl in
+      let end : i + length b + length c ≡ i + length (b ++ c) = omega (arith, length-append b c) in
+      ap (λ (j : ℕ). collected j s i) (let z : n + m + k ≡ n + (m + k) = omega arith in z)
+      ∙ v .collects s i (m + k) (c ++ rest) d1
+      ∙ ap (λ (x : List Node). l ++ x) (w .collects s (i + length b) k rest d2 ∙ ap (λ (j : ℕ). r ++ collected k s j) end)
+      ∙ sym (append-assoc l r (collected k s (i + length (b ++ c))));
+  text = text-append node-text l r ∙ ap₂ _++_ (v .text) (w .text);
+}
 
-  -- THE TEXT OF ITS TERMS IS ITS BYTES
-  pub text-term : ((a : A) → K .fine a → nodes-text (N a) ≡ K .bytes a) → (t : Term A) → Every (K .fine) t
-      → nodes-text (term-nodes m N t) ≡ term-bytes m (K .bytes) t
-  unfolding texts
-  text-term f (leaf a) e = f a e
-  text-term f (literal k) e = append-nil (term-text (literal-node (literal-tag m) k .term)) ∙ literal-text (literal-tag m) k (literal-tags m)
-  text-term f (apply o t u) e =
-      ap₂ _++_ (apply-text (literal-tag m) o (literal-tags m))
-      (text-append node-text (nodes t) (nodes u) ∙ ap₂ _++_ (text-term f t (e .2)) (text-term f u (e .3)))
+-- one, and others behind it
+pub more-written : {m : ℕ} {b c : List ℕ} {x : Node} {r : List Node} → One b x → Written m c r → Written (suc m) (b ++ c) (x ∷ r)
+unfolding texts
+more-written {m} {b} {c} {x} {r} v w = record {
+  collects = λ s i k rest d.
+      let d1 : drop i s ≡ b ++ (c ++ rest) = d ∙ append-assoc b c rest in
+      let d2 = drop-on s i (length b) b (c ++ rest) d1 refl in
+      let end : i + length b + length c ≡ i + length (b ++ c) = omega (arith, length-append b c) in
+      ap (λ (j : ℕ). collected j s i) (let z : suc m + k ≡ suc (m + k) = omega arith in z)
+      ∙ v .collects s i (m + k) (c ++ rest) d1
+      ∙ ap (λ (l : List Node). x ∷ l) (w .collects s (i + length b) k rest d2 ∙ ap (λ (j : ℕ). r ++ collected k s j) end);
+  text = ap₂ _++_ (v .text) (w .text);
+}
 
-  -- there are as many as the tree has terms
-  pub count-term : ((a : A) → length (N a) ≡ K .size a) → (t : Term A) → length (term-nodes m N t) ≡ terms (K .size) t
-  count-term f (leaf a) = f a
-  count-term f (literal k) = refl
-  count-term f (apply o t u) = ap suc (length-append (nodes t) (nodes u) ∙ ap₂ _+_ (count-term f t) (count-term f u))
+-- one alone
+pub one-written : {b : List ℕ} {x : Node} → One b x → Written 1 b (x ∷ [])
+one-written {b} {x} v = subst (λ (l : List ℕ). Written 1 l (x ∷ [])) (append-nil b) (more-written v none-written)

@@ -9,7 +9,19 @@ use lib.ListN.{length, take, length-append, length-take}
 use Rattle.draft.proofs.Texts.{texts-short}
 use Rattle.nodes.specs.declared.Node.{Node}
 use Rattle.nodes.specs.declared.Term.{Term}
-use Rattle.nodes.specs.declared.Term.the-variants.{Apply, Empty, Entry, EntryIndex, Literal, Path, PathIndex, Reduce, ResultApply, ResultLiteral}
+use Rattle.nodes.specs.declared.Term.the-variants.{
+  Apply,
+  Empty,
+  Entry,
+  EntryIndex,
+  Literal,
+  Path,
+  PathIndex,
+  Reduce,
+  ReduceWhere,
+  ResultApply,
+  ResultLiteral,
+}
 use Rattle.nodes.specs.Text.{key-text, node-text, nodes-text, path-text, term-text}
 
 -- a key takes at most one byte, a path reduction six, a term seven
@@ -45,6 +57,7 @@ term-short (Path w) = omega (arith, path-short w)
 term-short (Literal k) = omega arith
 term-short (Apply o) = omega arith
 term-short (Reduce o) = omega arith
+term-short (ReduceWhere o) = omega arith
 term-short (ResultLiteral k) = omega arith
 term-short (ResultApply o) = omega arith
 term-short (PathIndex i) = omega arith

@@ -7,7 +7,19 @@ use Rattle.draft.specs.Texts.{texts}
 use Rattle.wire.specs.Wire.{le16, le32}
 use Rattle.nodes.specs.declared.Node.{Node}
 use Rattle.nodes.specs.declared.Term.{Term}
-use Rattle.nodes.specs.declared.Term.the-variants.{Empty, Path, Literal, Apply, Reduce, ReduceWhere, ResultLiteral, ResultApply, PathIndex, EntryIndex, Entry}
+use Rattle.nodes.specs.declared.Term.the-variants.{
+  Empty,
+  Path,
+  Literal,
+  Apply,
+  Reduce,
+  ReduceWhere,
+  ResultLiteral,
+  ResultApply,
+  PathIndex,
+  EntryIndex,
+  Entry,
+}
 
 -- key byte j of a path reduction of n keys
 abbrev pub key-text : ℕ → ℕ → ℕ → List ℕ
@@ -21,8 +33,8 @@ path-text w =
     ++ (key-text (w % 256) 1 (w / 65536 % 256) ++ (key-text (w % 256) 2 (w / 16777216 % 256) ++ le16 (w / 4294967296))))
 
 -- the bytes of a term without those that it contains: "0x10, key count 1 to 3, the keys, a 16-bit start ..; 0x11 and a 32-bit literal; 0x12, operator, ..",
--- "0x20, reduction, ..; 0x21 and a 32-bit literal; 0x22, operator, ..", 0x23 as 0x20, "0x30 and a chain's index for a chain, 0x31 and an entry's index for a reduction"; "e
--- entries, each a reduction byte and an expression"; an empty term is a byte that no term starts with
+-- "0x20, reduction, ..; 0x21 and a 32-bit literal; 0x22, operator, ..", 0x23 as 0x20, "0x30 and a chain's index for a chain, 0x31 and an entry's index for a
+-- reduction"; "e entries, each a reduction byte and an expression"; an empty term is a byte that no term starts with
 unfoldable pub term-text : Term → List ℕ
 term-text Empty = 0 ∷ []
 term-text (Path w) = 0x10 ∷ path-text w

@@ -1,7 +1,7 @@
 -- `nodes::next_of` meets its contract. Assumes nothing.
-use mathlib.Core.Path.{refl}
+use mathlib.Core.Path.{refl, sym, _∙_}
 use borrow.Author.Needs.{needs}
-use borrow.Author.Tests.{eq-eqb, le-leb, le-ltb, lt-leb, lt-ltb, ne-eqb}
+use borrow.Author.Tests.{eq-eqb, le-leb, lt-leb, ne-eqb}
 use Rattle.nodes.specs.Steps.{next-at}
 use Rattle.nodes.proofs.next_of.Statement.{statement}
 use Rattle.nodes.proofs.next_of.Tie as tie
@@ -51,17 +51,20 @@ returns-4 c = rw (
   eq-eqb _ _ (c .if4 .taken),
 )
 
+reduction-byte-requires : tie.Need-reduction-byte-requires
+reduction-byte-requires c κs = search needs
+
 add-result-5 : tie.Need-add-result-5
 add-result-5 c = search needs
 
 returns-5 : tie.Need-returns-5
 unfolding next-at
 returns-5 c = rw (
-  lt-leb _ _ (c .before .before .before .before .before .if1 .left),
-  ne-eqb _ _ (c .before .before .before .if2 .left),
-  ne-eqb _ _ (c .before .before .if3 .left),
-  ne-eqb _ _ (c .before .if4 .left),
-  lt-ltb _ _ (c .if5 .taken),
+  lt-leb _ _ (c .before .before .before .before .before .before .if1 .left),
+  ne-eqb _ _ (c .before .before .before .before .if2 .left),
+  ne-eqb _ _ (c .before .before .before .if3 .left),
+  ne-eqb _ _ (c .before .before .if4 .left),
+  sym (c .before .reduction-byte .ensures) ∙ c .if5 .taken,
 )
 
 add-result-6 : tie.Need-add-result-6
@@ -70,11 +73,11 @@ add-result-6 c = search needs
 returns-6 : tie.Need-returns-6
 unfolding next-at
 returns-6 c = rw (
-  lt-leb _ _ (c .before .before .before .before .before .if1 .left),
-  ne-eqb _ _ (c .before .before .before .if2 .left),
-  ne-eqb _ _ (c .before .before .if3 .left),
-  ne-eqb _ _ (c .before .if4 .left),
-  le-ltb _ _ (c .if5 .left),
+  lt-leb _ _ (c .before .before .before .before .before .before .if1 .left),
+  ne-eqb _ _ (c .before .before .before .before .if2 .left),
+  ne-eqb _ _ (c .before .before .before .if3 .left),
+  ne-eqb _ _ (c .before .before .if4 .left),
+  sym (c .before .reduction-byte .ensures) ∙ c .if5 .left,
 )
 
 pub next-of-spec : {M : Type 1} → statement M
@@ -93,6 +96,7 @@ next-of-spec =
     returns-3
     add-result-4
     returns-4
+    reduction-byte-requires
     add-result-5
     returns-5
     add-result-6

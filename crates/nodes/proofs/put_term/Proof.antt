@@ -41,14 +41,14 @@ put-two-requires-2 c κs = search needs
 enum-known-t-5 : tie.Need-enum-known-t-5
 enum-known-t-5 c = search needs
 
-put-literal-requires-2 : tie.Need-put-literal-requires-2
-put-literal-requires-2 c κs = search needs
+put-two-requires-3 : tie.Need-put-two-requires-3
+put-two-requires-3 c κs = search needs
 
 enum-known-t-6 : tie.Need-enum-known-t-6
 enum-known-t-6 c = search needs
 
-put-two-requires-3 : tie.Need-put-two-requires-3
-put-two-requires-3 c κs = search needs
+put-literal-requires-2 : tie.Need-put-literal-requires-2
+put-literal-requires-2 c κs = search needs
 
 enum-known-t-7 : tie.Need-enum-known-t-7
 enum-known-t-7 c = search needs
@@ -64,6 +64,12 @@ put-two-requires-5 c κs = search needs
 
 enum-known-t-9 : tie.Need-enum-known-t-9
 enum-known-t-9 c = search needs
+
+put-two-requires-6 : tie.Need-put-two-requires-6
+put-two-requires-6 c κs = search needs
+
+enum-known-t-10 : tie.Need-enum-known-t-10
+enum-known-t-10 c = search needs
 
 put-requires-3 : tie.Need-put-requires-3
 put-requires-3 c κs = search needs
@@ -90,11 +96,11 @@ returns-5 c = rw (c .before .before .t4 .given .1) (c .put-two2 .ensures)
 
 returns-6 : tie.Need-returns-6
 unfolding put-list term-text
-returns-6 c = rw (c .before .before .t5 .given .1) (c .put-literal2 .ensures)
+returns-6 c = rw (c .before .before .t5 .given .1) (c .put-two3 .ensures)
 
 returns-7 : tie.Need-returns-7
 unfolding put-list term-text
-returns-7 c = rw (c .before .before .t6 .given .1) (c .put-two3 .ensures)
+returns-7 c = rw (c .before .before .t6 .given .1) (c .put-literal2 .ensures)
 
 returns-8 : tie.Need-returns-8
 unfolding put-list term-text
@@ -106,7 +112,11 @@ returns-9 c = rw (c .before .before .t8 .given .1) (c .put-two5 .ensures)
 
 returns-10 : tie.Need-returns-10
 unfolding put-list term-text
-returns-10 c = rw (c .before .before .t9 .given .1) (c .put3 .ensures)
+returns-10 c = rw (c .before .before .t9 .given .1) (c .put-two6 .ensures)
+
+returns-11 : tie.Need-returns-11
+unfolding put-list term-text
+returns-11 c = rw (c .before .before .t10 .given .1) (c .put3 .ensures)
 
 pub put-term-spec : {M : Type 1} → statement M
 put-term-spec =
@@ -124,14 +134,16 @@ put-term-spec =
     enum-known-t-4
     put-two-requires-2
     enum-known-t-5
-    put-literal-requires-2
-    enum-known-t-6
     put-two-requires-3
+    enum-known-t-6
+    put-literal-requires-2
     enum-known-t-7
     put-two-requires-4
     enum-known-t-8
     put-two-requires-5
     enum-known-t-9
+    put-two-requires-6
+    enum-known-t-10
     put-requires-3
     returns
     returns-2
@@ -142,4 +154,5 @@ put-term-spec =
     returns-7
     returns-8
     returns-9
-    returns-10)
+    returns-10
+    returns-11)

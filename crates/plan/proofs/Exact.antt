@@ -14,7 +14,7 @@ use Rattle.fields.specs.Fields.{opening-code}
 use Rattle.fields.proofs.Opening.{opening-found}
 use Rattle.progress.specs.declared.Progress.{Progress}
 use Rattle.terms.specs.declared.TermKind.the-variants.{OfEntry, OfFinal}
-use Rattle.terms.specs.Terms.{leaf-step, leaf-tag, literal-tag, read}
+use Rattle.terms.specs.Terms.{leaf-step, literal-tag, read}
 use Rattle.progress.specs.Progress.{blank, ended, started}
 use Rattle.term_text.specs.Text.{expression-bytes}
 use Rattle.term_text.proofs.Ends.{ended-code, ended-whole, no-rest, started-table}
@@ -26,8 +26,19 @@ use Rattle.wire.specs.Header.{header-bytes, header-code}
 use Rattle.wire.specs.Wire.{Bytes}
 use Rattle.wire.proofs.Header.{header-accepted, header-found}
 use Rattle.plan.specs.Plan.{body-scan, count-code, entries-scan, entry-scan, final-scan, moved, plan-code, plan-scan, listed-scan}
-use Rattle.plan.specs.Text.{body-bytes, encode, entries-bytes, entry-count, kind-of, all-listed-bytes}
-use Rattle.plan.proofs.Expressions.{Passed, entries-complete, entries-sound, entry-complete, entry-sound, expr-complete, expr-sound, moved-table}
+use Rattle.plan.specs.Text.{all-listed-bytes, body-bytes, encode, entries-bytes, entry-count, kind-of, reduction-byte}
+use Rattle.plan.proofs.ListedEntries.{
+  Passed,
+  entries-complete,
+  entries-sound,
+  entry-complete,
+  entry-sound,
+  expr-complete,
+  expr-sound,
+  moved-table,
+  plain-bytes,
+  plain-entry,
+}
 use Rattle.plan.proofs.ListedPaths.{ListedHeld, filler-zero, listed-complete, listed-sound}
 
 -- what the reader knows of an accepted plan: its path reductions in the table, its terms and its entries
@@ -55,14 +66,15 @@ module _ (s : List ℕ) where
       → w .reductions ≡ 0
       → drop (w .at) s ≡ body-bytes b ++ rest
       → BodyLegal (length cs) b → plan-terms b ≤ 64 → Further w (body-scan (kind-of b) s w) cs (length (body-bytes b)) (plan-terms b) (entry-count b)
-  unfolding moved final-scan entries-scan leaf-step literal-tag leaf-tag
+  unfolding moved final-scan entries-scan leaf-step literal-tag
   body-complete (each-vertex t) w cs rest z tb n none e l k =
       let h = there s (w .at) 1 (0 ∷ (expression-bytes OfEntry t ++ rest)) e in
       let b : getD s (w .at) 256 ≡ 1 = rw (nth s (w .at) 0 (w .at) 256 (omega arith), e) refl in
       let w1 : Progress = moved w (w .at + 1) (w .reductions) in
       let next = drop-on s (w .at) 1 (1 ∷ []) (0 ∷ (expression-bytes OfEntry t ++ rest)) e refl in
       let a =
-      entry-complete s 0 0 t w1 cs rest z (moved-table w cs (w .at + 1) (w .reductions) tb (tb .few-reductions)) refl next l (omega arith) (omega arith) in
+      entry-complete s 0 (plain-entry t) w1 cs rest z (moved-table w cs (w .at + 1) (w .reductions) tb (tb .few-reductions)) refl next
+      (record { low = omega arith; condition = tt; body = l; terms = omega arith }) (omega arith) in
       let reads : body-scan 0 s w ≡ entry-scan 0 s w1 = body-scanned 0 1 w z h b refl ∙ rw (eq-eqb (w .code) 0 z) refl in
       subst (λ (v : Progress). Further w v cs (length (body-bytes (each-vertex t))) (terms unit t) 1) (sym reads)
       (record { code = a .code; at = omega (arith, a .at); terms = omega (arith, a .terms); reductions = omega (arith, a .reductions); table = a .table })
@@ -81,8 +93,8 @@ module _ (s : List ℕ) where
       let e2 : drop (w2 .at) s ≡ expression-bytes OfFinal t ++ rest =
       ap (λ (i : ℕ). drop i s) (a .at) ∙ drop-on s (w .at + 1) (length (entries-bytes es)) (entries-bytes es) (expression-bytes OfFinal t ++ rest) next
       refl in
-      let d = expr-complete s OfFinal reductions-of (λ w w′ p q. q) (λ w. refl) refl refl t w2 cs rest (a .code) (a .table) (omega (arith, l .0)) e2
-      (subst (λ (m : ℕ). Expression m t) (sym met) (l .2)) (omega (arith, a .terms)) in
+      let d = expr-complete s OfFinal reductions-of (λ w w′ p q. q) (λ w. refl) (λ tag w p. rw p refl) refl refl t w2 cs rest (a .code) (a .table)
+      (omega (arith, l .0)) e2 (subst (λ (m : ℕ). Expression m t) (sym met) (l .2)) (omega (arith, a .terms)) in
       let reads : body-scan 1 s w ≡ read OfFinal 16 s w2 = body-scanned 1 c w z h b (count-one c (l .0)) in
       subst (λ (v : Progress). Further w v cs (length (body-bytes (one-result es t))) (plan-terms (one-result es t)) (length es)) (sym reads)
       (record {
@@ -194,20 +206,22 @@ module _ (s : List ℕ) (bytes : Bytes s) where
 
   body-sound : (kind : ℕ) (w : Progress) (cs : List PathReduction) → kind ≤ 1 → w .code ≡ 0 → Table w cs → w .terms ≡ 0 → w .reductions ≡ 0
       → body-scan kind s w .code ≡ 0 → BodyFound kind w cs
-  unfolding moved final-scan entries-scan leaf-step literal-tag leaf-tag
+  unfolding moved final-scan entries-scan leaf-step literal-tag
   body-sound zero w cs k z tb n none e =
       let p = body-starts 0 w z e in
       let one = count-zero (getD s (w .at) 256) (p .1) in
       let w1 : Progress = moved w (w .at + 1) (w .reductions) in
       let r : entry-scan 0 s w1 .code ≡ 0 = rw (eq-eqb (w .code) 0 z) at (rw one at (p .2)) in
-      let f = entry-sound s bytes 0 w1 cs z (moved-table w cs (w .at + 1) (w .reductions) tb (tb .few-reductions)) r in (
-        each-vertex (f .1),
-        f .2,
+      let f = entry-sound s bytes 0 w1 cs z (moved-table w cs (w .at + 1) (w .reductions) tb (tb .few-reductions)) r in
+      let d = f .0 in
+      let byte = filler-zero (reduction-byte (d .reduction) (d .condition)) (f .2) in (
+        each-vertex (d .body),
+        f .1,
         refl,
-        drop-at s (w .at) (p .0) ∙ ap₂ (λ (x : ℕ) (l : List ℕ). x ∷ l) one
-            (f .4 ∙ ap (λ (x : ℕ). x ∷ (expression-bytes OfEntry (f .1) ++ f .2)) (filler-zero (f .0) (f .3))),
-        f .5,
-        omega (arith, f .6),
+        drop-at s (w .at) (p .0)
+            ∙ ap₂ (λ (x : ℕ) (l : List ℕ). x ∷ l) one (f .3 ∙ ap (λ (l : List ℕ). l ++ f .1) (plain-bytes d byte)),
+        f .4 .body,
+        omega (arith, f .4 .terms),
       )
   body-sound (suc zero) w cs k z tb n none e =
       let p = body-starts 1 w z e in
@@ -222,7 +236,8 @@ module _ (s : List ℕ) (bytes : Bytes s) where
       let a = subst (λ (v : Progress). Passed w1 v cs (length (entries-bytes (f .0))) (entry-terms (f .0)) (length (f .0))) reads
       (entries-complete s (f .0) w1 cs (f .1) z t1 (f .3) (f .4) (f .5) (f .6)) in
       let met : w2 .reductions ≡ length (f .0) = omega (arith, a .reductions) in
-      let g = expr-sound s OfFinal reductions-of (λ w w′ p q. q) (λ w. refl) refl refl bytes w2 cs two (a .table) (omega (arith, f .6)) (p .2) in
+      let g = expr-sound s OfFinal reductions-of (λ w w′ p q. q) (λ w. refl) (λ tag w p. rw p refl) refl refl bytes w2 cs two (a .table)
+      (omega (arith, f .6)) (p .2) in
       let rest : f .1 ≡ expression-bytes OfFinal (g .0) ++ g .1 =
       sym (ap (λ (i : ℕ). drop i s) (a .at) ∙ drop-on s (w .at + 1) (length (entries-bytes (f .0))) (entries-bytes (f .0)) (f .1) (f .4) refl) ∙ g .2
       in (

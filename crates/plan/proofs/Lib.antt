@@ -1,6 +1,6 @@
 pub mod Laws
 pub mod ListedPaths
-pub mod Expressions
+pub mod ListedEntries
 pub mod Exact
 pub mod Unique
 pub mod Tree

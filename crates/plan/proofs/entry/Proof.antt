@@ -36,7 +36,7 @@ returns-4 c = rw (
   ← c .before .before .before .reduction-code-of .ensures,
   eq-eqb _ _ (c .before .before .if2 .left),
   lt-leb _ _ (c .before .if3 .left),
-) (c .read-term .ensures)
+) (c .expressions .ensures)
 
 pub entry-spec : {M : Type 1} → statement M
 entry-spec =

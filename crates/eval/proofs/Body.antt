@@ -1,27 +1,31 @@
 -- THE ROWS OF A PLAN'S BODY, by the bytes of a legal plan, are the rows of its tree: `body-value`. Assumes nothing.
-use Prim.Native.Nat.{ℕ, zero, suc, _+_, _-_, _*_, _≤_, _<_, min}
+use Prim.Native.Nat.{ℕ, zero, suc, _+_, _-_, _*_, _%_, _≤_, _<_, min}
 use mathlib.Core.Path.{_≡_, refl, sym, ap, ap₂, _∙_}
 use mathlib.Core.List.{List, [], _∷_, _++_, map, append-assoc, append-nil}
+use mathlib.Core.Option.{Option, none, some}
 use native.Mathlib.Omega.{arith}
+use borrow.Author.Tests.{le-leb, lt-leb}
 use lib.ListN.{length, getD, drop, replicate, length-append, length-map, List·getD-append, List·getD-map}
 use lib.Seq.{ext-getD}
-use Rattle.meaning.specs.Limits.{BodyLegal, EntryLegal, Expression, PlanLegal}
-use Rattle.meaning.specs.Plan.{Body, Plan, each-vertex, one-result}
-use Rattle.meaning.specs.Query.{PathReduction, Term, VertexReduction}
-use Rattle.meaning.specs.Run.{at-vertices, body-rows, evaluate, reduced, tabulate}
+use Rattle.meaning.specs.Limits.{BodyLegal, EntryLegal, Expression, Optional, PlanLegal}
+use Rattle.meaning.specs.Plan.{Body, Plan, Term, VertexReduction, each-vertex, one-result}
+use Rattle.meaning.specs.Query.{PathReduction}
+use Rattle.meaning.specs.Run.{at-vertices, body-rows, evaluate, picked, reduced, tabulate}
 use Rattle.meaning.proofs.Lists.{tabulate-at, tabulate-length}
 use Rattle.plan.proofs.ListedPaths.{listed-size}
-use Rattle.plan.specs.Text.{body-bytes, encode, entries-bytes, all-listed-bytes}
+use Rattle.plan.specs.Text.{all-listed-bytes, body-bytes, condition-bytes, encode, entries-bytes, entry-bytes, reduction-byte}
 use Rattle.terms.specs.declared.TermKind.the-variants.{OfEntry, OfFinal}
 use Rattle.term_text.specs.Text.{expression-bytes}
-use Rattle.term_text.proofs.Steps.{drop-on, tag-there}
+use Rattle.term_text.proofs.Steps.{drop-on, tag-there, there}
 use Rattle.value.specs.declared.Row.{Row}
 use Rattle.value.specs.declared.Value.{Value}
 use Rattle.value.specs.declared.Value.the-variants.{Absent}
-use Rattle.value.specs.Value.{values}
+use Rattle.value.specs.Steps.{all-where, where-counts}
+use Rattle.value.specs.Value.{reduce, values}
+use Rattle.value.proofs.Chosen.{left-out}
 use Rattle.walks.specs.Lists.{All}
 use Rattle.eval.specs.declared.Found.{Found}
-use Rattle.eval.specs.Steps.{body-found, eight, entries-end, entry-rows, evaluated, expression-end, final-found, results, row}
+use Rattle.eval.specs.Steps.{body-found, eight, entries-end, entry-end, entry-found, entry-rows, evaluated, final-found, found, results, row}
 use Rattle.eval.proofs.Laws.{row-value}
 use Rattle.eval.proofs.Tree.{entry-value, evaluate-same, final-value}
 
@@ -46,45 +50,97 @@ tabulate-same f g n h =
     ext-getD Absent (tabulate n zero f) (tabulate n zero g) (tabulate-length n zero f ∙ sym (tabulate-length n zero g))
     (λ i l. let b : i < n = omega (arith, tabulate-length n zero f) in tabulate-at n i f Absent b ∙ h i b ∙ sym (tabulate-at n i g Absent b))
 
+-- AN ENTRY, of a reduction r, a condition or none, and an expression: its text, and what it is worth over the values of the path reductions
+abbrev entry-text : ℕ → Option (Term ℕ) → Term ℕ → List ℕ
+entry-text r o t = reduction-byte r o ∷ (condition-bytes o ++ expression-bytes OfEntry t)
+
+abbrev worth-of : List Value → Option (Term ℕ) → Term ℕ → Value
+worth-of vs none t = evaluate vs t
+worth-of vs (some c) t = where-counts (evaluate vs c) (evaluate vs t)
+
+-- its byte says which reduction it is, and whether there is a condition
+byte-reduction : (r : ℕ) (o : Option (Term ℕ)) → r ≤ 5 → reduction-byte r o % 128 ≡ r
+byte-reduction r none h = omega arith
+byte-reduction r (some c) h = omega arith
+
+module _ (count : ℕ) (s : List ℕ) (r : ℕ) (small : r ≤ 5) (at : ℕ) (rest : List ℕ) where
+  -- what is found where its text stands, and the position behind it
+  entry-value-at : (o : Option (Term ℕ)) (t : Term ℕ) → Optional (Expression count) o → Expression count t → drop at s ≡ entry-text r o t ++ rest
+      → (rows : List Row) → entry-found s rows at ≡ found (worth-of (values rows) o t) (at + length (entry-text r o t))
+  unfolding entry-found
+  entry-value-at none t f g e rows =
+      let l = expression-bytes OfEntry t in
+      let d = drop-on s at 1 (r ∷ []) (l ++ rest) e refl in
+      let end : at + 1 + length l ≡ at + suc (length l) = omega arith in
+      rw (lt-leb (length s) at (there s at r (l ++ rest) e), tag-there s at r (l ++ rest) e, lt-leb 128 r (omega arith))
+      (entry-value count s rows t g (at + 1) rest d ∙ ap (found (evaluate (values rows) t)) end)
+  entry-value-at (some c) t f g e rows =
+      let k = expression-bytes OfEntry c in
+      let l = expression-bytes OfEntry t in
+      let d1 : drop (at + 1) s ≡ k ++ (l ++ rest) = drop-on s at 1 ((128 + r) ∷ []) ((k ++ l) ++ rest) e refl ∙ append-assoc k l rest in
+      let d2 = drop-on s (at + 1) (length k) k (l ++ rest) d1 refl in
+      let end : at + 1 + length k + length l ≡ at + suc (length (k ++ l)) = omega (arith, length-append k l) in
+      rw (
+        lt-leb (length s) at (there s at (128 + r) ((k ++ l) ++ rest) e),
+        tag-there s at (128 + r) ((k ++ l) ++ rest) e,
+        le-leb 128 (128 + r) (omega arith),
+        entry-value count s rows c f (at + 1) (l ++ rest) d1,
+        entry-value count s rows t g (at + 1 + length k) rest d2,
+        end,
+      ) refl
+
+-- two tables, value by value
+where-table : (f g : ℕ → Value) (n i : ℕ) → tabulate n i (λ v. where-counts (f v) (g v)) ≡ all-where (tabulate n i f) (tabulate n i g)
+where-table f g zero i = refl
+where-table f g (suc n) i = ap (λ (l : List Value). where-counts (f i) (g i) ∷ l) (where-table f g n (suc i))
+
+-- reduced over the vertices it is what the plan's tree has: values that do not count stay as absent ones
+worth-reduced : (r n : ℕ) (G : ℕ → List Value) (o : Option (Term ℕ)) (t : Term ℕ)
+    → reduce r (tabulate n zero (λ v. worth-of (G v) o t)) ≡ reduce r (picked G n o (at-vertices G n t))
+worth-reduced r n G none t = refl
+worth-reduced r n G (some c) t =
+    ap (reduce r) (where-table (λ v. evaluate (G v) c) (λ v. evaluate (G v) t) n zero) ∙ left-out r (at-vertices G n c) (at-vertices G n t)
+
 module _ (n count : ℕ) (F : ℕ → List Row) (G : ℕ → List Value) (agrees : Agrees n count F G) (s : List ℕ) where
-  -- an entry
-  module _ (t : Term ℕ) (legal : Expression count t) (at : ℕ) (rest : List ℕ) (e : drop at s ≡ expression-bytes OfEntry t ++ rest) where
-    entry-end : expression-end s at ≡ at + length (expression-bytes OfEntry t)
-    unfolding expression-end
-    entry-end = ap (λ (f : Found). f .next) (entry-value count s (eight []) t legal at rest e)
+  worth-same : (o : Option (Term ℕ)) (t : Term ℕ) → Optional (Expression count) o → Expression count t → (v : ℕ) → v < n
+      → worth-of (values (F v)) o t ≡ worth-of (G v) o t
+  worth-same none t f g v h = evaluate-same count (values (F v)) (G v) (agrees v h) t (g .0)
+  worth-same (some c) t f g v h =
+      ap₂ where-counts (evaluate-same count (values (F v)) (G v) (agrees v h) c (f .0)) (evaluate-same count (values (F v)) (G v) (agrees v h) t (g .0))
 
-    entry-rows-value : values (entry-rows s at F n) ≡ at-vertices G n t
-    unfolding entry-rows
-    entry-rows-value =
-        row-values (λ v. evaluated 16 s (F v) at .value) n zero
-        ∙ tabulate-same (λ v. evaluated 16 s (F v) at .value) (λ v. evaluate (G v) t) n
-        (λ v h. ap (λ (f : Found). f .value) (entry-value count s (F v) t legal at rest e)
-        ∙ evaluate-same count (values (F v)) (G v) (agrees v h) t (legal .0))
+  -- at the vertices in order
+  entry-rows-value : (r : ℕ) → r ≤ 5 → (o : Option (Term ℕ)) (t : Term ℕ) → Optional (Expression count) o → Expression count t
+      → (at : ℕ) (rest : List ℕ) → drop at s ≡ entry-text r o t ++ rest → values (entry-rows s at F n) ≡ tabulate n zero (λ v. worth-of (G v) o t)
+  unfolding entry-rows
+  entry-rows-value r small o t f g at rest e =
+      row-values (λ v. entry-found s (F v) at .value) n zero
+      ∙ tabulate-same (λ v. entry-found s (F v) at .value) (λ v. worth-of (G v) o t) n
+      (λ v h. ap (λ (x : Found). x .value) (entry-value-at count s r small at rest o t f g e (F v)) ∙ worth-same o t f g v h)
 
-  -- the entries, one after the other
+  -- THE ENTRIES, one after the other
   record Entries (es : List (VertexReduction ℕ)) (at : ℕ) : Type 0 where
     pub worth : results (length es) s at F n ≡ map (reduced G n) es
     pub end : entries-end (length es) s at ≡ at + length (entries-bytes es)
 
-  entries-value : (es : List (VertexReduction ℕ)) → All (EntryLegal count) es → (at : ℕ) (rest : List ℕ) → drop at s ≡ entries-bytes es
-      ++ rest → Entries es at
-  unfolding results entries-end
+  entries-value : (es : List (VertexReduction ℕ)) → All (EntryLegal count) es → (at : ℕ) (rest : List ℕ) → drop at s ≡ entries-bytes es ++ rest
+      → Entries es at
+  unfolding results entries-end entry-end
   entries-value [] a at rest e = record { worth = refl; end = omega arith }
   entries-value (x ∷ es) a at rest e =
+      let r = x .reduction in
+      let o : Option (Term ℕ) = x .condition in
       let t : Term ℕ = x .body in
-      let l : List ℕ = expression-bytes OfEntry t in
-      let legal = a .0 .2 in
-      let tag = tag-there s at (x .reduction) ((l ++ entries-bytes es) ++ rest) e in
-      let d1 : drop (at + 1) s ≡ l ++ (entries-bytes es ++ rest) =
-      drop-on s at 1 (x .reduction ∷ []) ((l ++ entries-bytes es) ++ rest) e refl ∙ append-assoc l (entries-bytes es) rest in
-      let d2 = drop-on s (at + 1) (length l) l (entries-bytes es ++ rest) d1 refl in
-      let rows = entry-rows-value t legal (at + 1) (entries-bytes es ++ rest) d1 in
-      let next = entry-end t legal (at + 1) (entries-bytes es ++ rest) d1 in
-      let others = entries-value es (a .1) (at + 1 + length l) rest d2 in
+      let f = a .0 in
+      let l : List ℕ = entry-bytes x in
+      let e1 : drop at s ≡ l ++ (entries-bytes es ++ rest) = e ∙ append-assoc l (entries-bytes es) rest in
+      let tag = tag-there s at (reduction-byte r o) _ e1 in
+      let rows = entry-rows-value r (f .1) o t (f .2) (f .3) at (entries-bytes es ++ rest) e1 in
+      let next = ap (λ (x : Found). x .next) (entry-value-at count s r (f .1) at (entries-bytes es ++ rest) o t (f .2) (f .3) e1 (eight [])) in
+      let others = entries-value es (a .1) (at + length l) rest (drop-on s at (length l) l (entries-bytes es ++ rest) e1 refl) in
       record {
-        worth = rw (tag, rows, next, others .worth) refl;
+        worth = rw (tag, byte-reduction r o (f .1), rows, worth-reduced r n G o t, next, others .worth) refl;
         end = ap (entries-end (length es) s) next ∙ others .end
-            ∙ (let z : at + 1 + length l + length (entries-bytes es) ≡ at + suc (length (l ++ entries-bytes es)) =
+            ∙ (let z : at + length l + length (entries-bytes es) ≡ at + length (l ++ entries-bytes es) =
             omega (arith, length-append l (entries-bytes es)) in z);
       }
 
@@ -104,9 +160,9 @@ module _ (n : ℕ) (F : ℕ → List Row) (G : ℕ → List Value) (cs : List Pa
   unfolding body-found
   each-value t legal =
       let s : List ℕ = text (each-vertex t) in
-      let l : List ℕ = expression-bytes OfEntry t in
-      entry-rows-value n (length cs) F G agrees s t legal (at-count + 2) []
-      (drop-on s at-count 2 (1 ∷ 0 ∷ []) l (body-there (each-vertex t)) refl ∙ sym (append-nil l))
+      let l : List ℕ = entry-text 0 none t in
+      entry-rows-value n (length cs) F G agrees s 0 (omega arith) none t tt legal (at-count + 1) []
+      (drop-on s at-count 1 (1 ∷ []) l (body-there (each-vertex t)) refl ∙ sym (append-nil l))
 
   -- kind 1: the final expression over the results of the entries; "e from 0 to 8" is not cut
   one-value : (es : List (VertexReduction ℕ)) (t : Term ℕ) → length es ≤ 8 → All (EntryLegal (length cs)) es → Expression (length es) t

@@ -2,4 +2,3 @@ pub mod Laws
 pub mod Tree
 pub mod Body
 pub mod Fill
-pub mod Ends

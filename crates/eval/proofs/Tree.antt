@@ -7,13 +7,13 @@ use native.Mathlib.Omega.{arith}
 use borrow.Author.Tests.{lt-leb}
 use lib.ListN.{length, getD, drop, length-append}
 use Rattle.meaning.specs.Limits.{Every, Expression, depth, unit}
-use Rattle.meaning.specs.Query.{Term, apply, leaf, literal}
+use Rattle.meaning.specs.Plan.{Term, apply, leaf, literal}
 use Rattle.meaning.specs.Run.{evaluate}
 use Rattle.nodes.proofs.Fields.{byte-there, literal-tags}
 use Rattle.terms.specs.declared.TermKind.{TermKind}
 use Rattle.terms.specs.declared.TermKind.the-variants.{OfEntry, OfFinal}
-use Rattle.terms.specs.Terms.{leaf-tag, literal-tag}
-use Rattle.term_text.specs.Text.{expression-bytes}
+use Rattle.terms.specs.Terms.{literal-tag}
+use Rattle.term_text.specs.Text.{expression-bytes, index-tag}
 use Rattle.term_text.proofs.Paths.{nth}
 use Rattle.term_text.proofs.Steps.{drop-on, tag-there, there}
 use Rattle.value.specs.declared.Row.{Row}
@@ -24,17 +24,9 @@ use Rattle.wire.specs.Wire.{at32, le32}
 use Rattle.eval.specs.declared.Head.the-variants.{Apply, Leaf}
 use Rattle.eval.specs.Steps.{evaluated, found, head, joined}
 
--- the kinds of term whose leaves are indices: entries and final expressions
-abbrev pub Indexed : TermKind → Type 0
-Indexed m = (leaf-tag m ≡ 0x30) ⊎ (leaf-tag m ≡ 0x31)
-
-entry-indexed : Indexed OfEntry
-unfolding leaf-tag
-entry-indexed = inl refl
-
-final-indexed : Indexed OfFinal
-unfolding leaf-tag
-final-indexed = inr refl
+-- the byte of an index, in entries and in final expressions
+abbrev Indexed : TermKind → Type 0
+Indexed m = (index-tag m ≡ 0x30) ⊎ (index-tag m ≡ 0x31)
 
 literal-there : (s : List ℕ) (i x k : ℕ) (l : List ℕ) → k < 2 ^ 32 → drop i s ≡ x ∷ (le32 k ++ l) → at32 s (i + 1) ≡ k
 literal-there s i x k l h e =
@@ -77,7 +69,7 @@ module _ (m : TermKind) (indexed : Indexed m) (count : ℕ) (s : List ℕ) (rows
       deep (leaf a) h = omega arith
       deep (literal k) h = omega arith
       deep (apply o t u) h = omega arith
-  expression-value (leaf i) f (suc left) at rest h e = ap (joined (evaluated left s rows)) (head-index s rows at (leaf-tag m) i rest indexed e)
+  expression-value (leaf i) f (suc left) at rest h e = ap (joined (evaluated left s rows)) (head-index s rows at (index-tag m) i rest indexed e)
   expression-value (literal k) f (suc left) at rest h e =
       ap (joined (evaluated left s rows)) (head-literal s rows at (literal-tag m) k rest (literal-tags m) f e)
   expression-value (apply o t u) f (suc left) at rest h e =
@@ -96,12 +88,12 @@ module _ (count : ℕ) (s : List ℕ) (rows : List Row) (t : Term ℕ) (legal : 
   -- of an entry, whose leaves are the indices of path reductions
   pub entry-value : drop at s ≡ expression-bytes OfEntry t ++ rest
       → evaluated 16 s rows at ≡ found (evaluate (values rows) t) (at + length (expression-bytes OfEntry t))
-  entry-value = expression-value OfEntry entry-indexed count s rows t (legal .0) 16 at rest (legal .1)
+  entry-value = expression-value OfEntry (inl refl) count s rows t (legal .0) 16 at rest (legal .1)
 
   -- of the final expression, whose leaves are the indices of entries
   pub final-value : drop at s ≡ expression-bytes OfFinal t ++ rest
       → evaluated 16 s rows at ≡ found (evaluate (values rows) t) (at + length (expression-bytes OfFinal t))
-  final-value = expression-value OfFinal final-indexed count s rows t (legal .0) 16 at rest (legal .1)
+  final-value = expression-value OfFinal (inr refl) count s rows t (legal .0) 16 at rest (legal .1)
 
 -- the value rests on the first `count` values alone: rows behind them may hold anything
 pub evaluate-same : (count : ℕ) (vs ws : List Value) → ((i : ℕ) → i < count → getD vs i Absent ≡ getD ws i Absent) → (t : Term ℕ)

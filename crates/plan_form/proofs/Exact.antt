@@ -3,27 +3,39 @@ use Prim.Native.Nat.{ℕ, suc, _+_, _*_, _/_, _%_, _≤_, min}
 use mathlib.Core.Path.{_≡_, refl, sym, ap, ap₂, _∙_, subst}
 use mathlib.Core.Bool.{Bool, true, false}
 use mathlib.Core.List.{List, [], _∷_, _++_, map, append-assoc, append-nil}
+use mathlib.Core.Option.{Option, none, some}
 use native.Mathlib.Omega.{arith}
-use borrow.Author.Tests.{le-ltb, eq-eqb, eqb-true}
+use borrow.Author.Tests.{le-leb, le-ltb, lt-ltb, eq-eqb, eqb-true}
 use lib.Dec.{eqb}
 use lib.ListN.{length, drop, take, length-append, length-map}
 use lib.Seq.{drop-at, take-at}
-use Rattle.meaning.specs.Limits.{BodyLegal, EntryLegal, PathFits, PlanLegal, entry-terms, plan-terms, terms, unit}
-use Rattle.meaning.specs.Plan.{Body, Plan, each-vertex, one-result}
-use Rattle.meaning.specs.Query.{PathReduction, VertexReduction}
+use Rattle.meaning.specs.Limits.{
+  BodyLegal,
+  EntryLegal,
+  Expression,
+  Optional,
+  PathFits,
+  PlanLegal,
+  condition-terms,
+  entry-terms,
+  plan-terms,
+  terms,
+  unit,
+}
+use Rattle.meaning.specs.Plan.{Body, Plan, Term, VertexReduction, each-vertex, one-result}
+use Rattle.meaning.specs.Query.{PathReduction}
 use Rattle.nodes.specs.declared.Node.{Node}
-use Rattle.nodes.specs.declared.Term.the-variants.{Entry}
 use Rattle.draft.specs.Texts.{texts}
-use Rattle.nodes.specs.Text.{node-text, nodes-text, term-text}
-use Rattle.nodes.specs.Nodes.{node, padded}
-use Rattle.nodes.specs.Steps.{collected, nodes-read}
+use Rattle.nodes.specs.Text.{nodes-text}
+use Rattle.nodes.specs.Nodes.{padded}
+use Rattle.nodes.specs.Steps.{nodes-read, reduction-tag}
 use Rattle.nodes.specs.Tree.{entry-nodes, final-nodes}
-use Rattle.draft.proofs.Texts.{text-append}
-use Rattle.nodes.proofs.Exact.{entry-collected, entry-size, entry-text, final-collected, final-size, final-text}
-use Rattle.nodes.proofs.Fields.{entry-read, path-digits}
+use Rattle.nodes.proofs.Exact.{entry-size, entry-written, final-size, final-written}
+use Rattle.nodes.proofs.Fields.{entry-one, path-digits}
 use Rattle.nodes.proofs.Held.{first-nodes, read-whole}
+use Rattle.nodes.proofs.Shape.{Written, both-written, more-written, none-written}
 use Rattle.plan.specs.Plan.{plan-code, plan-scan}
-use Rattle.plan.specs.Text.{body-bytes, encode, entries-bytes, entry-count, kind-of, listed-bytes, all-listed-bytes}
+use Rattle.plan.specs.Text.{body-bytes, condition-bytes, encode, entries-bytes, entry-count, kind-of, listed-bytes, all-listed-bytes, reduction-byte}
 use Rattle.plan.specs.Tree.{plan-of}
 use Rattle.plan.proofs.Exact.{read-complete}
 use Rattle.plan.proofs.ListedPaths.{listed-size}
@@ -35,7 +47,17 @@ use Rattle.term_text.proofs.Steps.{drop-on}
 use Rattle.term_text.proofs.Table.{Table}
 use Rattle.walks.specs.Lists.{All}
 use Rattle.wire.specs.Wire.{Bytes, done}
-use Rattle.plan_form.specs.Form.{body-nodes, entries-nodes, form-bytes, form-of, plan-reading, listed-text, all-listed-text, write-reply}
+use Rattle.plan_form.specs.Form.{
+  all-listed-text,
+  body-nodes,
+  condition-nodes,
+  entries-nodes,
+  form-bytes,
+  form-of,
+  listed-text,
+  plan-reading,
+  write-reply,
+}
 use Rattle.plan_form.specs.Steps.{form-after, read-after}
 
 -- the bytes behind the entry count
@@ -48,52 +70,42 @@ body-is : (b : Body) → body-bytes b ≡ entry-count b ∷ inner b
 body-is (each-vertex t) = refl
 body-is (one-result es t) = refl
 
--- THE NODES ARE COLLECTED
-module _ (s : List ℕ) (count : ℕ) where
-  -- those of entries, where their bytes stand, and the terms behind them
-  entries-collected : (es : List (VertexReduction ℕ)) → All (EntryLegal count) es → (i k : ℕ) (rest : List ℕ) → drop i s ≡ entries-bytes es
-      ++ rest
-      → collected (entry-terms es + length es + k) s i ≡ entries-nodes es ++ collected k s (i + length (entries-bytes es))
-  entries-collected [] f i k rest d = ap₂ (λ (n j : ℕ). collected n s j) (let e : 0 + k ≡ k = omega arith in e) (let e : i ≡ i + 0 = omega arith in e)
-  entries-collected (e ∷ es) f i k rest d =
-      let b = expression-bytes OfEntry (e .body) in
-      let n = terms unit (e .body) in
-      let m = entry-terms es + length es + k in
-      let g = f .0 in
-      let d0 : drop i s ≡ e .reduction ∷ (b ++ (entries-bytes es ++ rest)) =
-      d ∙ ap (λ (l : List ℕ). e .reduction ∷ l) (append-assoc b (entries-bytes es) rest) in
-      let d1 = drop-on s i 1 (e .reduction ∷ []) (b ++ (entries-bytes es ++ rest)) d0 refl in
-      let d2 = drop-on s (i + 1) (length b) b (entries-bytes es ++ rest) d1 refl in
-      let p = entry-collected count s (e .body) (g .2 .0) (i + 1) m (entries-bytes es ++ rest) d1 in
-      let q = entries-collected es (f .1) (i + 1 + length b) k rest d2 in
-      let end : i + 1 + length b + length (entries-bytes es) ≡ i + suc (length (b ++ entries-bytes es)) = omega (arith, length-append b (entries-bytes es)) in
-      ap (λ (j : ℕ). collected j s i) (let z : n + entry-terms es + suc (length es) + k ≡ suc (n + m) = omega arith in z)
-      ∙ entry-read s i (e .reduction) (b ++ (entries-bytes es ++ rest)) (omega (arith, g .1)) d0 (n + m)
-      ∙ ap (λ (l : List Node). node (Entry (e .reduction)) ∷ l)
-      (p ∙ ap (λ (l : List Node). entry-nodes (e .body) ++ l) (q ∙ ap (λ (j : ℕ). entries-nodes es ++ collected k s j) end)
-      ∙ sym (append-assoc (entry-nodes (e .body)) (entries-nodes es) (collected k s (i + suc (length (b ++ entries-bytes es))))))
+-- the same terms, their number and their bytes put otherwise
+same-written : {n m : ℕ} {b c : List ℕ} {l : List Node} → n ≡ m → b ≡ c → Written n b l → Written m c l
+same-written {n} {m} {b} {c} {l} p q w = subst (λ (k : ℕ). Written k c l) p (subst (λ (d : List ℕ). Written n d l) q w)
 
--- those of a whole body
-body-collected : (s : List ℕ) (count : ℕ) (b : Body) → BodyLegal count b → (i : ℕ) → drop i s ≡ inner b
-    → (j : ℕ) × (collected (plan-terms b + entry-count b + 0) s i ≡ body-nodes b ++ collected 0 s j)
-body-collected s count (each-vertex t) l i d =
-    let d1 = drop-on s i 1 (0 ∷ []) (expression-bytes OfEntry t) d refl ∙ sym (append-nil (expression-bytes OfEntry t)) in (
-      i + 1 + length (expression-bytes OfEntry t),
-      ap (λ (j : ℕ). collected j s i) (let z : terms unit t + 1 + 0 ≡ suc (terms unit t + 0) = omega arith in z)
-          ∙ entry-read s i 0 (expression-bytes OfEntry t) (omega arith) d (terms unit t + 0)
-          ∙ ap (λ (l : List Node). node (Entry 0) ∷ l) (entry-collected count s t (l .0) (i + 1) 0 [] d1),
-    )
-body-collected s count (one-result es t) l i d =
-    let e = expression-bytes OfFinal t in
-    let m = i + length (entries-bytes es) in
-    let d2 = drop-on s i (length (entries-bytes es)) (entries-bytes es) e d refl ∙ sym (append-nil e) in (
-      m + length e,
-      ap (λ (j : ℕ). collected j s i)
-          (let z : entry-terms es + terms unit t + length es + 0 ≡ entry-terms es + length es + (terms unit t + 0) = omega arith in z)
-          ∙ entries-collected s count es (l .1) i (terms unit t + 0) e d
-          ∙ ap (λ (l : List Node). entries-nodes es ++ l) (final-collected (length es) s t (l .2 .0) m 0 [] d2)
-          ∙ sym (append-assoc (entries-nodes es) (final-nodes t) (collected 0 s (m + length e))),
-    )
+-- a reduction byte is an entry's, without a condition and with one
+entry-byte : (r : ℕ) (c : Option (Term ℕ)) → r ≤ 5 → reduction-tag (reduction-byte r c) ≡ true
+entry-byte r none h = rw (lt-ltb r 16 (omega arith)) refl
+entry-byte r (some c) h = rw (le-ltb (128 + r) 16 (omega arith), le-leb 128 (128 + r) (omega arith)) refl
+
+-- THE NODES AND THEIR BYTES: of a condition, of entries
+module _ (count : ℕ) where
+  condition-written : (c : Option (Term ℕ)) → Optional (Expression count) c → Written (condition-terms c) (condition-bytes c) (condition-nodes c)
+  condition-written none f = none-written
+  condition-written (some t) f = entry-written count t (f .0)
+
+  entries-written : (es : List (VertexReduction ℕ)) → All (EntryLegal count) es
+      → Written (entry-terms es + length es) (entries-bytes es) (entries-nodes es)
+  entries-written [] f = none-written
+  entries-written (e ∷ es) f =
+      let g = f .0 in
+      let c = e .condition in
+      let r = reduction-byte (e .reduction) c in
+      let terms-are : suc (condition-terms c + (terms unit (e .body) + (entry-terms es + length es)))
+      ≡ condition-terms c + terms unit (e .body) + entry-terms es + suc (length es) = omega arith in
+      same-written terms-are
+      (ap (λ (l : List ℕ). r ∷ l) (sym (append-assoc (condition-bytes c) (expression-bytes OfEntry (e .body)) (entries-bytes es))))
+      (more-written (entry-one r (entry-byte (e .reduction) c (g .1)))
+      (both-written (condition-written c (g .2)) (both-written (entry-written count (e .body) (g .3 .0)) (entries-written es (f .1)))))
+
+  -- of a whole body
+  body-written : (b : Body) → BodyLegal count b → Written (plan-terms b + entry-count b) (inner b) (body-nodes b)
+  body-written (each-vertex t) l =
+      same-written (let z : suc (terms unit t) ≡ terms unit t + 1 = omega arith in z) refl (more-written (entry-one 0 refl) (entry-written count t (l .0)))
+  body-written (one-result es t) l =
+      same-written (let z : entry-terms es + length es + terms unit t ≡ entry-terms es + terms unit t + length es = omega arith in z) refl
+      (both-written (entries-written es (l .1)) (final-written (length es) t (l .2 .0)))
 
 -- where their bytes stand: behind the path reductions of six bytes each
 inner-there : (p : Plan) → drop (8 + 6 * length (p .paths)) (encode p) ≡ inner (p .body)
@@ -113,9 +125,13 @@ few-entries count (one-result es t) l = l .0
 nodes-are : (p : Plan) → PlanLegal 256 p
     → nodes-read (plan-terms (p .body) + entry-count (p .body)) (encode p) (8 + 6 * length (p .paths)) ≡ padded (body-nodes (p .body))
 nodes-are p l =
-    let b = body-collected (encode p) (length (p .paths)) (p .body) (l .body-legal) (8 + 6 * length (p .paths)) (inner-there p) in
-    read-whole (encode p) (8 + 6 * length (p .paths)) (b .0) (plan-terms (p .body) + entry-count (p .body)) (body-nodes (p .body))
-    (omega (arith, l .few-terms, few-entries (length (p .paths)) (p .body) (l .body-legal))) (b .1)
+    let s = encode p in
+    let n = plan-terms (p .body) + entry-count (p .body) in
+    let i = 8 + 6 * length (p .paths) in
+    let there = inner-there p ∙ sym (append-nil (inner (p .body))) in
+    read-whole s i (i + length (inner (p .body))) n (body-nodes (p .body))
+    (omega (arith, l .few-terms, few-entries (length (p .paths)) (p .body) (l .body-legal)))
+    (body-written (length (p .paths)) (p .body) (l .body-legal) .collects s i 0 [] there)
 
 -- what the table holds behind the path reductions
 abbrev behind : Progress → List ℕ
@@ -172,24 +188,21 @@ read-steps s b = go (eqb (plan-code s) 0) refl
         subst (λ (t : List ℕ). form-after t (plan-scan t) ≡ form-of (plan-of s) (behind (plan-scan t))) (p .1) (form-made (plan-of s) (p .0)) in
         rw (e, made) refl
 
--- THE TEXT OF THE NODES IS THE BYTES
-entries-text : (count : ℕ) (es : List (VertexReduction ℕ)) → All (EntryLegal count) es → nodes-text (entries-nodes es) ≡ entries-bytes es
-unfolding texts term-text
-entries-text count [] f = refl
-entries-text count (e ∷ es) f =
-    ap (λ (l : List ℕ). e .reduction ∷ l)
-    (text-append node-text (entry-nodes (e .body)) (entries-nodes es) ∙ ap₂ _++_ (entry-text count (e .body) (f .0 .2 .0)) (entries-text count es (f .1)))
-
-body-text : (count : ℕ) (b : Body) → BodyLegal count b → nodes-text (body-nodes b) ≡ inner b
-unfolding texts term-text
-body-text count (each-vertex t) l = ap (λ (l : List ℕ). 0 ∷ l) (entry-text count t (l .0))
-body-text count (one-result es t) l =
-    text-append node-text (entries-nodes es) (final-nodes t) ∙ ap₂ _++_ (entries-text count es (l .1)) (final-text (length es) t (l .2 .0))
-
 -- a node for each term and each entry
+condition-size : (c : Option (Term ℕ)) → length (condition-nodes c) ≡ condition-terms c
+condition-size none = refl
+condition-size (some t) = entry-size t
+
 entries-size : (es : List (VertexReduction ℕ)) → length (entries-nodes es) ≡ entry-terms es + length es
 entries-size [] = refl
-entries-size (e ∷ es) = omega (arith, length-append (entry-nodes (e .body)) (entries-nodes es), entry-size (e .body), entries-size es)
+entries-size (e ∷ es) = omega (
+  arith,
+  length-append (condition-nodes (e .condition)) (entry-nodes (e .body) ++ entries-nodes es),
+  length-append (entry-nodes (e .body)) (entries-nodes es),
+  condition-size (e .condition),
+  entry-size (e .body),
+  entries-size es,
+)
 
 -- of a whole body
 pub body-size : (b : Body) → length (body-nodes b) ≡ plan-terms b + entry-count b
@@ -219,7 +232,7 @@ write-form p l rest =
     ap all-listed-text (take-at (map path-number (p .paths)) rest n (length-map (p .paths) path-number)) ∙ rows-written (p .paths) (l .paths-legal) in
     let count = plan-terms (p .body) + entry-count (p .body) in
     let list : nodes-text (take count (padded (body-nodes (p .body)))) ≡ inner (p .body) =
-    ap nodes-text (first-nodes count (body-nodes (p .body)) (body-size (p .body))) ∙ body-text n (p .body) (l .body-legal) in
+    ap nodes-text (first-nodes count (body-nodes (p .body)) (body-size (p .body))) ∙ body-written n (p .body) (l .body-legal) .text in
     rw (rows, list, body-is (p .body)) refl
 
 -- WRITING WHAT WAS READ GIVES THE BYTES READ

@@ -22,11 +22,12 @@ use Rattle.wire.specs.Wire.{Reply, fitted, le16, unless}
 use Rattle.plan_form.specs.declared.Form.{Form}
 use Rattle.plan_form.specs.declared.Reading.{Reading}
 
--- the nodes of entries: "e entries, each a reduction byte and an expression"; "the condition's expression precedes the value's"
+-- the nodes of a condition where there is one: "the condition's expression precedes the value's"
 abbrev pub condition-nodes : Option (Term ℕ) → List Node
 condition-nodes none = []
 condition-nodes (some c) = entry-nodes c
 
+-- and of entries: "e entries, each a reduction byte and an expression"
 abbrev pub entries-nodes : List (VertexReduction ℕ) → List Node
 entries-nodes [] = []
 entries-nodes (e ∷ es) =

@@ -10,7 +10,7 @@ ghost use Rattle.wire.specs.Wire.{Returned};
 ghost use Rattle.plan_form.specs.Form.{listed-text, all-listed-text, form-bytes, write-reply, blank-reading, plan-reading};
 
 // A plan: its kind; the first `paths` of its path reductions, each as its six bytes in one number; how many entries it has; and the first `count` of its nodes:
-// for each entry its reduction byte and the terms of its expression, then the terms of the final expression.
+// for each entry its reduction byte, the terms of its condition where that byte has 128 added, and those of its value; then the terms of the final expression.
 pub struct Form {
     pub kind: u8,
     pub paths: u8,

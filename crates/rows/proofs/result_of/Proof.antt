@@ -13,7 +13,7 @@ use Rattle.rows.proofs.result_of.Tie as tie
 
 returns : tie.Need-returns
 returns c =
-    let a = c .before .before .before .before .args in
+    let a = c .before .before .before .before .before .args in
     let rows =
     ap (take (a .n)) (c .before .before .entry-rows .ensures) ∙ entry-taken (a .plan .now) (rows-at (a .figures .now) (a .paths)) (a .n) (a .at) in
     c .reduce-rows .ensures ∙ ap₂ (λ (b : ℕ) (l : List Row). reduce (b % 128) (values l)) (c .before .byte .ensures) rows

@@ -19,4 +19,4 @@ returns c =
     c .reduce-rows .ensures ∙ ap₂ (λ (b : ℕ) (l : List Row). reduce (b % 128) (values l)) (c .before .byte .ensures) rows
 
 pub result-of-spec : {M : Type 1} → statement M
-result-of-spec = tie.close (tie.spec (λ c. search needs) (λ c κs. search needs) (λ c κs. search needs) (λ c κs. search needs) returns)
+result-of-spec = tie.close (tie.spec (λ c κs. search needs) (λ c κs. search needs) (λ c κs. search needs) returns)

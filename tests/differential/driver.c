@@ -121,10 +121,19 @@ static unsigned left_share(const maker *k, unsigned leaves, unsigned depth)
     return one_in(3) ? high : one_in(2) ? low : between(low, high);
 }
 
+static void literal(maker *k, uint32_t x)
+{
+    put(k->f, 1, 0x11), put(k->f, 4, x);
+}
+
 static void place_leaf(maker *k)
 {
+    if (k->wild && one_in(60)) { /* a result term, or what starts no term: 9 */
+        put(k->f, 1, ONE_OF(0x20, 0x21, 0x22, 0x23, 0x24, 0x31, 129, 131)), put(k->f, 1, between(1, 5));
+        return;
+    }
     if (!k->chains || one_in(4)) {
-        put(k->f, 1, 0x11), put(k->f, 4, some_literal());
+        literal(k, some_literal());
         return;
     }
     unsigned i = below(k->chains);
@@ -173,7 +182,52 @@ static unsigned some_leaves(const maker *k, unsigned depth, unsigned terms)
     return one_in(6) ? most : between(1, most < 6 ? most : 6);
 }
 
-/* A leaf of a result term: a reduction while there are terms and reductions left, else a literal; in a worksheet a reference. */
+/* An entry's value, or the condition of one that has such. Of the terms left to entries, `kept` stay for those behind. */
+static void entry_term(maker *k, unsigned depth, unsigned kept)
+{
+    unsigned leaves = k->many ? 1 : some_leaves(k, depth, k->terms > kept ? k->terms - kept : 1);
+    k->terms -= 2 * leaves - 1 < k->terms ? 2 * leaves - 1 : k->terms;
+    place_term(k, leaves, depth);
+}
+
+/* A condition of three terms: a chain, or a literal, compared with a number such as it may have; or the same at every place: 0 - 1 and
+ * 1 / 0, which are absent, and 2^32. */
+static void comparison(maker *k)
+{
+    static const unsigned fixed[][3] = { { 4, 0, 1 }, { 6, 1, 0 }, { 5, 65536, 65536 } };
+    if (one_in(8)) {
+        const unsigned *of = fixed[below(3)];
+        put(k->f, 1, 0x12), put(k->f, 1, of[0]), literal(k, of[1]), literal(k, of[2]);
+        return;
+    }
+    put(k->f, 1, 0x12), put(k->f, 1, between(7, 9));
+    place_leaf(k);
+    if (one_in(4))
+        place_leaf(k);
+    else
+        literal(k, one_in(4) ? ONE_OF(65534, 65535) : below(one_in(2) ? 4 : 50));
+}
+
+/* A condition: a comparison, mostly; a chain alone, the literals 0 and 1, and any other place term. */
+static void condition(maker *k, unsigned depth, unsigned kept)
+{
+    unsigned way = below(8), room = k->terms > kept ? k->terms - kept : 1;
+    if (k->many || way >= 5 || (way >= 2 && (depth < 2 || room < 3))) {
+        entry_term(k, depth, kept);
+        return;
+    }
+    unsigned taken = way >= 2 ? 3 : 1;
+    k->terms -= k->terms < taken ? k->terms : taken;
+    if (way >= 2)
+        comparison(k);
+    else if (way == 1)
+        literal(k, below(2));
+    else
+        place_leaf(k);
+}
+
+/* A leaf of a result term: a reduction, every other one with a condition, while there are terms and reductions left, else a literal; in a
+ * worksheet a reference. */
 static void result_leaf(maker *k, unsigned depth)
 {
     if (k->worksheet && k->entries && !one_in(4)) {
@@ -184,11 +238,14 @@ static void result_leaf(maker *k, unsigned depth)
         put(k->f, 1, 0x21), put(k->f, 4, some_literal());
         return;
     }
-    unsigned leaves = k->many ? 1 : some_leaves(k, depth > 1 ? depth - 1 : 1, k->terms ? k->terms : 1);
-    put(k->f, 1, 0x20), put(k->f, 1, k->wild && one_in(20) ? ONE_OF(0, 6, 255) : between(1, 5));
-    k->terms -= 2 * leaves - 1 < k->terms ? 2 * leaves - 1 : k->terms;
+    int conditional = one_in(2) && (k->wild || k->terms >= 2);
+    unsigned inside = depth > 1 ? depth - 1 : 1;
+    put(k->f, 1, conditional ? 0x23 : 0x20);
+    put(k->f, 1, k->wild && one_in(20) ? ONE_OF(0, 6, 127, 128, 129, 131, 133, 255) : between(1, 5));
     k->reductions -= k->reductions > 0;
-    place_term(k, leaves, depth > 1 ? depth - 1 : 1);
+    if (conditional)
+        condition(k, inside, 1);
+    entry_term(k, inside, 0);
 }
 
 static void result_term(maker *k, unsigned leaves, unsigned depth)
@@ -233,11 +290,20 @@ static void some_question(file *f, unsigned n)
     result_term(&k, leaves, depth);
 }
 
+/* The reduction byte of an entry: for kind 1 every other time with 128 added; now and then one that is none. */
+static unsigned reduction_byte(const maker *k, unsigned kind)
+{
+    if (one_in(k->wild ? 12 : 300))
+        return ONE_OF(0, 1, 5, 6, 7, 127, 128, 129, 131, 133, 134, 135, 254, 255);
+    return kind == 0 ? 0 : between(1, 5) + (one_in(2) ? 128 : 0);
+}
+
 /* Also such as no fusing writes: equal and unused chains, unused entries. */
 static void some_worksheet(file *f, unsigned n)
 {
     maker k = some_maker(f, n, 1);
-    unsigned kind = below(2), terms = 64;
+    unsigned kind = below(2);
+    k.terms = 64;
     k.entries = kind == 0 ? 1 : one_in(3) ? 8 : below(6);
     if (k.wild && one_in(3))
         k.entries = below(11);
@@ -246,15 +312,16 @@ static void some_worksheet(file *f, unsigned n)
         put_keys(f, &k.chain[i], 3);
     put(f, 1, k.entries);
     for (unsigned i = 0; i < k.entries; i++) {
-        /* a term for each entry behind this one, and for the final expression */
-        unsigned depth = between(1, 16), spare = terms - (k.entries - i), leaves = some_leaves(&k, depth, spare < terms ? spare : 1);
-        put(f, 1, kind ? between(1, 5) : 0);
-        place_term(&k, leaves, depth);
-        terms -= 2 * leaves - 1 < terms ? 2 * leaves - 1 : terms - 1;
+        /* two terms for each entry behind this one, as they may have a condition, and one for the final expression */
+        unsigned kept = 2 * (k.entries - 1 - i) + kind, byte = reduction_byte(&k, kind);
+        put(f, 1, byte);
+        if (byte >= 128)
+            condition(&k, between(1, 16), kept + 1);
+        entry_term(&k, between(1, 16), kept);
     }
     if (kind == 1) {
         unsigned depth = between(1, 16);
-        result_term(&k, some_leaves(&k, depth, terms), depth);
+        result_term(&k, some_leaves(&k, depth, k.terms ? k.terms : 1), depth);
     }
 }
 
@@ -307,7 +374,7 @@ static void some_map(file *f, unsigned n)
 
 static unsigned boundary_byte(void)
 {
-    return ONE_OF(0, 1, 2, 3, 4, 5, 6, 7, 8, 9, 10, 11, 12, 0x10, 0x11, 0x12, 0x20, 0x21, 0x22, 0x30, 0x31, 127, 128, 254, 255);
+    return ONE_OF(0, 1, 2, 3, 4, 5, 6, 7, 8, 9, 10, 11, 12, 0x10, 0x11, 0x12, 0x20, 0x21, 0x22, 0x23, 0x24, 0x30, 0x31, 127, 128, 129, 131, 133, 134, 254, 255);
 }
 
 static unsigned boundary_number(void)
@@ -523,6 +590,7 @@ int main(int argc, char **argv)
         printf("\n");
     }
     printf("answers that start with a number %llu, with more rounds than places %llu, most rounds %llu\n", numbered, past_places, most_rounds);
+    printf("conditions at a place: absent %llu, 0 %llu, another number %llu\n", plain_conditions[0], plain_conditions[1], plain_conditions[2]);
     printf("%llu cases, 0 differences\n", cases);
     return 0;
 }

@@ -175,6 +175,12 @@ static void shape(unsigned a, unsigned b)
     seen[2 * 17 * 128 + (a * 37 + b) % 1024] = 1;
 }
 
+/* The reduction byte of an accepted worksheet's first entry, which says whether it has a condition; where there is none, a term's first byte. */
+static unsigned first_reduction(const uint8_t *worksheet)
+{
+    return worksheet[CHAINS_OFFSET + 2 + 6 * worksheet[CHAINS_OFFSET]];
+}
+
 /* Fuses; the worksheet is left in r where there was room. */
 static void fuse_checked(bytes question, size_t lent, reply *r)
 {
@@ -191,6 +197,7 @@ static void fuse_checked(bytes question, size_t lent, reply *r)
     expect(r->result == (lent < whole.result ? GRAFS_REFUSAL + GRAFS_BUFFER_SHORT : whole.result), "15 where the length is short, and only there");
     exact_length(question, NULL, &whole);
     shape(whole.out[CHAINS_OFFSET], whole.result / 8);
+    shape(500, first_reduction(whole.out));
 }
 
 /* The number that a run must return, from what each file alone is refused by. */
@@ -223,6 +230,7 @@ static void answer_checked(bytes worksheet, bytes map, const reply *r)
     for (unsigned i = 0; i < (a[9] ? 1 : n); i++)
         expect(rows[ROW * i] == 1 || all(rows + ROW * i, ROW, 0), "a row is 1 and a number, or zeros");
     shape(300 + rounds, worksheet.p[CHAINS_OFFSET]);
+    shape(700 + rows[0], first_reduction(worksheet.p));
 }
 
 static void map_cut(bytes map, size_t cut)

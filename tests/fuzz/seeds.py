@@ -42,6 +42,15 @@ def reduced(number, term):
     return bytes([0x20, number]) + term
 
 
+def reduced_where(number, condition, term):
+    return bytes([0x23, number]) + condition + term
+
+
+def entry(number, term, condition=b""):
+    """An entry of a worksheet; with a condition its reduction byte has 128 added."""
+    return bytes([number + (128 if condition else 0)]) + condition + term
+
+
 def question(kind, term):
     return b"LPQ" + u16(1) + bytes([kind]) + term
 
@@ -55,9 +64,9 @@ def deep(depth, number=3):
     return lit(1) if depth == 1 else op(number, deep(depth - 1), lit(depth))
 
 
-def broad(leaves, make):
+def broad(leaves, make, tag=0x12):
     """An even tree of so many leaves."""
-    return make(leaves) if leaves == 1 else op(3, broad(leaves // 2, make), broad(leaves - leaves // 2, make))
+    return make(leaves) if leaves == 1 else op(3, broad(leaves // 2, make, tag), broad(leaves - leaves // 2, make, tag), tag)
 
 
 MAP_A = map_file(4, (0, 1, 5, 10), (0, 2, 2, 4), (2, 1, 3, 20), (1, 3, 0, 7))
@@ -77,6 +86,21 @@ QUESTIONS = [question(0, term) for term in (
 QUESTIONS += [question(1, term) for term in (
     bytes.fromhex("20 02 10 01 01 00 00"), lit(7, 0x21), reduced(1, chain(2)), reduced(3, lit(5)), reduced(4, chain(1, start=65535)),
     op(6, reduced(3, chain(2)), reduced(5, chain(1, 5)), 0x22), op(8, lit(1, 0x21), reduced(1, op(7, chain(3, start=65535), lit(0))), 0x22))]
+# reductions with a condition: legal ones, the limits, and what is refused
+farther = op(9, chain(2), lit(2))  # more than 2 seconds from 0
+nowhere = op(4, lit(0), lit(1))  # absent at every place
+QUESTIONS += [question(1, term) for term in (
+    reduced_where(3, farther, chain(2)), reduced_where(2, farther, chain(2)), reduced_where(3, op(9, chain(2), lit(9)), chain(2)),
+    reduced_where(1, chain(1, start=2), op(3, chain(2), lit(1))), reduced_where(4, lit(1), chain(1)), reduced_where(5, lit(0), chain(1)),
+    reduced_where(3, nowhere, lit(1)), reduced_where(3, lit(1), nowhere), reduced_where(2, lit(256), op(5, lit(4294967295), lit(4294967295))),
+    op(6, reduced_where(3, farther, chain(2)), reduced_where(3, farther, lit(1)), 0x22), op(4, reduced(2, chain(2)), reduced_where(1, farther, chain(1)), 0x22),
+    reduced_where(3, deep(15), deep(15)), reduced_where(3, deep(16), lit(1)), reduced_where(3, lit(1), deep(16)),
+    op(3, reduced_where(3, broad(8, lit), broad(8, lit)), reduced(1, broad(16, lit)), 0x22), reduced_where(3, broad(16, lit), broad(17, lit)),
+    reduced_where(3, broad(4, lambda _one: eight[next(counter) % 8]), broad(4, lambda _one: eight[next(counter) % 8])),
+    reduced_where(3, broad(8, lambda _one: eight[next(counter) % 8]), chain(1, 2)), broad(8, lambda _one: reduced_where(3, lit(1), chain(2)), 0x22),
+    broad(9, lambda _one: reduced_where(3, lit(1), chain(2)), 0x22), reduced_where(6, lit(1), lit(1)), reduced_where(129, lit(1), lit(1)),
+    reduced(3, reduced_where(3, lit(1), lit(1))), reduced_where(3, reduced(3, lit(1)), lit(1)), b"\x23", b"\x23\3", b"\x23\3" + lit(1))]
+QUESTIONS += [question(0, reduced_where(3, lit(1), lit(1)))]
 QUESTIONS += [b"LPQ", b"LPQ\2\0\0", b"LPX\1\0\0", question(2, lit(1)), question(0, chain(2)) + b"\0", question(0, b"\x10\1\7\0\0"), question(0, b"\x12\x0c")]
 
 SHEETS = [sheet(0, [slots(2)], [b"\0\x30\0"]), sheet(0, [slots(2, 5), slots(2, 5), slots(6, start=9)], [b"\0\x30\1"]), sheet(0, [], [b"\0" + lit(9)]),
@@ -85,6 +109,18 @@ SHEETS = [sheet(0, [slots(2)], [b"\0\x30\0"]), sheet(0, [slots(2, 5), slots(2, 5
           sheet(1, [slots(4, start=65535)], [b"\1\x30\0"], b"\x31\1"), sheet(0, [b"\1\2\0\1\0\0"], [b"\0\x30\0"]), sheet(0, [slots(2)], []),
           sheet(0, [], [b"\0" + deep(16)]), sheet(0, [], [b"\0" + deep(17)]), sheet(0, [], [b"\0" + broad(32, lit)]), sheet(0, [], [b"\0" + broad(33, lit)]),
           sheet(1, [slots(2)] * 9, [], lit(1, 0x21)), sheet(1, [], [b"\1" + lit(1)] * 9, b"\x31\0")]
+# entries with a condition
+far = op(9, b"\x30\0", lit(2))
+SHEETS += [sheet(1, [slots(2)], [entry(number, b"\x30\0", far)], b"\x31\0") for number in (0, 1, 2, 3, 4, 5, 6, 127)]
+SHEETS += [sheet(0, [slots(2)], [entry(number, b"\x30\0", far)]) for number in (0, 3)]
+SHEETS += [sheet(1, [slots(2), slots(1, start=2), slots(6)], [entry(3, b"\x30\0", b"\x30\1"), entry(3, b"\x30\1"), entry(2, lit(7), b"\x30\2")],
+                 op(3, b"\x31\0", b"\x31\2", 0x22)),
+           sheet(1, [slots(2)], [entry(3, b"\x30\0", b"\x30\1")], b"\x31\0"), sheet(1, [slots(2)], [entry(3, b"\x30\1", b"\x30\0")], b"\x31\0"),
+           sheet(1, [], [entry(3, lit(5), lit(0))], b"\x31\0"), sheet(1, [], [entry(3, lit(5), nowhere)], b"\x31\0"),
+           sheet(1, [], [entry(3, deep(16), deep(16))], b"\x31\0"), sheet(1, [], [entry(3, lit(1), deep(17))], b"\x31\0"),
+           sheet(1, [], [entry(3, deep(17), lit(1))], b"\x31\0"), sheet(1, [], [entry(3, broad(16, lit), broad(16, lit)), entry(1, lit(1))], b"\x31\0"),
+           sheet(1, [], [entry(3, broad(16, lit), broad(16, lit)), entry(1, lit(1), lit(1))], b"\x31\0"),
+           sheet(1, [], [entry(1, lit(1), lit(2))] * 8, b"\x31\7"), sheet(1, [], [b"\x83" + lit(1)], b"\x31\0"), sheet(1, [], [b"\x83"])]
 
 
 def main():

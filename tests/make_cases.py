@@ -4,8 +4,8 @@
     python3 tests/make_cases.py          writes cases.bin and runs.bin in crates/cases/data, and crates/cases/stdout
     python3 tests/make_cases.py list     prints each case of cases.bin: index, kind, number, name, length, first bytes
 
-Each number here is written by hand from document 01 ("Numbers at the desk" and the order below that table); none is what
-a reader said. In the file a case is a kind byte (its place in KINDS), the number, a 16-bit length and as many bytes; all
+Each number here is written by hand from document 01 ("Numbers at the desk" and the order below that table) and, for conditions,
+document 02, a); none is what a reader said. In the file a case is a kind byte (its place in KINDS), the number, a 16-bit length and as many bytes; all
 integers low byte first. The bytes are those of the file to be judged, but for these kinds:
     answers   n (16 bits), kind, room (16 bits): the fields that the writer of answers judges
     .. written    five 16-bit fields, then a file: it is read, and its typed form is written, with other values of some fields,
@@ -65,6 +65,7 @@ E0 = W0 + hexed("00 01 00")  # no chain, one entry of reduction byte 0; its expr
 E1 = W1 + hexed("00 00")  # no chain, no entry; the final expression is due
 LIT, PLUS, SUM = hexed("11 07000000"), hexed("12 03"), hexed("20 03")  # two place terms are due behind PLUS, one behind SUM
 RLIT, RPLUS = hexed("21 07000000"), hexed("22 03")  # two result terms are due behind RPLUS
+WHERE, SUM_WHERE = hexed("23 03"), b"\x83"  # a sum with a condition, in a question and as an entry's byte: condition and value are due
 MAP_A = map_file(4, [row(0, 1, 5, 10), row(0, 2, 2, 4), row(2, 1, 3, 20), row(1, 3, 0, 7)])
 
 
@@ -167,7 +168,7 @@ def cuts(whole):
 
 def term_bytes(before, legal):
     """Each byte that starts some term, and some that start none, where a term is due."""
-    for tag in (0x00, 0x10, 0x11, 0x12, 0x13, 0x20, 0x21, 0x22, 0x23, 0x30, 0x31, 0x32, 0xFF):
+    for tag in (0x00, 0x10, 0x11, 0x12, 0x13, 0x20, 0x21, 0x22, 0x23, 0x24, 0x30, 0x31, 0x32, 0x81, 0xFF):
         if tag not in legal:
             yield 9, f"term byte {tag:#04x}", before + bytes([tag]) + LIT[1:]
 
@@ -296,14 +297,130 @@ def question_limits():
     yield 12, "term 65 is a ninth reduction", Q1 + RPLUS * 8 + (SUM + place_tree(5)) * 7 + SUM + place_tree(13) + SUM
 
 
+def question_conditions():
+    """A result term 0x23: the reduction, then 14, then the condition, then the value."""
+    yield 0, "the sum of the seconds from 0 beyond 2", Q1 + hexed("23 03 12 09") + chain(2) + hexed("11 02000000") + chain(2)
+    yield from cuts(Q1 + RPLUS + WHERE + hexed("12 09") + chain(2, 5, start=65535) + LIT + chain(2) + SUM + chain(2))
+    yield 1, "0x23, no reduction", Q1 + b"\x23"
+    yield 1, "no condition", Q1 + WHERE
+    yield 1, "a condition, no value", Q1 + WHERE + LIT
+    for number in (1, 2, 3, 4, 5):
+        yield 0, f"reduction {number} with a condition", Q1 + bytes([0x23, number]) + LIT * 2
+    for number in (0, 6, 127, 128, 129, 131, 133, 134, 255):
+        yield 9, f"reduction {number} with a condition", Q1 + bytes([0x23, number]) + LIT * 2
+        yield 9, f"reduction {number} of 0x23, nothing behind", Q1 + bytes([0x23, number])
+        yield 9, f"reduction {number} without a condition, two terms behind", Q1 + bytes([0x20, number]) + LIT * 2
+    yield 6, "a byte behind the value", Q1 + WHERE + LIT * 2 + b"\0"
+    yield 6, "a third term", Q1 + WHERE + LIT * 3
+    yield 6, "two terms behind 0x20", Q1 + SUM + LIT * 2
+    yield 3, "version 2, and a condition", b"LPQ" + u16(2) + b"\1" + WHERE + LIT * 2
+
+
+def condition_terms():
+    """What may stand as condition and as value: place terms, each judged in its turn."""
+    for where, before, behind in (("condition", Q1 + WHERE, LIT), ("value", Q1 + WHERE + LIT, b"")):
+        for name, term in (("chain", chain(2, 5, start=65535)), ("literal", LIT), ("operator", PLUS + LIT + chain(1))):
+            yield 0, f"a {name} as {where}", before + term + behind
+        for name, term in (("reduction", SUM + LIT), ("reduction with a condition", WHERE + LIT * 2), ("result literal", RLIT),
+                           ("result operator", RPLUS + RLIT * 2), ("worksheet's chain", hexed("30 00")), ("worksheet's entry", hexed("31 00"))):
+            yield 9, f"a {name} as {where}", before + term + behind
+            yield 9, f"a {name} within the {where}", before + PLUS + LIT + term + behind
+        for tag in (0x00, 0x13, 0x24, 0x32, 0x83, 0xFF):
+            yield 9, f"term byte {tag:#04x} as {where}", before + bytes([tag]) + LIT[1:] + behind
+        yield from due(13, f"start 256 in the {where}", before + hexed("10 01 01"), u16(256), behind)
+        yield 10, f"keys 5,2 in the {where}", before + chain(5, 2) + behind
+        yield 9, f"operator 12 in the {where}", before + hexed("12 0c") + LIT * 2 + behind
+    yield 9, "a wrong byte for the condition, no value", Q1 + WHERE + b"\xff"
+    yield 13, "start 256 in the condition, and a wrong byte for the value", Q1 + WHERE + chain(1, start=256) + b"\xff"
+    yield 10, "keys 5,2 in the condition, and start 256 in the value", Q1 + WHERE + chain(5, 2) + chain(1, start=256)
+    yield 13, "start 256 in the value, and the next term", Q1 + RPLUS + WHERE + LIT + chain(1, start=256) + b"\xff"
+    for name, before in (("below a reduction", Q1 + SUM), ("as a place term", Q0), ("left of a place term", Q0 + PLUS),
+                         ("right of a place term", Q0 + PLUS + LIT), ("below a reduction, within a term", Q1 + SUM + PLUS + LIT)):
+        yield 9, f"0x23 {name}", before + WHERE + LIT * 2
+        yield 9, f"0x23 {name}, nothing behind", before + b"\x23"
+    yield 9, "a place term right of a condition's reduction", Q1 + RPLUS + WHERE + LIT * 3
+
+
+def condition_reductions():
+    """It is one of the eight reductions; a ninth is 14 behind its byte, before its condition is looked at."""
+    sum_where, plain = WHERE + LIT * 2, SUM + LIT
+    yield 0, "8 reductions with conditions", Q1 + RPLUS * 7 + sum_where * 8
+    yield 0, "8 reductions with conditions and a literal", Q1 + RPLUS * 8 + sum_where * 8 + RLIT
+    yield 0, "8 reductions, 4 with conditions", Q1 + RPLUS * 7 + (plain + sum_where) * 4
+    for name, eight in (("with conditions", sum_where * 8), ("without", plain * 8), ("some with", plain * 3 + sum_where + plain * 4)):
+        ninth = Q1 + RPLUS * 8 + eight  # a ninth is due
+        yield from due(14, f"8 reductions {name}, a ninth with a condition", ninth, WHERE, LIT * 2)
+        yield 14, f"8 reductions {name}, a ninth with a condition, nothing behind", ninth + WHERE
+        yield 14, f"8 reductions {name}, a ninth with a wrong byte for a condition", ninth + WHERE + b"\xff"
+        yield 9, f"8 reductions {name}, a ninth with a condition, its byte 6", ninth + hexed("23 06") + LIT * 2
+        yield from due(14, f"8 reductions {name}, a ninth without", ninth, SUM, LIT)
+    yield 6, "8 reductions with conditions, and a ninth left over", Q1 + RPLUS * 7 + sum_where * 9
+    yield 14, "a ninth with a condition is term 64", (Q1 + RPLUS * 8 + (SUM + place_tree(5)) * 7 + WHERE + place_tree(5) + place_tree(7)
+                                                      + WHERE + LIT * 2)
+
+
+def condition_chains():
+    """Chains are met in the order written: the condition's before the value's."""
+    eight = [chain(1, start=i) for i in range(8)]
+    whole = b"".join(eight)
+    yield 0, "8 chains in a condition, a literal as value", Q1 + WHERE + PLUS * 7 + whole + LIT
+    yield 0, "8 chains in a condition, the value one of them", Q1 + WHERE + PLUS * 7 + whole + eight[7]
+    yield 0, "8 chains in condition and value together", Q1 + WHERE + PLUS * 3 + whole[:20] + PLUS * 3 + whole[20:]
+    yield 0, "8 chains in a value, one of them the condition", Q1 + WHERE + eight[3] + PLUS * 7 + whole
+    yield from due(14, "a ninth chain in the condition", Q1 + WHERE + PLUS * 8 + whole + hexed("10 01 01"), u16(8), LIT)
+    yield 14, "a ninth chain in the condition, no value", Q1 + WHERE + PLUS * 8 + whole + chain(2)
+    yield from due(14, "a ninth chain as value", Q1 + WHERE + PLUS * 7 + whole + hexed("10 01 01"), u16(8))
+    yield 14, "a ninth chain in the value", Q1 + WHERE + eight[0] + PLUS * 7 + whole[5:] + chain(1, 1)
+    yield 13, "a ninth chain as value, start 256", Q1 + WHERE + PLUS * 7 + whole + chain(1, start=256)
+    yield 14, "a ninth chain behind a condition and a value", Q1 + RPLUS + WHERE + PLUS * 3 + whole[:20] + PLUS * 3 + whole[20:] + SUM + chain(2)
+    yield 0, "8 chains before, in a condition again", Q1 + RPLUS + SUM + PLUS * 7 + whole + WHERE + eight[6] + eight[0]
+    yield 14, "8 chains before, a ninth as condition", Q1 + RPLUS + SUM + PLUS * 7 + whole + WHERE + chain(2) + eight[0]
+
+
+def condition_limits():
+    """It is one term; condition and value stand one deeper."""
+    high = Q1 + RPLUS * 14 + WHERE  # at depth 15
+    for where, before, behind in (("condition", Q1 + WHERE, LIT), ("value", Q1 + WHERE + LIT, b"")):
+        yield 0, f"depth 16 in a {where}", before + PLUS * 14 + LIT * 15 + behind
+        yield 0, f"depth 16 in a {where}, to the right", before + (PLUS + LIT) * 14 + LIT + behind
+        yield from due(11, f"depth 17 in a {where}", before + PLUS * 15, b"\x11", LIT[1:] + LIT * 15 + behind)
+        yield from due(11, f"depth 17 in a {where}, to the right", before + (PLUS + LIT) * 14 + PLUS, b"\x11", LIT[1:] + LIT + behind)
+        yield 11, f"depth 17 in a {where}, a wrong byte", before + PLUS * 15 + b"\xff"
+        yield 9, f"depth 16 in a {where}, a wrong byte", before + PLUS * 14 + b"\xff"
+    yield 0, "condition and value of depth 16", Q1 + WHERE + (PLUS * 14 + LIT * 15) * 2
+    yield 0, "a condition at depth 16", high + LIT * 2 + RLIT * 14
+    yield from due(11, "depth 17 in a condition that stands at depth 16", high + PLUS, b"\x11", LIT[1:])
+    yield from due(11, "depth 17 in a value that stands at depth 16", high + LIT + PLUS, b"\x11", LIT[1:])
+    yield from due(11, "a condition at depth 17", Q1 + RPLUS * 15 + WHERE, b"\x11", LIT[1:])
+    yield 14, "a ninth with a condition at depth 16", Q1 + RPLUS * 8 + (SUM + LIT) * 8 + RPLUS * 14 + WHERE + LIT
+    yield 9, "0x23 at depth 16, reduction 6", Q1 + RPLUS * 15 + hexed("23 06")
+    yield from due(11, "0x23 at depth 17", Q1 + RPLUS * 16, b"\x23", b"\3" + LIT * 2)
+    yield 0, "63 terms, a condition of 31", Q1 + WHERE + place_tree(31) * 2
+    yield 0, "63 terms, a condition of 61", Q1 + WHERE + place_tree(61) + LIT
+    yield 0, "64 terms, some of them a condition", Q1 + RPLUS + SUM + place_tree(31) + WHERE + place_tree(15) * 2
+    yield from due(12, "term 65 is the value", Q1 + WHERE + place_tree(63), b"\x11", LIT[1:])
+    yield 12, "term 65 is the value, a wrong byte", Q1 + WHERE + place_tree(63) + b"\xff"
+    yield from due(12, "term 65 within the value", Q1 + WHERE + place_tree(31) + PLUS + place_tree(31), b"\x11", LIT[1:])
+    yield from due(12, "term 65 within the condition", Q1 + WHERE + PLUS * 2 + place_tree(61), b"\x11", LIT[1:] + LIT)
+    last = Q1 + RPLUS + SUM + place_tree(61)  # term 64 is due
+    yield from due(12, "term 64 is 0x23, term 65 its condition", last + WHERE, b"\x11", LIT[1:] + LIT)
+    yield 9, "term 64 is 0x23, its reduction 6", last + hexed("23 06")
+    full = Q1 + RPLUS * 2 + SUM + place_tree(31) + SUM + place_tree(29)  # term 65 is due
+    yield from due(12, "term 65 is 0x23", full, b"\x23", b"\3" + LIT * 2)
+    yield 12, "term 65 is 0x23 of byte 6", full + hexed("23 06")
+    yield 12, "term 65 is a ninth with a condition", (Q1 + RPLUS * 8 + (WHERE + place_tree(3) * 2) * 6 + SUM + place_tree(5) + SUM + place_tree(7)
+                                                      + WHERE)
+
+
 def questions():
     yield 0, "marked: max over the places of key 1 from 0", hexed("4C5051010001 2002 1001010000")
     yield 0, "first trial: key 2 from 0", hexed("4C5051010000 1001020000")
     yield from headers(b"LPQ", b"\0" + LIT)
     yield from cuts(Q1 + RPLUS + SUM + PLUS + chain(2, 5, start=65535) + LIT + RLIT)
-    for part in (question_keys, question_starts, question_chains, question_reductions, question_limits):
+    for part in (question_keys, question_starts, question_chains, question_reductions, question_limits, question_conditions, condition_terms,
+                 condition_reductions, condition_chains, condition_limits):
         yield from part()
-    for before, plus, leaf, legal in ((Q0, PLUS, LIT, (0x10, 0x11, 0x12)), (Q1, RPLUS, RLIT, (0x20, 0x21, 0x22))):
+    for before, plus, leaf, legal in ((Q0, PLUS, LIT, (0x10, 0x11, 0x12)), (Q1, RPLUS, RLIT, (0x20, 0x21, 0x22, 0x23))):
         yield from term_bytes(before, legal)
         yield from terms(before, plus, leaf)
         yield from limits(before, plus, leaf)
@@ -423,13 +540,82 @@ def sheet_limits():
     yield 11, "term 64 at depth 17 of the final expression", three + entries47 + RPLUS * 16 + RLIT
 
 
+def sheet_conditions():
+    """An entry of reduction byte 129 to 133: the condition's expression precedes the value's, each of a depth of its own."""
+    one, two = W1 + hexed("00 01"), W1 + hexed("00 02")  # no chain; as many entries are due
+    yield 0, "what the sum of the seconds beyond 2 fuses to", W1 + b"\1" + slots(2) + hexed("01 83 12 09 30 00 11 02000000 30 00 31 00")
+    yield from cuts(W1 + b"\2" + slots(2, 5, start=65535) + slots(1) + hexed("02 83 12 09 30 00") + LIT + hexed("30 01 05 30 01")
+                    + RPLUS + hexed("31 01") + RLIT)
+    for number in (129, 130, 131, 132, 133):
+        yield 0, f"reduction {number}", one + bytes([number]) + LIT * 2 + RLIT
+        yield 1, f"reduction {number}, no condition", one + bytes([number])
+        yield 1, f"reduction {number}, no value", one + bytes([number]) + LIT
+        yield 9, f"reduction {number}, the final expression for a value", one + bytes([number]) + LIT + RLIT
+        yield 9, f"kind 0, reduction {number}", W0 + hexed("00 01") + bytes([number]) + LIT * 2
+        yield 9, f"kind 0, reduction {number}, nothing behind", W0 + hexed("00 01") + bytes([number])
+    for number in (0, 6, 127, 128, 134, 135, 192, 255):
+        yield 9, f"reduction {number}, two expressions", one + bytes([number]) + LIT * 2 + RLIT
+        yield 9, f"reduction {number}, nothing behind", one + bytes([number])
+        yield 9, f"reduction {number} behind an entry with a condition", two + SUM_WHERE + LIT * 2 + bytes([number]) + LIT * 2 + RLIT
+        yield 9 if number else 6, f"kind 0, reduction {number}, two expressions", W0 + hexed("00 01") + bytes([number]) + LIT * 2
+    yield 9, "two expressions of an entry without a condition", one + b"\3" + LIT * 2 + RLIT
+    yield 0, "entries with and without a condition", W1 + hexed("00 03 02") + LIT + b"\x82" + LIT * 2 + b"\3" + LIT + RLIT
+    yield 0, "8 entries with conditions", W1 + hexed("00 08") + (SUM_WHERE + LIT * 2) * 8 + hexed("31 07")
+    yield 14, "9 entries with conditions", W1 + hexed("00 09") + (SUM_WHERE + LIT * 2) * 9 + hexed("31 07")
+    yield 6, "a byte left over", one + SUM_WHERE + LIT * 2 + RLIT + b"\0"
+    yield 3, "version 2, and a condition", b"LPW" + u16(2) + hexed("01 00 01") + SUM_WHERE + LIT * 2 + RLIT
+    for where, before, behind in (("condition", SUM_WHERE, LIT), ("value", SUM_WHERE + LIT, b"")):
+        for tag in (0x00, 0x03, 0x10, 0x13, 0x20, 0x21, 0x22, 0x23, 0x31, 0x32, 0x83, 0xFF):
+            yield 9, f"term byte {tag:#04x} as {where}", one + before + bytes([tag]) + LIT[1:] + behind + RLIT
+        yield 9, f"a result literal within the {where}", one + before + PLUS + LIT + RLIT + behind + RLIT
+        yield 9, f"operator 12 in the {where}", one + before + hexed("12 0c") + LIT * 2 + behind + RLIT
+        for count in (0, 1, 2, 8):
+            chains = W1 + bytes([count]) + slots(1) * count + b"\1" + before
+            for index in range(max(count - 1, 0), count + 1):
+                yield 0 if index < count else 16, f"chain {index} of {count} in the {where}", chains + bytes([0x30, index]) + behind + hexed("31 00")
+            yield 1, f"no index of a chain in the {where}, {count} chains", chains + b"\x30"
+        yield 16, f"chain 255 of 8 in the {where}, nothing behind", chains + hexed("30 ff")
+        yield 16, f"chain 8 of 8 as a second term of the {where}", chains + PLUS + hexed("30 07 30 08") + behind + RLIT
+    yield 16, "chain 0 of none in the condition, and a wrong byte for the value", one + SUM_WHERE + hexed("30 00 ff")
+    yield 9, "a wrong byte for the condition, and chain 0 of none for the value", one + SUM_WHERE + hexed("ff 30 00")
+    yield 16, "entry 1 of 1 with a condition", one + SUM_WHERE + LIT * 2 + hexed("31 01")
+
+
+def sheet_condition_limits():
+    one, two, three = (W1 + b"\0" + bytes([count]) for count in (1, 2, 3))  # as many entries are due
+    deep = PLUS * 15 + LIT * 16  # depth 16, 31 terms
+    yield 0, "condition and value of depth 16", one + SUM_WHERE + deep * 2 + hexed("31 00")
+    for where, before, behind in (("condition", SUM_WHERE, LIT), ("value", SUM_WHERE + deep, b"")):
+        yield from due(11, f"depth 17 in the {where}", one + before + PLUS * 16, b"\x11", LIT[1:] + LIT * 16 + behind + RLIT)
+        yield from due(11, f"depth 17 in the {where}, to the right", one + before + (PLUS + LIT) * 15 + PLUS, b"\x30", b"\0")
+        yield 11, f"depth 17 in the {where}, a wrong byte", one + before + PLUS * 16 + b"\xff"
+        yield 9, f"depth 16 in the {where}, a wrong byte", one + before + PLUS * 15 + b"\xff"
+    yield 11, "depth 17 in the second entry's value", two + b"\3" + LIT + SUM_WHERE + deep + PLUS * 16 + LIT * 17 + RLIT
+    yield 0, "63 terms, condition and value of 31", one + SUM_WHERE + place_tree(31) * 2 + hexed("31 00")
+    yield 0, "64 terms, some of them a condition", two + SUM_WHERE + place_tree(31) * 2 + b"\3" + LIT + hexed("31 00")
+    yield 0, "64 terms in 7 entries with conditions", W1 + hexed("00 07") + (SUM_WHERE + place_tree(5) + place_tree(3)) * 6 + b"\3" + place_tree(5) \
+        + tree(11, RPLUS, RLIT)
+    yield from due(12, "term 65 is a value", two + b"\3" + place_tree(63) + SUM_WHERE + LIT, b"\x11", LIT[1:] + RLIT)
+    yield 12, "term 65 is a value, a wrong byte", two + b"\3" + place_tree(63) + SUM_WHERE + LIT + b"\xff"
+    yield from due(12, "term 65 within a value", one + SUM_WHERE + place_tree(31) + PLUS * 2 + place_tree(31), b"\x30", b"\0")
+    yield from due(12, "term 65 within a condition", one + SUM_WHERE + PLUS * 3 + place_tree(61), b"\x11", LIT[1:])
+    full = three + b"\3" + place_tree(31) + b"\3" + place_tree(33)  # 64 terms; a third entry is due
+    yield from due(12, "term 65 is a condition", full + SUM_WHERE, b"\x11", LIT[1:] + LIT + RLIT)
+    yield 9, "reduction 134 behind 64 terms", full + b"\x86" + LIT * 2
+    yield 1, "no reduction behind 64 terms", full
+    yield from due(12, "term 65 is the final expression", two + SUM_WHERE + place_tree(31) * 2 + SUM_WHERE + LIT * 2, b"\x31", b"\0")
+    wide = three + SUM_WHERE + place_tree(23) + LIT + SUM_WHERE + place_tree(21)  # 45 terms; the second entry's value is due
+    yield 11, "term 64 at depth 17 of a value", wide + (PLUS + LIT) * 2 + PLUS * 14 + b"\x11"
+    yield 12, "term 65 at depth 17 of a value", wide + (PLUS + LIT) * 3 + PLUS * 13 + b"\x11"
+
+
 def sheets():
     yield 0, "marked: what the marked question fuses to", hexed("4C5057010001 01 010100000000 01 02 3000 3100")
     yield from headers(b"LPW", hexed("00 00 01 00") + LIT)
     yield 9, "kind 2, and 9 chains", b"LPW" + ONE + hexed("02 09")
     yield from cuts(W1 + b"\1" + slots(2, 5, start=65535) + hexed("02 03 30 00 05") + PLUS + hexed("30 00") + LIT
                     + RPLUS + hexed("31 01") + RLIT)
-    for part in (sheet_chains, sheet_entries, sheet_indexes, sheet_limits):
+    for part in (sheet_chains, sheet_entries, sheet_indexes, sheet_limits, sheet_conditions, sheet_condition_limits):
         yield from part()
     for before, plus, leaf, legal in ((E0, PLUS, LIT, (0x11, 0x12, 0x30)), (E1, RPLUS, RLIT, (0x21, 0x22, 0x31))):
         yield from term_bytes(before, legal)
@@ -500,13 +686,23 @@ def questions_written():
     two = Q0 + hexed("12 03") + chain(2) + hexed("11 ff ff ff ff")
     result = Q1 + hexed("22 04 20 05") + chain(6, start=65535) + hexed("21 00 00 00 80")
     full = Q0 + place_tree(63)
-    for name, whole, kind, count in (("a chain", one, 0, 1), ("three terms", two, 0, 3), ("a result", result, 1, 4), ("63 terms", full, 0, 63)):
+    where = Q1 + hexed("23 03 12 09") + chain(2) + hexed("11 02 00 00 00") + chain(2)
+    mixed = Q1 + hexed("22 06 23 01") + chain(1, 2, 5, start=255) + hexed("11 ff ff ff ff 22 04 20 05") + chain(6, start=65535) + hexed("23 05") + LIT * 2
+    eight = Q1 + RPLUS * 7 + (WHERE + LIT * 2) * 8
+    full_where = Q1 + RPLUS + SUM + place_tree(31) + WHERE + place_tree(15) * 2
+    for name, whole, kind, count in (
+        ("a chain", one, 0, 1), ("three terms", two, 0, 3), ("a result", result, 1, 4), ("63 terms", full, 0, 63), ("a condition", where, 1, 5),
+        ("two conditions", mixed, 1, 10), ("eight conditions", eight, 1, 31), ("64 terms, a condition among them", full_where, 1, 64),
+    ):
         yield from lengths(name, whole, kind, count)
     # The typed form with another kind or count. A term too few is missing, 1; one behind the last is written as a byte 0, left over, 6.
     for number, name, whole, kind, count in (
         (9, "kind 2", two, 2, 3), (9, "kind 1", two, 1, 3), (9, "kind 0", result, 0, 4),
         (1, "a term too few", two, 0, 2), (1, "no term", two, 0, 0), (1, "no reduction", result, 1, 1), (1, "no operand", result, 1, 3),
         (6, "a term too many", two, 0, 4), (6, "all there are", one, 0, 65535), (6, "a term behind 63", full, 0, 64),
+        (9, "kind 0, a condition", where, 0, 5), (1, "no condition", where, 1, 1), (1, "part of a condition", where, 1, 3), (1, "no value", where, 1, 4),
+        (6, "a term behind a value", where, 1, 6), (1, "the last value missing", mixed, 1, 9), (1, "the last condition missing", mixed, 1, 8),
+        (6, "a term behind 64", full_where, 1, 65), (6, "all there are, behind eight conditions", eight, 1, 65535),
     ):
         yield from changed(number, name, whole, kind, count)
 
@@ -516,8 +712,14 @@ def worksheets_written():
     place = W0 + bytes([1]) + slots(2, start=3) + hexed("01 00 12 03 30 00 11 01 00 00 00")
     both = W1 + bytes([2]) + slots(1, 2, 5) + slots(6, start=65535) + hexed("02 05 30 00 01 30 01 22 04 31 00 31 01")
     eight = W1 + bytes([8]) + b"".join(slots(1, start=i) for i in range(8)) + bytes([8]) + hexed("01 30 07") * 8 + hexed("31 07")
+    where = W1 + bytes([1]) + slots(2) + hexed("01 83 12 09 30 00 11 02 00 00 00 30 00 31 00")
+    mixed = W1 + bytes([2]) + slots(1, 2, 5) + slots(6, start=65535) + hexed("02 05 30 00 81 30 01 30 00 22 04 31 00 31 01")
+    eight_where = W1 + bytes([1]) + slots(1) + bytes([8]) + hexed("85 30 00 11 07 00 00 00") * 8 + hexed("31 07")
+    full = W1 + hexed("00 08") + (SUM_WHERE + place_tree(3) * 2) * 7 + b"\3" + place_tree(21) + hexed("31 07")  # 64 terms: all 72 nodes
     for name, whole, fields in (
         ("no entry", none, (1, 0, 0, 1)), ("kind 0", place, (0, 1, 1, 4)), ("two entries", both, (1, 2, 2, 7)), ("eight of each", eight, (1, 8, 8, 17)),
+        ("a condition", where, (1, 1, 1, 6)), ("one condition of two entries", mixed, (1, 2, 2, 8)), ("eight conditions", eight_where, (1, 1, 8, 25)),
+        ("eight entries and 64 terms", full, (1, 0, 8, 72)), ("eight entries and 64 terms, all there are", full, (1, 0, 8, 65535)),
     ):
         yield from lengths(name, whole, *fields)
     # The typed form with other fields.
@@ -528,6 +730,13 @@ def worksheets_written():
         (1, "no node", place, (0, 1, 1, 0)), (1, "no expression", place, (0, 1, 1, 1)), (1, "an operand too few", place, (0, 1, 1, 3)),
         (6, "a node behind the last", place, (0, 1, 1, 5)), (6, "all there are", none, (1, 0, 0, 65535)),
         (9, "no reduction byte where kind 1 has one", place, (1, 1, 1, 4)), (9, "a reduction byte of kind 1 where kind 0 has 0", eight, (0, 8, 1, 2)),
+        (9, "a condition where kind 0 has none", where, (0, 1, 1, 6)), (1, "no condition", where, (1, 1, 1, 1)),
+        (1, "part of a condition", where, (1, 1, 1, 3)), (1, "no value", where, (1, 1, 1, 4)),
+        (1, "no final expression behind a value", where, (1, 1, 1, 5)), (6, "a node behind a final expression", where, (1, 1, 1, 7)),
+        (16, "no chain for a condition", where, (1, 0, 1, 6)), (9, "an entry with a condition too many", mixed, (1, 2, 1, 8)),
+        (9, "an entry too few behind a condition", mixed, (1, 2, 3, 8)), (14, "nine entries with conditions", eight_where, (1, 1, 9, 25)),
+        (9, "seven entries, an eighth with a condition behind", eight_where, (1, 1, 7, 25)),
+        (1, "no final expression behind 63 terms and eight entries", full, (1, 0, 8, 71)),
     ):
         yield from changed(number, name, whole, *fields)
 

@@ -3,8 +3,8 @@
 
     python3 tests/make_runs.py           prints each case: index, kind, call, rounds, length lent, what is expected, name
 
-Worksheets and maps are written by hand as bytes. Rows, rounds and refusals are written by hand from document 01 too; none is
-what a run said. So that no slip of the hand stays, the script walks every walk outright (`outright` below: sets of walks, no
+Worksheets and maps are written by hand as bytes. Rows, rounds and refusals are written by hand from document 01 and, for conditions,
+document 02, a) too; none is what a run said. So that no slip of the hand stays, the script walks every walk outright (`outright` below: sets of walks, no
 rounds and no table of figures) and stops where the hand and the walks differ.
 
 In the file (make_cases.py has its layout) a case has five numbers of 16 bits: the length lent, the call (0 pull, 1 push, 2 pull stopped,
@@ -53,6 +53,11 @@ def at_each(*chains, term=hexed("30 00")):
 def one_result(chains, entries, final):
     """A worksheet of kind 1; an entry is a reduction byte and a term."""
     return W1 + bytes([len(chains)]) + b"".join(chains) + bytes([len(entries)]) + b"".join(entries) + final
+
+
+def where(reduction, condition, value):
+    """An entry with a condition: 128 is added to its reduction byte."""
+    return bytes([128 + reduction]) + condition + value
 
 
 def lit(x):
@@ -108,7 +113,7 @@ class Sheet:
         self.kind = data[5]
         self.chains = [self.chain() for _unused in range(data[6])]
         count = self.byte()
-        self.entries = [(self.byte(), self.term()) for _unused in range(count)]
+        self.entries = [self.entry() for _unused in range(count)]
         self.final = self.term() if self.kind == 1 else None
         assert self.at == len(data)
 
@@ -120,6 +125,12 @@ class Sheet:
         count, *keys = (self.byte() for _unused in range(4))
         self.at += 2
         return keys[:count], numbers(self.data, self.at - 2, 1)[0]
+
+    def entry(self):
+        """The reduction, the condition (None without one) and the value."""
+        byte = self.byte()
+        assert byte in ((0,) if self.kind == 0 else (1, 2, 3, 4, 5, 129, 130, 131, 132, 133))
+        return byte % 128, self.term() if byte > 128 else None, self.term()
 
     def term(self):
         tag = self.byte()
@@ -177,6 +188,11 @@ def worth(term, leaves):
     return compute(term[1], worth(term[2], leaves), worth(term[3], leaves))
 
 
+def counts(condition, leaves):
+    """"A place counts where the condition is a number other than 0; an absent condition leaves the place out." (document 02, a)"""
+    return condition is None or worth(condition, leaves) not in (None, 0)
+
+
 def reduced(number, values):
     there = [v for v in values if v is not None]
     if not there:
@@ -198,10 +214,10 @@ def outright(sheet, graph, stop=None):
     rounds = quiet if stop is None else stop
     reached = [f[most if stop is None else min(stop, most)] for f in found]
     places = [[f[v] and f[v][-1] for f in reached] for v in range(n)]
-    results = [[worth(term, leaves) for leaves in places] for _unused, term in plan.entries]
     if plan.kind == 0:
-        return n, rounds, 0, results[0]
-    return n, rounds, 1, [worth(plan.final, [reduced(r, values) for (r, _unused), values in zip(plan.entries, results)])]
+        return n, rounds, 0, [worth(plan.entries[0][2], leaves) for leaves in places]
+    results = [reduced(r, [worth(term, leaves) for leaves in places if counts(condition, leaves)]) for r, condition, term in plan.entries]
+    return n, rounds, 1, [worth(plan.final, results)]
 
 
 # ------------------------------------------------------------------------------------------------ cases
@@ -339,6 +355,7 @@ def sheets():
     yield from sheet_entries()
     yield from sheet_operators()
     yield from sheet_stops()
+    yield from conditions()
 
 
 def sheet_chains():
@@ -445,6 +462,131 @@ def sheet_stops():
     yield from ends("stopped late, no chain", at_each(term=lit(1)), LOOP, 1, [1], 2, 256, 65535)
 
 
+# ---- entries with a condition
+
+
+def only(reduction, condition, value, *chains):
+    """One entry, which is the result; chain 0 is key 2 from 0, on map A 0, 5, 2, 5 after 3 rounds."""
+    return one_result([slots(2), *chains], [where(reduction, condition, value)], entry(0))
+
+
+def in_turn(graph, rounds, cases):
+    """Each (name, worksheet, result) by pull or by push, in turn: what an entry makes of the final figures does not depend on it."""
+    n = numbers(graph, 5, 1)[0]
+    for i, (name, sheet, value) in enumerate(cases):
+        yield one(name, sheet, graph, i % 2, 0, (n, rounds, 1, [value]))
+
+
+def conditions():
+    # Farther than 2 seconds are places 1 and 3, from round 1 and from round 2 on.
+    farther = op(GREATER, chain(0), lit(2))
+    yield from runs("the sum beyond 2 seconds", only(3, farther, chain(0)), MAP_A, [[_], [5], [10], [10], [10]])
+    yield from ends("the largest beyond 2 seconds", only(2, farther, chain(0)), MAP_A, 3, [5], 4, 256)
+    yield from ends("the largest beyond 9 seconds", only(2, op(GREATER, chain(0), lit(9)), chain(0)), MAP_A, 3, [_], 4, 256)
+    yield from in_turn(MAP_A, 3, condition_places())
+    yield from in_turn(MAP_A, 3, condition_numbers())
+    yield from in_turn(MAP_A, 3, condition_values())
+    yield from in_turn(MAP_A, 3, condition_entries())
+    yield from condition_sums()
+    yield from condition_rounds()
+
+
+def condition_places():
+    """Which places count, by each reduction."""
+    # Chain 1 is key 1 from 0: 0, 1, 1, 2. Places 1 and 3 count; 0 and 2; 0; 1, 2 and 3; 2; none.
+    for name, condition, values in (
+        ("beyond 2", op(GREATER, chain(0), lit(2)), [1, 2, 3, 1, 1]), ("under 5", op(LESS, chain(0), lit(5)), [0, 1, 1, 0, 1]),
+        ("at 0", op(EQUAL, chain(0), lit(0)), [0, 0, 0, 0, 0]), ("not at 0", op(OR, chain(0), lit(0)), [1, 2, 4, 1, 1]),
+        ("at 2", op(EQUAL, chain(0), lit(2)), [1, 1, 1, 1, 1]), ("beyond 9", op(GREATER, chain(0), lit(9)), [_] * 5),
+    ):
+        for number, value in enumerate(values, 1):
+            yield f"reduction {number} over places {name}", only(number, condition, chain(1), slots(1)), value
+    # Key 1 from 2 is absent, 1, 0, 2: as a condition alone it leaves out place 0, where it is absent, and place 2, where it is 0. The
+    # value is 1, 6, 3, 6.
+    for number, value in ((1, 6), (2, 6), (3, 12), (4, 1), (5, 1)):
+        yield f"a chain alone as condition, reduction {number}", only(number, chain(1), op(PLUS, chain(0), lit(1)), slots(1, start=2)), value
+
+
+def condition_numbers():
+    """Conditions that are the same everywhere: all places count, and the sum is 12, or none."""
+    big = 4294967295
+    greatest = op(PLUS, op(TIMES, lit(big), lit(big)), op(TIMES, lit(big), lit(2)))
+    for name, condition, value in (
+        ("0", lit(0), _), ("1", lit(1), 12), ("2", lit(2), 12), ("256", lit(256), 12), ("65,536", lit(65536), 12), ("2^32", op(PLUS, lit(big), lit(1)), 12),
+        ("2^63", op(TIMES, lit(2 ** 31), op(TIMES, lit(2 ** 31), lit(2))), 12), ("2^64 - 1", greatest, 12), ("too large", op(PLUS, greatest, lit(1)), _),
+        ("below zero", op(MINUS, lit(0), lit(1)), _), ("1 by 0", op(DIVIDE, lit(1), lit(0)), _), ("1 - 1", op(MINUS, lit(1), lit(1)), _),
+    ):
+        yield f"condition {name}", only(3, condition, chain(0)), value
+    for number in (1, 2, 4, 5):
+        yield f"condition 0, reduction {number}", only(number, lit(0), chain(0)), _
+
+
+def condition_values():
+    """Values absent where the condition counts are skipped."""
+    # Chain 1 is absent, 1, 0, 2.
+    less = op(MINUS, chain(1), lit(1))  # absent, 0, absent, 1
+    for name, condition, values in (("everywhere", lit(1), [0, 1, 1, 0, 1]), ("at 5 seconds", op(EQUAL, chain(0), lit(5)), [0, 1, 1, 0, 1]),
+                                    ("under 5 seconds", op(LESS, chain(0), lit(5)), [_] * 5)):
+        for number, value in enumerate(values, 1):
+            yield f"some values absent, {name}, reduction {number}", only(number, condition, less, slots(1, start=2)), value
+    for number in (1, 4):
+        yield f"a value absent where the place does not count, reduction {number}", only(number, op(GREATER, chain(0), lit(2)), chain(1), slots(1, start=2)), 1
+    # The value, 4 less key 2, is there at places 0 and 2 alone; places 1 and 3 count.
+    yield "values where the condition is not", only(3, chain(1), op(MINUS, lit(4), chain(0)), slots(1, start=2)), _
+
+
+def condition_entries():
+    """Several entries, and what the final expression makes of them."""
+    # Beyond 2 seconds are 2 places of 10 seconds together; in all it is 12 seconds.
+    farther = op(GREATER, chain(0), lit(2))
+    total, far, count, none = b"\3" + chain(0), where(3, farther, chain(0)), where(3, farther, lit(1)), where(3, lit(0), chain(0))
+    for name, entries, final, value in (
+        ("the mean beyond 2 seconds", [far, count], rop(DIVIDE, entry(0), entry(1)), 5),
+        ("an entry without a condition, then one with", [total, far], rop(MINUS, entry(0), entry(1)), 2),
+        ("an entry with a condition, then one without", [far, total], rop(MINUS, entry(1), entry(0)), 2),
+        ("the same reduction and value under two conditions", [far, where(3, lit(1), chain(0))], rop(MINUS, entry(1), entry(0)), 2),
+        ("an unused entry with a condition", [none, total], entry(1), 12), ("an entry with a condition twice", [far], rop(TIMES, entry(0), entry(0)), 100),
+        ("absent in the final expression", [none], rop(PLUS, entry(0), rlit(1)), _), ("none asked for", [far], rlit(3), 3),
+    ):
+        yield name, one_result([slots(2)], entries, final), value
+    eight = [where(3, op(GREATER, chain(0), lit(i)), lit(10 ** i)) for i in range(8)]  # places beyond i: 3, 3, 2, 2, 2, none, none, none
+    for i, value in ((0, 3), (1, 30), (4, 20000), (5, _), (7, _)):
+        yield f"8 entries with conditions, entry {i}", one_result([slots(2)], eight, entry(i)), value
+    # As no fusing writes them: equal chains, the condition's behind the value's.
+    yield "equal chains in condition and value", only(3, op(GREATER, chain(1), lit(2)), chain(0), slots(2)), 10
+    # 15 added to each: as value 15, 20, 17, 20; as condition never 0. 14 added to each: 14, 19, 16, 19.
+    yield "condition and value of depth 16", only(3, deep(16), deep(16)), 72
+    yield "a comparison of depth 16", only(3, op(GREATER, deep(15), lit(16)), chain(0)), 10
+    # 31 terms have 16 leaves, 15 of them 1, so 15 is added too; with the second entry and the final expression there are 64.
+    yield "64 terms, a condition among them", one_result([slots(2)], [where(3, wide(31), wide(31)), b"\1" + lit(0)], entry(0)), 72
+
+
+def condition_sums():
+    # Key 1 from 0 is 0, 1. At place 0 alone the square is a sum, at both places too large.
+    square = op(TIMES, lit(4294967295), lit(4294967295))
+    yield from in_turn(TWO, 2, (
+        ("a sum small enough where one place counts", one_result([slots(1)], [where(3, op(EQUAL, chain(0), lit(0)), square)], entry(0)), 18446744065119617025),
+        ("a sum too large over those that count", one_result([slots(1)], [where(3, op(LESS, chain(0), lit(2)), square)], entry(0)), _),
+    ))
+    # Of 256 places with no passage, key 3 from anywhere is the place itself: five are above 250, 251 + .. + 255 = 1,265.
+    last, first = op(GREATER, chain(0), lit(250)), op(LESS, chain(0), lit(1))
+    yield from in_turn(map_file(256), 1, ((f"reduction {reduction} over {name} of 256 places", one_result(
+        [slots(3, start=ANYWHERE)], [where(reduction, condition, value)], entry(0)), result) for name, reduction, condition, value, result in (
+            ("the last five", 1, last, chain(0), 251), ("the last five", 2, last, chain(0), 255), ("the last five", 3, last, chain(0), 1265),
+            ("the first", 3, first, lit(9), 9), ("all but the first", 3, chain(0), lit(1), 255))))
+    # One place: the empty walk's crate size is 65,535, and the self-passage's is 3.
+    yield from in_turn(LOOP, 2, ((f"one place, where key 6 is {x}", one_result([slots(6)], [where(2, op(EQUAL, chain(0), lit(x)), lit(8))], entry(0)), result)
+                                 for x, result in ((3, 8), (65535, _))))
+
+
+def condition_rounds():
+    # Key 6 from 0 takes 4 rounds: 65,535; then 10, 4; then 4, 4, 7; then 4, 4, 4. It stands in the condition alone.
+    yield from runs("a chain of the condition takes longer", only(3, op(LESS, chain(1), lit(7)), chain(0), slots(6)), MAP_A,
+                    [[_], [2], [7], [12], [12], [12]])
+    yield from runs("a place that counts in round 1 alone", only(3, op(EQUAL, chain(1), lit(10)), lit(1), slots(6)), MAP_A,
+                    [[_], [1], [_], [_], [_], [_]])
+
+
 # ---- refusals: "A run judges the worksheet, the map, starts in chain order, then 15."
 
 
@@ -467,6 +609,18 @@ def refusals():
     yield from refused(4, "no place, start 0", good, map_file(0))
     yield from refused(6, "map with a byte missing, and nothing lent", good, MAP_A[:-1], 0)
     yield from refusal_starts()
+    yield from refusal_conditions()
+
+
+def refusal_conditions():
+    far = where(3, op(GREATER, chain(0), lit(2)), chain(0))
+    yield from refused(9, "kind 0 with a condition, and the map's crate", W0 + b"\1" + slots(2) + b"\1" + far, map_file(4, (0, 1, 5, 0)))
+    yield from refused(9, "reduction byte 128", one_result([slots(2)], [b"\x80" + far[1:]], entry(0)), MAP_A)
+    yield from refused(9, "reduction byte 134, and a start", one_result([slots(2, start=4)], [b"\x86" + far[1:]], entry(0)), MAP_A)
+    yield from refused(16, "the condition's index, and no map", only(3, chain(1), chain(0)), b"")
+    yield from refused(9, "a condition and no value", one_result([slots(2)], [b"\x83" + chain(0)], entry(0)), MAP_A)
+    yield from refused(13, "start 4 of a chain that the condition alone has", only(3, chain(1), chain(0), slots(1, start=4)), MAP_A)
+    yield from refused(15, "one byte short", only(3, lit(1), chain(0)), MAP_A, 18)
 
 
 def refusal_starts():

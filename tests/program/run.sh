@@ -94,6 +94,17 @@ mapfile -t itself < <(for ((i = 0; i < 256; i++)); do echo "$i $i"; done)
 try '256 places, each its own start' "$each 10 01 03 ffff" "$widest" 'rounds 1' "${itself[@]}"
 try '1,024 passages' "$each 10 01 06 0000" "$fullest" 'rounds 2' '0 3'
 
+# ---------------------------------------------------------------------------------------------- only the places that matter
+from_0='10 01 02 0000'
+beyond() { echo "12 09 $from_0 11 0${1}000000"; }   # more than so many seconds from 0
+try 'the sum beyond 2 seconds' "$one 23 03 $(beyond 2) $from_0" "$map_a" 'rounds 3' 'result 10'
+try 'the largest beyond 2 seconds' "$one 23 02 $(beyond 2) $from_0" "$map_a" 'rounds 3' 'result 5'
+try 'the largest beyond 9 seconds' "$one 23 02 $(beyond 9) $from_0" "$map_a" 'rounds 3' 'result -'
+try 'key 1 from 2 as condition: absent, 1, 0, 2' "$one 23 03 10 01 01 0200 12 03 $from_0 11 01000000" "$map_a" 'rounds 3' 'result 12'
+try 'a condition at each place' "$each 23 03 $(beyond 2) $from_0" "$map_a" 'refused 9'
+try 'a condition and no value' "$one 23 03 $(beyond 2)" "$map_a" 'refused 1'
+try 'reduction 131 with a condition' "$one 23 83 $(beyond 2) $from_0" "$map_a" 'refused 9'
+
 # ---------------------------------------------------------------------------------------------- files, and the order of judging
 try 'no question' missing "$map_a" 'refused 1'
 try 'no map' "$seconds" missing 'refused 1'

@@ -1,9 +1,9 @@
 // Random plans and random queries on random tiny graphs, from a fixed seed. A plan is run by pull, by push, and stopped after a random
 // number of rounds; a query is fused, and its plan is run the same way. The answers expected are worked out on the file's own bytes:
 // a path reduction's value from walking every walk outright (crate `walked`), an operator joins the values of its two terms, a
-// vertex reduction goes over all vertices. So a query is compared UNFUSED, as document 01 has it: "each chain where it is written".
-// Some files are damaged instead: they are refused, or the reader of plans takes what is run or written. Prints what the cases were
-// like, and how many calls differ.
+// vertex reduction goes over all vertices, with a condition over those where it is a number other than 0. So a query is compared
+// UNFUSED, as document 01 has it: "each chain where it is written". Some files are damaged instead: they are refused, or the reader of
+// plans takes what is run or written. Prints what the cases were like, and how many calls differ.
 use engine::Limit;
 use value::Row;
 use value::Value;
@@ -39,6 +39,9 @@ const SOURCE: u64 = 4294967296;
 // All operators; minus (4) and divide (6), which often give absent, are seldom.
 const OPERATORS: [u8; 16] = [1, 2, 3, 4, 5, 6, 7, 8, 9, 10, 11, 1, 2, 3, 5, 9];
 
+// Those of a condition that compares: minus (absent where the first is less), equal, less, greater.
+const COMPARING: [u8; 4] = [4, 7, 8, 9];
+
 // A file or a buffer, longer than any that is written: 560 bytes are enough for a plan.
 type File = [u8; 560];
 
@@ -49,7 +52,8 @@ type Rows = [u16; 24];
 // reductions its terms are chosen from, how many entries a plan of kind 1 has, how many terms more than its root each expression may
 // have, the deepest depth, of eight terms how many are operators. Its file as far as it is written: where the next byte goes, how many
 // terms may still be added to those that are due, how many terms, path reductions and vertex reductions are written, the least depth
-// left that was met, the last term's tag, where the last expression starts.
+// left that was met, the last term's tag or the byte of an entry just begun, where the last expression starts, and the last condition (0
+// for none).
 struct Case {
     seed: u64,
     query: bool,
@@ -69,6 +73,7 @@ struct Case {
     least: u64,
     tag: u8,
     root: usize,
+    condition: usize,
 }
 
 // What a call should return for the lengths of its files and the length lent, and the rounds: of the run to the end, and those at which
@@ -95,6 +100,10 @@ struct Score {
     eight: u64,
     full: u64,
     deep: u64,
+    conditions: u64,
+    absent: u64,
+    zero: u64,
+    above: u64,
     differences: u64,
 }
 
@@ -227,12 +236,23 @@ fn path_of(x: u64) -> PathReduction {
     }
 }
 
-// How many terms there are below a term; below 0x10 it is the reduction byte of an entry.
+// Has a reduction of a query, or an entry by its reduction byte, a condition?
+fn has_condition(tag: u8) -> bool {
+    if tag == 0x23 {
+        return true;
+    }
+    128 <= tag
+}
+
+// How many terms there are below a term, or behind the reduction byte of an entry: below 0x10 without, from 128 on with a condition.
 fn arity(tag: u8) -> u8
     ensures { λ r. ⌜ r ≤ 2 ⌝ }
 {
     if tag < 0x10 {
         return 1;
+    }
+    if has_condition(tag) {
+        return 2;
     }
     match tag {
         0x12 | 0x22 => 2,
@@ -244,7 +264,7 @@ fn arity(tag: u8) -> u8
 // How many bytes the term at a position takes without those below it.
 fn term_size(q: &File, at: usize) -> usize {
     let tag = byte(q, at);
-    if tag < 0x10 {
+    if tag % 128 < 0x10 {
         return 1;
     }
     match tag {
@@ -299,6 +319,7 @@ fn random_case(seed: u64, query: bool) -> Case {
         least: 16,
         tag: 0,
         root: 0,
+        condition: 0,
     }
 }
 
@@ -389,9 +410,25 @@ fn random_literal(seed: u64) -> u64 {
 
 // ---- random terms
 
+// How many terms may be added, with so much depth left.
+fn room(c: Case, left: u64) -> u64 {
+    if left == 1 { 0 } else { c.free }
+}
+
+// A reduction of a query, if there is room for one: in two of five with a condition, which takes a term more.
+fn reduction_tag(seed: u64, room: u64) -> u8 {
+    if room == 0 {
+        return 0x21;
+    }
+    if room == 1 {
+        return 0x20;
+    }
+    pick(seed % 5 < 2, 0x23, 0x20)
+}
+
 // A term that is no operator and no literal, if there may be one: a reduction, of which a query has up to eight, an entry, or a path
 // reduction.
-fn leaf_tag(c: Case, result: bool, room: u64) -> u8 {
+fn leaf_tag(seed: u64, c: Case, result: bool, room: u64) -> u8 {
     if !result {
         return pick(c.paths == 0, 0x11, pick(c.query, 0x10, 0x30));
     }
@@ -401,13 +438,14 @@ fn leaf_tag(c: Case, result: bool, room: u64) -> u8 {
     if 8 <= c.reductions {
         return 0x21;
     }
-    pick(room == 0, 0x21, 0x20)
+    reduction_tag(seed, room)
 }
 
 // What the next term is, with so much depth left: an operator in so many of eight, where it may; a literal in an eighth of the rest.
-fn random_tag(seed: u64, c: Case, result: bool, left: u64) -> u8 {
-    let room = if left == 1 { 0 } else { c.free };
-    if 2 <= room {
+fn random_tag(c: Case, result: bool, left: u64) -> u8 {
+    let seed = c.seed;
+    let most = room(c, left);
+    if 2 <= most {
         if seed % 8 < c.odds {
             return pick(result, 0x22, 0x12);
         }
@@ -415,28 +453,27 @@ fn random_tag(seed: u64, c: Case, result: bool, left: u64) -> u8 {
     if seed / 8 % 8 == 0 {
         return pick(result, 0x21, 0x11);
     }
-    leaf_tag(c, result, room)
+    leaf_tag(seed / 1024, c, result, most)
 }
 
 // A literal's number, a reduction, the index of an entry or of a path reduction, or an operator, by the term's tag.
 fn random_code(seed: u64, c: Case, tag: u8) -> u64 {
     match tag {
         0x11 | 0x21 => random_literal(seed),
-        0x20 => 1 + seed % 5,
+        0x20 | 0x23 => 1 + seed % 5,
         0x31 => below(seed, c.entries),
         0x10 | 0x30 => below(seed, c.paths),
         _ => wide8(OPERATORS[(seed % 16) as usize]),
     }
 }
 
-// A term without those below it; a path reduction is from the table.
-fn put_term(out: &mut File, table: &File, c: Case, tag: u8, seed: u64) -> usize {
-    let code = random_code(seed, c, tag) % SOURCE;
+// A term of this tag and code, without those below it; a path reduction is from the table. Returns where the next byte goes.
+fn put_term(out: &mut File, table: &File, at: usize, tag: u8, code: u64) -> usize {
     if tag == 0x10 {
         let path = number_at(table, slot((code % 256) as u8), 6);
         let a = put(
             out,
-            c.at,
+            at,
             0x10 + 256 * (path % SOURCE),
             2 + (path % 256) as usize,
         );
@@ -446,26 +483,73 @@ fn put_term(out: &mut File, table: &File, c: Case, tag: u8, seed: u64) -> usize 
         0x11 | 0x21 => 5,
         _ => 2,
     };
-    put(out, c.at, wide8(tag) + 256 * code, size)
+    put(out, at, wide8(tag) + 256 * (code % SOURCE), size)
 }
 
-// One term more, with so much depth left, without those below it.
-fn put_next(out: &mut File, table: &File, c: Case, result: bool, left: u64) -> Case {
-    let seed = next(c.seed);
-    let tag = random_tag(seed, c, result, left);
+// Behind a tag and its code, or behind the byte of an entry: its terms, the condition first, are due here.
+fn begun(c: Case, tag: u8, at: usize) -> Case {
     let mut r = c;
-    r.seed = seed;
-    r.at = put_term(out, table, c, tag, seed / 64);
-    r.free = fewer(c.free, wide8(arity(tag)));
-    r.terms = count(c.terms, true);
-    r.path_terms = count(c.path_terms, tag % 32 == 16);
-    r.reductions = count(c.reductions, tag == pick(c.query, 0x20, 0x31));
-    r.least = fewer(c.least, fewer(c.least, left));
+    r.at = at;
     r.tag = tag;
+    r.free = fewer(c.free, wide8(arity(tag)));
+    if has_condition(tag) {
+        r.condition = at;
+    }
     r
 }
 
-// A term and all that it contains, with so much depth left.
+// Is it a reduction, or an entry?
+fn reduces(tag: u8) -> bool {
+    match tag {
+        0x20 | 0x23 | 0x31 => true,
+        _ => false,
+    }
+}
+
+// One term more, with so much depth left, without those below it.
+fn put_one(out: &mut File, table: &File, c: Case, tag: u8, code: u64, left: u64) -> Case {
+    let mut r = begun(c, tag, put_term(out, table, c.at, tag, code));
+    r.terms = count(c.terms, true);
+    r.path_terms = count(c.path_terms, tag % 32 == 16);
+    r.reductions = count(c.reductions, reduces(tag));
+    r.least = fewer(c.least, fewer(c.least, left));
+    r
+}
+
+// A condition that compares a path reduction with a literal.
+fn put_comparison(out: &mut File, table: &File, c: Case, left: u64) -> Case {
+    let inner = fewer(left, 1);
+    let seed = next(c.seed);
+    let operator = COMPARING[(c.seed / 64 % 4) as usize];
+    let mut r = put_one(out, table, c, 0x12, wide8(operator), left);
+    let tag = leaf_tag(seed, c, false, 0);
+    r = put_one(out, table, r, tag, random_code(seed / 64, c, tag), inner);
+    r.seed = next(seed);
+    put_one(out, table, r, 0x11, random_literal(r.seed / 64), inner)
+}
+
+// Does a condition start here that is to compare? Half of them, where there is room.
+fn compares(c: Case, left: u64) -> bool {
+    if has_condition(c.tag) {
+        if 2 <= room(c, left) {
+            return c.seed / 1024 % 2 == 0;
+        }
+    }
+    false
+}
+
+// One term more, with so much depth left, without those below it, or a whole condition.
+fn put_next(out: &mut File, table: &File, c: Case, result: bool, left: u64) -> Case {
+    let mut r = c;
+    r.seed = next(c.seed);
+    if compares(r, left) {
+        return put_comparison(out, table, r, left);
+    }
+    let tag = random_tag(r, result, left);
+    put_one(out, table, r, tag, random_code(r.seed / 64, c, tag), left)
+}
+
+// A term and all that it contains, with so much depth left; only an operator on results contains results.
 fn make(out: &mut File, table: &File, c: Case, result: bool, left: u64) -> Case {
     if left == 0 {
         return c;
@@ -475,20 +559,45 @@ fn make(out: &mut File, table: &File, c: Case, result: bool, left: u64) -> Case 
     if terms == 0 {
         return r;
     }
+    let inner = r.tag == 0x22;
     if terms == 1 {
-        return make(out, table, r, false, left - 1);
+        return make(out, table, r, inner, left - 1);
     }
-    let a = make(out, table, r, result, left - 1);
-    make(out, table, a, result, left - 1)
+    let a = make(out, table, r, inner, left - 1);
+    make(out, table, a, inner, left - 1)
 }
 
-// An expression more, with its share of terms, behind a reduction of so many bytes: one, or none for the last.
-fn make_next(out: &mut File, table: &File, c: Case, size: usize, result: bool) -> Case {
-    let at = put(out, c.at, 1 + c.seed % 5, size);
+// With a share of terms: one, and those that may be added.
+fn with_share(c: Case) -> Case {
     let mut r = c;
-    r.at = at;
-    r.root = at;
-    r.free = std::num::wrapping_add_u64(c.free, c.share);
+    r.free = count(std::num::wrapping_add_u64(c.free, c.share), true);
+    r
+}
+
+// The byte of an entry: a reduction, in a third with 128 added.
+fn random_reduction(seed: u64) -> u8 {
+    let reduction = (1 + seed % 5) as u8;
+    if seed / 8 % 3 == 0 {
+        return 128 + reduction;
+    }
+    reduction
+}
+
+// An entry more, with its share of terms: its byte, the condition's expression where it has one, then the value's.
+fn make_entry(out: &mut File, table: &File, c: Case) -> Case {
+    let tag = random_reduction(c.seed);
+    let mut r = begun(with_share(c), tag, put(out, c.at, wide8(tag), 1));
+    if has_condition(tag) {
+        r = make(out, table, r, false, c.depth);
+    }
+    make(out, table, r, false, c.depth)
+}
+
+// The expression whose values are asked for, with its share of terms.
+fn make_last(out: &mut File, table: &File, c: Case, result: bool) -> Case {
+    let mut r = with_share(c);
+    r.free = fewer(r.free, 1);
+    r.root = c.at;
     make(out, table, r, result, c.depth)
 }
 
@@ -507,10 +616,10 @@ fn make_file(out: &mut File, table: &File, c: Case) -> Case {
     r.at = put_head(out, c);
     let mut k: u64 = 0;
     while k < count {
-        r = make_next(out, table, r, 1, false);
+        r = make_entry(out, table, r);
         k += 1;
     }
-    make_next(out, table, r, 0, c.kind == 1)
+    make_last(out, table, r, c.kind == 1)
 }
 
 // ---- what is expected
@@ -598,39 +707,65 @@ fn leaf(q: &File, at: usize, rows: &Rows, vertex: usize, most: u16) -> Value {
 fn entry_of(q: &File, at: usize) -> usize {
     let a = plus(at, 1);
     match byte(q, at) {
-        0x20 => a,
+        0x20 | 0x23 => a,
         0x31 => behind(q, plus(slot(byte(q, 6)), 1), byte(q, a)),
         _ => 0,
     }
 }
 
+// How many conditions the entry has that a term is or names.
+fn conditions(q: &File, at: usize, entry: usize) -> u8 {
+    if byte(q, at) == 0x23 {
+        return 1;
+    }
+    byte(q, entry) / 128
+}
+
+// "A place counts where the condition is a number other than 0; an absent condition leaves the place out."
+fn counts(condition: Value) -> bool {
+    match condition {
+        Value::Number(x) => x != 0,
+        Value::Absent => false,
+    }
+}
+
 // The value of a term at a vertex of n, over walks of at most so many edges: "an operator joins the values of its two terms, at the same
-// place in a place term; a reduction goes over all n places". An entry of a plan is worked out where it is named.
+// place in a place term; a reduction goes over all n places", with a condition over those that count: the rows of the others stay
+// absent. An entry of a plan is worked out where it is named.
 fn worth(q: &File, at: usize, rows: &Rows, n: usize, vertex: usize, most: u16, left: u64) -> Value {
     if left == 0 {
         return Value::Absent;
     }
-    let a = plus(at, 2);
-    if arity(byte(q, at)) == 2 {
+    let entry = entry_of(q, at);
+    if entry == 0 {
+        if arity(byte(q, at)) == 0 {
+            return leaf(q, at, rows, vertex, most);
+        }
+        let a = plus(at, 2);
         let x = worth(q, a, rows, n, vertex, most, left - 1);
         let y = worth(q, behind(q, a, 1), rows, n, vertex, most, left - 1);
         return value::operate_on(byte(q, plus(at, 1)), x, y);
     }
-    let entry = entry_of(q, at);
-    if entry == 0 {
-        return leaf(q, at, rows, vertex, most);
-    }
+    let first = plus(entry, 1);
+    let last = behind(q, first, conditions(q, at, entry));
     let mut found = [Row {
         value: Value::Absent,
     }; 256];
     let count = lesser(n, 4);
     let mut v: usize = 0;
     while v < count {
-        let x = worth(q, plus(entry, 1), rows, n, v, most, left - 1);
-        found[v] = Row { value: x };
+        let condition = if first == last {
+            Value::Number(1)
+        } else {
+            worth(q, first, rows, n, v, most, left - 1)
+        };
+        if counts(condition) {
+            let x = worth(q, last, rows, n, v, most, left - 1);
+            found[v] = Row { value: x };
+        }
         v += 1;
     }
-    value::reduce_rows(byte(q, entry), found, count)
+    value::reduce_rows(byte(q, entry) % 128, found, count)
 }
 
 // "n rows for kind 0 or one row for kind 1"
@@ -864,11 +999,30 @@ fn scored(score: Score, c: Case, e: Expected, paths: u8, first: u8) -> Score {
     r
 }
 
+// What the last condition of a file, if it has one, is at vertex 0.
+fn with_condition(score: Score, c: Case, q: &File, rows: &Rows) -> Score {
+    if c.condition == 0 {
+        return score;
+    }
+    let mut r = score;
+    r.conditions = count(score.conditions, true);
+    match worth(q, c.condition, rows, c.n as usize, 0, c.most, 40) {
+        Value::Absent => {
+            r.absent = count(score.absent, true);
+        }
+        Value::Number(x) => {
+            r.zero = count(score.zero, x == 0);
+            r.above = count(score.above, 1 < x);
+        }
+    }
+    r
+}
+
 fn try_file(score: Score, c: Case, rows: &Rows, table: File, file: File, graph: File) -> Score {
     let e = expect(c, &graph, rows, &table);
     let whole = wanted(e.code, c, e.rounds, c.most, &file, rows);
     let stopped = wanted(e.code, c, e.stop, e.stop, &file, rows);
-    let r = scored(score, c, e, table[6], whole[10]);
+    let r = with_condition(scored(score, c, e, table[6], whole[10]), c, &file, rows);
     if c.query {
         return with_differences(r, fused_differ(e, file, table, graph, whole, stopped));
     }
@@ -927,6 +1081,10 @@ fn try_all(query: bool) -> Score {
         eight: 0,
         full: 0,
         deep: 0,
+        conditions: 0,
+        absent: 0,
+        zero: 0,
+        above: 0,
         differences: 0,
     };
     let mut i: u64 = 0;
@@ -960,6 +1118,10 @@ fn print(score: Score) {
     line(
         b"\na number in the first row, more rounds than places, more chain terms than chains, eight chains:",
         [score.numbers, score.long, score.shared, score.eight],
+    );
+    line(
+        b"\na condition, the last one absent at place 0, 0 there, above 1:",
+        [score.conditions, score.absent, score.zero, score.above],
     );
     line(
         b"\ntwo reductions or more, 64 terms, depth 16, calls that differ:",

@@ -16,8 +16,8 @@ put-head-requires c κs = search needs
 loop-holds : tie.Need-loop-holds Inv-loop μ-loop
 loop-holds c = search needs
 
-make-next-requires : tie.Need-make-next-requires Inv-loop μ-loop
-make-next-requires c κs = search needs
+make-entry-requires : tie.Need-make-entry-requires Inv-loop μ-loop
+make-entry-requires c κs = search needs
 
 add-k : tie.Need-add-k Inv-loop μ-loop
 add-k c = search needs
@@ -28,8 +28,8 @@ loop-less c = search needs
 loop-again : tie.Need-loop-again Inv-loop μ-loop
 loop-again c = search needs
 
-make-next-requires-2 : tie.Need-make-next-requires-2 Inv-loop μ-loop
-make-next-requires-2 c κs = search needs
+make-last-requires : tie.Need-make-last-requires Inv-loop μ-loop
+make-last-requires c κs = search needs
 
 returns : tie.Need-returns Inv-loop μ-loop
 returns c = search needs
@@ -42,9 +42,9 @@ make-file-spec =
     μ-loop
     put-head-requires
     loop-holds
-    make-next-requires
+    make-entry-requires
     add-k
     loop-less
     loop-again
-    make-next-requires-2
+    make-last-requires
     returns)

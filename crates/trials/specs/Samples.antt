@@ -123,7 +123,7 @@ pub record Reading : Type 0 where
   pub number : ℕ
 
 abbrev headed : ℕ → List ℕ → ℕ → Reading
-headed letter l number = record { bytes = 0x4c ∷ 0x50 ∷ letter ∷ 0x01 ∷ 0x00 ∷ l; number = number }
+headed letter l k = record { bytes = 0x4c ∷ 0x50 ∷ letter ∷ 0x01 ∷ 0x00 ∷ l; number = k }
 
 -- samples of questions
 abbrev pub queries : List Reading

@@ -110,7 +110,8 @@ module _ (n count : ℕ) (F : ℕ → List Row) (G : ℕ → List Value) (agrees
 
   -- at the vertices in order
   entry-rows-value : (r : ℕ) → r ≤ 5 → (o : Option (Term ℕ)) (t : Term ℕ) → Optional (Expression count) o → Expression count t
-      → (at : ℕ) (rest : List ℕ) → drop at s ≡ entry-text r o t ++ rest → values (entry-rows s at F n) ≡ tabulate n zero (λ v. worth-of (G v) o t)
+      → (at : ℕ) (rest : List ℕ) → drop at s ≡ entry-text r o t ++ rest
+      → values (entry-rows s at F n) ≡ tabulate n zero (λ v. worth-of (G v) o t)
   unfolding entry-rows
   entry-rows-value r small o t f g at rest e =
       row-values (λ v. entry-found s (F v) at .value) n zero

@@ -98,8 +98,8 @@ pub fn evaluate(s: &[u8], rows: [Row; 8], at: usize, left: usize) -> Found
     }
 }
 
-// The entry whose reduction byte stands at `at`, of the values of the path reductions at a vertex: with 128 added to that byte the condition precedes the value,
-// which is absent where the vertex does not count. Also where the entry ends.
+// The entry whose reduction byte stands at `at`, of the values of the path reductions at a vertex: with 128 added to that byte the condition precedes the
+// value, which is absent where the vertex does not count. Also where the entry ends.
 pub fn entry(s: &[u8], rows: [Row; 8], at: usize) -> Found
     ensures { λ r. ⌜ r ≡ entry-found (now (s .entry)) rows at ⌝ }
 {

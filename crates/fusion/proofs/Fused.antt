@@ -7,22 +7,8 @@ use native.Mathlib.Omega.{arith}
 use lib.Dec.{T}
 use Rattle.meaning.specs.Limits.{PathFits, TermFits}
 use Rattle.meaning.specs.Plan.{VertexReduction, among, entries, expression, final, position, same-path}
-use Rattle.meaning.specs.Query.{
-  Kind,
-  PathReduction,
-  QueryTerm,
-  ResultTerm,
-  VertexTerm,
-  number,
-  operator,
-  over,
-  over-where,
-  path,
-  paths,
-  reduction-count,
-  result,
-  vertex,
-}
+use Rattle.meaning.specs.Query.{Kind, PathReduction, QueryTerm, ResultTerm, VertexTerm, number, operator, over, over-where, path, paths, reduction-count}
+use Rattle.meaning.specs.Query.{result, vertex}
 use Rattle.meaning.proofs.Lists.{all-left, all-right}
 use Rattle.nodes.specs.declared.Node.{Node}
 use Rattle.nodes.specs.declared.Term.the-variants.{Apply, Entry, EntryIndex, PathIndex, Reduce, ReduceWhere, ResultApply}
@@ -121,7 +107,8 @@ module _ (cs : List PathReduction) (legal : All (PathFits 256) cs) (rest : List 
   Known = All (λ c. T (among c cs))
 
   -- A VERTEX TERM IN AN ENTRY: each path reduction by its position
-  pub vertex-entry : (k : ℕ) (t : VertexTerm) → TermFits 256 t → Known (paths t) → selected 0 table k (query-nodes vertex t) ≡ entry-nodes (expression cs t)
+  pub vertex-entry : (k : ℕ) (t : VertexTerm) → TermFits 256 t → Known (paths t) → selected 0 table k (query-nodes vertex t) ≡ entry-nodes
+      (expression cs t)
   unfolding selected fused-term entry-term size apply-node literal-node literal-tag
   vertex-entry k (path c) f h = ap (λ (i : ℕ). node (PathIndex i) ∷ []) (index-position c f cs legal rest (h .0))
   vertex-entry k (number x) f h = refl

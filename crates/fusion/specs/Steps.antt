@@ -23,7 +23,8 @@ index-of w [] = 0
 index-of w (x ∷ l) = cond (eqb x w) 0 (suc (index-of w l))
 
 -- what a node of a query is in the entries of its plan: "0x30 and a chain's index for a chain", "a reduction byte and an expression", with 128
--- added where there is a condition (o is one of the five: the remainder keeps the byte below 256); "operators and literals keep their bytes"; a literal or operator of a result term is in none
+-- added where there is a condition (o is one of the five: the remainder keeps the byte below 256); "operators and literals keep their bytes"; a literal or
+-- operator of a result term is in none
 unfoldable pub entry-term : List ℕ → Term → Term
 entry-term table Empty = Empty
 entry-term table (Path w) = PathIndex (index-of w table)

@@ -13,7 +13,8 @@ use Rattle.value.specs.Value.{chosen, operate, reduce}
 use Rattle.walks.specs.Lists.{All}
 use Rattle.meaning.specs.Meaning.{AtVertices, Means, Rows}
 use Rattle.meaning.specs.Plan.{among, entries, expression, final, fuse}
-use Rattle.meaning.specs.Query.{At, Kind, PathReduction, Query, QueryTerm, ResultTerm, VertexTerm, each, number, operator, over, over-where, path, paths, result, single, vertex, reduction-count, written-paths}
+use Rattle.meaning.specs.Query.{At, Kind, PathReduction, Query, QueryTerm, ResultTerm, VertexTerm, each, number, operator, over, over-where, path}
+use Rattle.meaning.specs.Query.{paths, result, single, vertex, reduction-count, written-paths}
 use Rattle.meaning.specs.Run.{body-rows, evaluate, reduced, tabulate}
 use Rattle.meaning.proofs.Limits.{entries-length}
 use Rattle.meaning.proofs.Lists.{all-left, all-right, map-append, tabulate-at, tabulate-length, tabulate-same}
@@ -81,10 +82,12 @@ module _ (F : PathReduction → ℕ → Value) (n : ℕ) (cs : List PathReductio
   -- the value at an index behind those of ys
   there : (xs ys zs : List Value) (k : ℕ) (y : Value) → length ys ≡ k → xs ≡ ys ++ (y ∷ zs) → getD xs k Absent ≡ y
   there xs ys zs k y l e =
-      ap₂ (λ (r : List Value) (i : ℕ). getD r i Absent) e (let p : k ≡ length ys + zero = omega (arith, l) in p) ∙ getD-append-add ys (y ∷ zs) zero Absent
+      ap₂ (λ (r : List Value) (i : ℕ). getD r i Absent) e (let p : k ≡ length ys + zero = omega (arith, l) in p) ∙ getD-append-add ys
+      (y ∷ zs) zero Absent
 
   -- where the results of its entries stand from k on, the final expression has the value of the result term
-  final-value : (t : ResultTerm) → Has (paths t) → (xs ys zs : List Value) (k : ℕ) → length ys ≡ k → xs ≡ ys ++ (made t ++ zs) → evaluate xs (final k t) ≡ value F n t tt
+  final-value : (t : ResultTerm) → Has (paths t) → (xs ys zs : List Value) (k : ℕ) → length ys ≡ k → xs ≡ ys ++ (made t ++ zs) → evaluate xs
+      (final k t) ≡ value F n t tt
   final-value (over o t) h xs ys zs k l e = there xs ys zs k _ l e ∙ ap (reduce o) (tabulate-same n zero _ _ (expression-value t h))
   final-value (over-where o c t) h xs ys zs k l e =
       there xs ys zs k _ l e
@@ -93,18 +96,21 @@ module _ (F : PathReduction → ℕ → Value) (n : ℕ) (cs : List PathReductio
   final-value (number x) h xs ys zs k l e = refl
   final-value (operator o s t) h xs ys zs k l e =
       ap₂ (operate o) (final-value s (all-left _ (paths s) (paths t) h) xs ys (made t ++ zs) k l first)
-      (final-value t (all-right _ (paths s) (paths t) h) xs (ys ++ made s) zs (k + reduction-count s) (length-append ys (made s) ∙ ap₂ _+_ l (made-length s)) (first ∙ sym (append-assoc ys (made s) (made t ++ zs))))
+      (final-value t (all-right _ (paths s) (paths t) h) xs (ys ++ made s) zs (k + reduction-count s)
+      (length-append ys (made s) ∙ ap₂ _+_ l (made-length s)) (first ∙ sym (append-assoc ys (made s) (made t ++ zs))))
     where
       first : xs ≡ ys ++ (made s ++ (made t ++ zs))
       first =
           e
-          ∙ ap (λ (r : List Value). ys ++ r) (ap (λ (r : List Value). r ++ zs) (map-append (reduced at n) (entries cs s) (entries cs t)) ∙ append-assoc (made s) (made t) zs)
+          ∙ ap (λ (r : List Value). ys ++ r)
+          (ap (λ (r : List Value). r ++ zs) (map-append (reduced at n) (entries cs s) (entries cs t)) ∙ append-assoc (made s) (made t) zs)
 
 -- THE FUSED ROWS MEAN THE QUERY
 module _ (L : PathReduction → ℕ → Value → Type 0) (F : PathReduction → ℕ → Value) (n : ℕ) where
   pub fuse-means : (q : Query) → All (Right L F n) (written-paths q) → Rows L n q (body-rows (fuse q .body) (at F n (fuse q .paths)) n)
   fuse-means (each t) right =
-      subst (AtVertices n (Means L n t)) (sym (tabulate-same n zero _ _ (expression-value F n (fuse (each t) .paths) t (put-all-has [] (paths t))))) (table-means L F n t (value-means L F n t right))
+      subst (AtVertices n (Means L n t)) (sym (tabulate-same n zero _ _ (expression-value F n (fuse (each t) .paths) t (put-all-has [] (paths t)))))
+      (table-means L F n t (value-means L F n t right))
   fuse-means (single t) right =
       let cs = fuse (single t) .paths in (
         value F n t tt,

@@ -6,9 +6,11 @@ use native.Mathlib.Omega.{arith}
 use lib.Dec.{T}
 use lib.ListN.{length, length-append}
 use Rattle.walks.specs.Lists.{All}
-use Rattle.meaning.specs.Limits.{BodyLegal, EntryLegal, Every, Expression, PathFits, PlanLegal, QueryLegal, TermFits, TermsFit, depth, depth-of, entry-terms, plan-terms, query-terms, size-of, terms, unit}
+use Rattle.meaning.specs.Limits.{BodyLegal, EntryLegal, Every, Expression, PathFits, PlanLegal, QueryLegal, TermFits, TermsFit, depth, depth-of}
+use Rattle.meaning.specs.Limits.{entry-terms, plan-terms, query-terms, size-of, terms, unit}
 use Rattle.meaning.specs.Plan.{VertexReduction, among, entries, expression, final, fuse}
-use Rattle.meaning.specs.Query.{Kind, PathReduction, Query, QueryTerm, ResultTerm, VertexTerm, each, number, operator, over, over-where, path, paths, single, vertex, reduction-count, written-paths}
+use Rattle.meaning.specs.Query.{Kind, PathReduction, Query, QueryTerm, ResultTerm, VertexTerm, each, number, operator, over, over-where, path, paths}
+use Rattle.meaning.specs.Query.{single, vertex, reduction-count, written-paths}
 use Rattle.meaning.proofs.Lists.{all-append, all-left, all-right}
 use Rattle.meaning.proofs.Paths.{position-below, put-all-has, put-all-holds}
 
@@ -86,7 +88,8 @@ module _ (cs : List PathReduction) where
     )
     entries-legal (number x) p h d = tt
     entries-legal (operator o s t) p h d =
-        all-append _ (entries cs s) (entries cs t) (entries-legal s (p .2) (all-left _ (paths s) (paths t) h) (omega arith)) (entries-legal t (p .3) (all-right _ (paths s) (paths t) h) (omega arith))
+        all-append _ (entries cs s) (entries cs t) (entries-legal s (p .2) (all-left _ (paths s) (paths t) h) (omega arith))
+        (entries-legal t (p .3) (all-right _ (paths s) (paths t) h) (omega arith))
 
 -- the final expression: its indices are below the count, and it is no deeper
 module _ (n : ℕ) where

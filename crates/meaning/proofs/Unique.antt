@@ -15,15 +15,18 @@ use Rattle.meaning.specs.Meaning.{AtVertices, Means, PathOver, Rows, Unf
 use Rattle.meaning.specs.Query.{At, Kind, PathReduction, Query, QueryTerm, each, network-of, number, operator, over, over-where, path, single}
 
 -- a path reduction has one value at a vertex
-pub path-unique : (g : Graph) (W : Network → ℕ → WalkSet) (c : PathReduction) (v : ℕ) (x y : Value) → PathOver g W c v x → PathOver g W c v y → x ≡ y
+pub path-unique : (g : Graph) (W : Network → ℕ → WalkSet) (c : PathReduction) (v : ℕ) (x y : Value) → PathOver g W c v x → PathOver g W c v y
+    → x ≡ y
 path-unique g W c v x y p q =
     let N = network-of g c in
     p .2 ∙ ap value (figures-unique N (c .keys) (W N v) (p .0) (q .0) (p .1) (q .1)) ∙ sym (q .2)
 
 module _ (L : PathReduction → ℕ → Value → Type 0) (u : (c : PathReduction) (v : ℕ) (x y : Value) → L c v x → L c v y → x ≡ y) (n : ℕ) where
-  vertices-unique : (M : ℕ → Value → Type 0) → ((v : ℕ) (x y : Value) → M v x → M v y → x ≡ y) → (xs ys : List Value) → AtVertices n M xs → AtVertices n M ys → xs ≡ ys
+  vertices-unique : (M : ℕ → Value → Type 0) → ((v : ℕ) (x y : Value) → M v x → M v y → x ≡ y) → (xs ys : List Value)
+      → AtVertices n M xs → AtVertices n M ys → xs ≡ ys
   vertices-unique M m xs ys p q =
-      ext-getD Absent xs ys (p .0 ∙ sym (q .0)) (λ i h. m i (getD xs i Absent) (getD ys i Absent) (p .1 i (omega (arith, p .0))) (q .1 i (omega (arith, p .0))))
+      ext-getD Absent xs ys (p .0 ∙ sym (q .0))
+      (λ i h. m i (getD xs i Absent) (getD ys i Absent) (p .1 i (omega (arith, p .0))) (q .1 i (omega (arith, p .0))))
 
   -- a term has one value
   pub means-unique : {κ : Kind} (t : QueryTerm κ) (v : At κ) (x y : Value) → Means L n t v x → Means L n t v y → x ≡ y

@@ -10,22 +10,8 @@ use Rattle.walks.specs.Keys.{legal-keys}
 use Rattle.walks.specs.Lists.{All}
 use Rattle.walks.specs.Walks.{Graph, edge-at}
 use Rattle.meaning.specs.Plan.{Body, Plan, Term, VertexReduction, apply, each-vertex, leaf, literal, one-result, put-all}
-use Rattle.meaning.specs.Query.{
-  Kind,
-  PathReduction,
-  Query,
-  QueryTerm,
-  anywhere,
-  each,
-  number,
-  operator,
-  over,
-  over-where,
-  path,
-  reduction-count,
-  single,
-  written-paths,
-}
+use Rattle.meaning.specs.Query.{Kind, PathReduction, Query, QueryTerm, anywhere, each, number, operator, over, over-where, path, reduction-count}
+use Rattle.meaning.specs.Query.{single, written-paths}
 
 -- the edges are between vertices, and there is a vertex
 pub record GraphFits (g : Graph) : Type 0 where

@@ -10,22 +10,8 @@ use Rattle.value.specs.Value.{chosen, operate, reduce}
 use Rattle.walks.specs.Lists.{All}
 use Rattle.walks.specs.Meaning.{Figures, value}
 use Rattle.walks.specs.Walks.{AllTo, Graph, Network, WalkSet, Within}
-use Rattle.meaning.specs.Query.{
-  At,
-  Kind,
-  PathReduction,
-  Query,
-  QueryTerm,
-  each,
-  network-of,
-  number,
-  operator,
-  over,
-  over-where,
-  path,
-  single,
-  written-paths,
-}
+use Rattle.meaning.specs.Query.{At, Kind, PathReduction, Query, QueryTerm, each, network-of, number, operator, over, over-where, path, single}
+use Rattle.meaning.specs.Query.{written-paths}
 
 -- "each chain where it is written, over all walks": W gives the set of walks to a vertex, on a network
 abbrev pub PathOver : Graph → (Network → ℕ → WalkSet) → PathReduction → ℕ → Value → Type 0
@@ -48,7 +34,8 @@ module _ (L : PathReduction → ℕ → Value → Type 0) (n : ℕ) where
   abbrev pub Means : {κ : Kind} → QueryTerm κ → At κ → Value → Type 0
   Means (path c) v x = L c v x
   Means (over o t) v x = (xs : List Value) × AtVertices n (Means t) xs × (x ≡ reduce o xs)
-  Means (over-where o c t) v x = (cs : List Value) × (xs : List Value) × AtVertices n (Means c) cs × AtVertices n (Means t) xs × (x ≡ reduce o (chosen cs xs))
+  Means (over-where o c t) v x = (cs : List Value) × (xs : List Value) × AtVertices n (Means c) cs × AtVertices n (Means t) xs ×
+      (x ≡ reduce o (chosen cs xs))
   Means (number y) v x = x ≡ Number y
   Means (operator o s t) v x = (a : Value) × (b : Value) × Means s v a × Means t v b × (x ≡ operate o a b)
 

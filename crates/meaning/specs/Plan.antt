@@ -5,21 +5,8 @@ use mathlib.Core.List.{List, [], _∷_, _++_}
 use mathlib.Core.Option.{Option, none, some}
 use lib.Dec.{eqb}
 use Rattle.walks.specs.Rounds.{same-list}
-use Rattle.meaning.specs.Query.{
-  PathReduction,
-  Query,
-  ResultTerm,
-  VertexTerm,
-  each,
-  number,
-  operator,
-  over,
-  over-where,
-  path,
-  reduction-count,
-  single,
-  written-paths,
-}
+use Rattle.meaning.specs.Query.{PathReduction, Query, ResultTerm, VertexTerm, each, number, operator, over, over-where, path, reduction-count, single}
+use Rattle.meaning.specs.Query.{written-paths}
 
 -- expressions over leaves of some kind: a leaf, a literal, or an operator
 pub data Term (A : Type 0) : Type 0 where

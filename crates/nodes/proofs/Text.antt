@@ -9,19 +9,8 @@ use lib.ListN.{length, take, length-append, length-take}
 use Rattle.draft.proofs.Texts.{texts-short}
 use Rattle.nodes.specs.declared.Node.{Node}
 use Rattle.nodes.specs.declared.Term.{Term}
-use Rattle.nodes.specs.declared.Term.the-variants.{
-  Apply,
-  Empty,
-  Entry,
-  EntryIndex,
-  Literal,
-  Path,
-  PathIndex,
-  Reduce,
-  ReduceWhere,
-  ResultApply,
-  ResultLiteral,
-}
+use Rattle.nodes.specs.declared.Term.the-variants.{Apply, Empty, Entry, EntryIndex, Literal, Path, PathIndex, Reduce, ReduceWhere, ResultApply}
+use Rattle.nodes.specs.declared.Term.the-variants.{ResultLiteral}
 use Rattle.nodes.specs.Text.{key-text, node-text, nodes-text, path-text, term-text}
 
 -- a key takes at most one byte, a path reduction six, a term seven

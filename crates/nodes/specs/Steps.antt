@@ -9,19 +9,8 @@ use Rattle.path_fields.specs.Paths.{path-word}
 use Rattle.wire.specs.Wire.{at32}
 use Rattle.nodes.specs.declared.Node.{Node}
 use Rattle.nodes.specs.declared.Term.{Term}
-use Rattle.nodes.specs.declared.Term.the-variants.{
-  Empty,
-  Path,
-  Literal,
-  Apply,
-  Reduce,
-  ReduceWhere,
-  ResultLiteral,
-  ResultApply,
-  PathIndex,
-  EntryIndex,
-  Entry,
-}
+use Rattle.nodes.specs.declared.Term.the-variants.{Empty, Path, Literal, Apply, Reduce, ReduceWhere, ResultLiteral, ResultApply, PathIndex}
+use Rattle.nodes.specs.declared.Term.the-variants.{EntryIndex, Entry}
 use Rattle.nodes.specs.Nodes.{node, padded}
 
 -- the reduction byte of an entry, "1 to 5" or 128 more: no term starts with a byte below 0x10 or from 128 on

@@ -7,19 +7,8 @@ use Rattle.draft.specs.Texts.{texts}
 use Rattle.wire.specs.Wire.{le16, le32}
 use Rattle.nodes.specs.declared.Node.{Node}
 use Rattle.nodes.specs.declared.Term.{Term}
-use Rattle.nodes.specs.declared.Term.the-variants.{
-  Empty,
-  Path,
-  Literal,
-  Apply,
-  Reduce,
-  ReduceWhere,
-  ResultLiteral,
-  ResultApply,
-  PathIndex,
-  EntryIndex,
-  Entry,
-}
+use Rattle.nodes.specs.declared.Term.the-variants.{Empty, Path, Literal, Apply, Reduce, ReduceWhere, ResultLiteral, ResultApply, PathIndex}
+use Rattle.nodes.specs.declared.Term.the-variants.{EntryIndex, Entry}
 
 -- key byte j of a path reduction of n keys
 abbrev pub key-text : ℕ → ℕ → ℕ → List ℕ

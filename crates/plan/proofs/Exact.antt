@@ -27,18 +27,8 @@ use Rattle.wire.specs.Wire.{Bytes}
 use Rattle.wire.proofs.Header.{header-accepted, header-found}
 use Rattle.plan.specs.Plan.{body-scan, count-code, entries-scan, entry-scan, final-scan, moved, plan-code, plan-scan, listed-scan}
 use Rattle.plan.specs.Text.{all-listed-bytes, body-bytes, encode, entries-bytes, entry-count, kind-of, reduction-byte}
-use Rattle.plan.proofs.ListedEntries.{
-  Passed,
-  entries-complete,
-  entries-sound,
-  entry-complete,
-  entry-sound,
-  expr-complete,
-  expr-sound,
-  moved-table,
-  plain-bytes,
-  plain-entry,
-}
+use Rattle.plan.proofs.ListedEntries.{Passed, entries-complete, entries-sound, entry-complete, entry-sound, expr-complete, expr-sound, moved-table}
+use Rattle.plan.proofs.ListedEntries.{plain-bytes, plain-entry}
 use Rattle.plan.proofs.ListedPaths.{ListedHeld, filler-zero, listed-complete, listed-sound}
 
 -- what the reader knows of an accepted plan: its path reductions in the table, its terms and its entries

@@ -2,5 +2,4 @@ pub mod Laws
 pub mod ListedPaths
 pub mod ListedEntries
 pub mod Exact
-pub mod Unique
 pub mod Tree

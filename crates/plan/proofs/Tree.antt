@@ -123,6 +123,10 @@ plan-back p l =
     let d = drop-on s 7 n (all-listed-bytes (p .paths)) (body-bytes (p .body)) refl refl in
     rw (a, body-back (length (p .paths)) s (p .body) (l .body-legal) (7 + n) d) refl
 
+-- so a plan is seen from its bytes: accepted bytes are read as one plan
+pub encode-unique : (p q : Plan) → PlanLegal 256 p → PlanLegal 256 q → encode p ≡ encode q → p ≡ q
+encode-unique p q l m e = sym (plan-back p l) ∙ ap plan-of e ∙ plan-back q m
+
 -- THE READER ACCEPTS EVERY LEGAL PLAN'S BYTES
 pub plan-accepted : (p : Plan) → PlanLegal 256 p → plan-code (encode p) ≡ 0
 plan-accepted p l = read-complete p l .accepted

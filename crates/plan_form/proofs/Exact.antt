@@ -9,19 +9,7 @@ use borrow.Author.Tests.{le-leb, le-ltb, lt-ltb, eq-eqb, eqb-true}
 use lib.Dec.{eqb}
 use lib.ListN.{length, drop, take, length-append, length-map}
 use lib.Seq.{drop-at, take-at}
-use Rattle.meaning.specs.Limits.{
-  BodyLegal,
-  EntryLegal,
-  Expression,
-  Optional,
-  PathFits,
-  PlanLegal,
-  condition-terms,
-  entry-terms,
-  plan-terms,
-  terms,
-  unit,
-}
+use Rattle.meaning.specs.Limits.{BodyLegal, EntryLegal, Expression, Optional, PathFits, PlanLegal, condition-terms, entry-terms, plan-terms, terms, unit}
 use Rattle.meaning.specs.Plan.{Body, Plan, Term, VertexReduction, each-vertex, one-result}
 use Rattle.meaning.specs.Query.{PathReduction}
 use Rattle.nodes.specs.declared.Node.{Node}
@@ -47,17 +35,8 @@ use Rattle.term_text.proofs.Steps.{drop-on}
 use Rattle.term_text.proofs.Table.{Table}
 use Rattle.walks.specs.Lists.{All}
 use Rattle.wire.specs.Wire.{Bytes, done}
-use Rattle.plan_form.specs.Form.{
-  all-listed-text,
-  body-nodes,
-  condition-nodes,
-  entries-nodes,
-  form-bytes,
-  form-of,
-  listed-text,
-  plan-reading,
-  write-reply,
-}
+use Rattle.plan_form.specs.Form.{all-listed-text, body-nodes, condition-nodes, entries-nodes, form-bytes, form-of, listed-text, plan-reading}
+use Rattle.plan_form.specs.Form.{write-reply}
 use Rattle.plan_form.specs.Steps.{form-after, read-after}
 
 -- the bytes behind the entry count

@@ -79,7 +79,8 @@ module _ (κ : Kind) (m : ℕ) (low : m ≤ 1) (kind : term-kind m ≡ of-kind �
         table = subst (Table (read (of-kind κ) 16 s (started 6))) (sym put) (a .table);
       })
 
-  term-found : (s : List ℕ) → Bytes s → ((t : QueryTerm κ) → TermFits 256 t → TermsFit 256 (of t)) → header-code 0x51 5 s ≡ 0 → getD s 5 256 ≡ m
+  term-found : (s : List ℕ) → Bytes s → ((t : QueryTerm κ) → TermFits 256 t → TermsFit 256 (of t)) → header-code 0x51 5 s ≡ 0
+      → getD s 5 256 ≡ m
       → ended s (read (term-kind m) 16 s (started 6)) .code ≡ 0 → (q : Query) × QueryLegal 256 q × (encode q ≡ s)
   unfolding started
   term-found s bytes legal h k e =
@@ -127,7 +128,9 @@ read-sound s bytes e = by-kind (getD s 5 256) refl (accepted-parts s e)
         → (header-code 0x51 5 s ≡ 0) × (getD s 5 256 ≤ 1) × (ended s (read (term-kind (getD s 5 256)) 16 s (started 6)) .code ≡ 0)
         → (q : Query) × QueryLegal 256 q × (encode q ≡ s)
     by-kind zero k p =
-        term-found vertex 0 (omega arith) refl each (λ t. refl) (λ t. refl) (λ t. refl) (λ t. refl) (λ t. refl) s bytes (λ t f. f) (p .0) k (rw k at (p .2))
+        term-found vertex 0 (omega arith) refl each (λ t. refl) (λ t. refl) (λ t. refl) (λ t. refl) (λ t. refl) s bytes (λ t f. f) (p .0) k
+        (rw k at (p .2))
     by-kind (suc zero) k p =
-        term-found result 1 (omega arith) refl single (λ t. refl) (λ t. refl) (λ t. refl) (λ t. refl) (λ t. refl) s bytes (λ t f. f) (p .0) k (rw k at (p .2))
+        term-found result 1 (omega arith) refl single (λ t. refl) (λ t. refl) (λ t. refl) (λ t. refl) (λ t. refl) s bytes (λ t f. f) (p .0) k
+        (rw k at (p .2))
     by-kind (suc (suc n)) k p = absurd (omega (arith, p .1))

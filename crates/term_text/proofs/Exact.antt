@@ -23,26 +23,8 @@ use Rattle.terms.proofs.Laws.{accepted-as}
 use Rattle.term_text.specs.Text.{expression-bytes, index-tag, of-kind, path-bytes, path-number, query-bytes}
 use Rattle.wire.proofs.Past.{getD-any}
 use Rattle.term_text.proofs.Paths.{code-range, code-zero, drop-at, nth, path-accepted, path-count, path-found, path-numbered, present}
-use Rattle.term_text.proofs.Shape.{
-  After,
-  Behind,
-  Complete,
-  Found,
-  FoundTwo,
-  Piece,
-  Room,
-  Sound,
-  apply-complete,
-  literal-complete,
-  none-found,
-  one-complete,
-  one-found,
-  one-piece,
-  term-found,
-  two-complete,
-  two-found,
-  two-piece,
-}
+use Rattle.term_text.proofs.Shape.{After, Behind, Complete, Found, FoundTwo, Piece, Room, Sound, apply-complete, literal-complete, none-found}
+use Rattle.term_text.proofs.Shape.{one-complete, one-found, one-piece, term-found, two-complete, two-found, two-piece}
 use Rattle.term_text.proofs.Steps.{drop-on, read-by, step-is, stops, table-advanced, tag-there, there}
 use Rattle.term_text.proofs.Table.{Table, kept-few, kept-room}
 
@@ -156,7 +138,8 @@ module _ (s : List ℕ) where
         go : (x y : Bool) → eqb (code-of (getD s (w .at + 1) 256) 5) 0 ≡ x → leb 8 (w .reductions) ≡ y
             → (code-of (getD s (w .at + 1) 256) 5 ≡ 0) × (w .reductions < 8)
         go false y p q =
-            absurd (stops s OfResult d w z (code-of (getD s (w .at + 1) 256) 5) (eqb-false (code-of (getD s (w .at + 1) 256) 5) 0 p) (reduce-is ∙ rw p refl) e)
+            absurd
+            (stops s OfResult d w z (code-of (getD s (w .at + 1) 256) 5) (eqb-false (code-of (getD s (w .at + 1) 256) 5) 0 p) (reduce-is ∙ rw p refl) e)
         go true true p q = absurd (stops s OfResult d w z 14 (λ n. omega arith) (reduce-is ∙ rw (p, q) refl) e)
         go true false p q = (eqb-true (code-of (getD s (w .at + 1) 256) 5) 0 p, leb-false 8 (w .reductions) q)
 
@@ -209,7 +192,8 @@ module _ (s : List ℕ) where
   query-complete κ (over-where o c t) = where-complete o c t (query-complete vertex c) (query-complete vertex t)
   query-complete κ (number x) = literal-complete s (of-kind κ) Always (λ w n r. tt) x
   query-complete κ (operator o t u) =
-      apply-complete s (of-kind κ) Always (λ w n r. tt) o (query-piece κ t) (query-piece κ u) (query-complete κ t) (query-complete κ u) (λ w w′ cs r b a. tt)
+      apply-complete s (of-kind κ) Always (λ w n r. tt) o (query-piece κ t) (query-piece κ u) (query-complete κ t) (query-complete κ u)
+      (λ w w′ cs r b a. tt)
 
   -- what stands behind any other byte: a path reduction; a reduction without or with a condition
   vertex-leaf : Bytes s → (d : ℕ) (w : Progress) (cs : List PathReduction) → w .code ≡ 0 → Table w cs → w .at < length s → w .terms < 64
@@ -222,7 +206,8 @@ module _ (s : List ℕ) where
       go true x = path-sound bytes d w cs z t h k (eqb-true (getD s (w .at) 0) 0x10 x) e
       go false x = absurd (stops s OfVertex d w z 9 (λ n. omega arith) (step-is s OfVertex d w h k ∙ rw (p, q, x) refl) e)
 
-  result-leaf : Bytes s → (d : ℕ) → Sound s Always OfVertex VertexTerm (query-piece vertex) d → (w : Progress) (cs : List PathReduction) → w .code ≡ 0
+  result-leaf : Bytes s → (d : ℕ) → Sound s Always OfVertex VertexTerm (query-piece vertex) d → (w : Progress) (cs : List PathReduction) → w .code
+      ≡ 0
       → Table w cs → w .at < length s → w .terms < 64 → eqb (getD s (w .at) 0) 0x21 ≡ false → eqb (getD s (w .at) 0) 0x22 ≡ false
       → read OfResult (suc d) s w .code ≡ 0 → Found s Always (QueryTerm result) (query-piece result) (suc d) w cs
   unfolding leaf-step literal-tag
@@ -252,7 +237,8 @@ module _ (s : List ℕ) where
   unfolding literal-tag
   query-sound bytes zero κ = none-found s (of-kind κ) Always (λ w n r. tt) (QueryTerm κ) (query-piece κ) (query-complete κ) (λ t w w′ cs r b a. tt)
       (λ d w cs f. (number (f .0), f .1, f .2, f .3)) (λ o d w cs f. (operator o (f .0) (f .1), f .2, f .3, f .4)) bytes
-  query-sound bytes (suc d) vertex = term-found s OfVertex Always (λ w n r. tt) VertexTerm (query-piece vertex) (query-complete vertex) (λ t w w′ cs r b a. tt)
+  query-sound bytes (suc d) vertex = term-found s OfVertex Always (λ w n r. tt) VertexTerm (query-piece vertex) (query-complete vertex)
+      (λ t w w′ cs r b a. tt)
       (λ d w cs f. (number (f .0), f .1, f .2, f .3)) (λ o d w cs f. (operator o (f .0) (f .1), f .2, f .3, f .4)) bytes d
       (λ w cs z t r. vertex-leaf bytes d w cs z t) (query-sound bytes d vertex)
   query-sound bytes (suc d) result = term-found s OfResult Always (λ w n r. tt) (QueryTerm result) (query-piece result) (query-complete result)
@@ -277,7 +263,8 @@ module _ (s : List ℕ) (m : TermKind) (count : ℕ) (few : count ≤ 256) (held
   unfolding advanced
   counts-on w n r = kept w (advanced w n) refl refl ∙ r
 
-  counts-past : (t : Term ℕ) (w w′ : Progress) (cs : List PathReduction) → Counts w → Table w cs → After w w′ cs (expression-piece m count t) → Counts w′
+  counts-past : (t : Term ℕ) (w w′ : Progress) (cs : List PathReduction) → Counts w → Table w cs → After w w′ cs (expression-piece m count t)
+      → Counts w′
   counts-past t w w′ cs r b a = kept w w′ (omega (arith, a .table .count, b .count)) (omega (arith, a .reductions)) ∙ r
 
   -- an index is read by its step

@@ -125,7 +125,8 @@ module _ (s : List ℕ) (Ready : Progress → Type 0) where
       (ap (λ (i : ℕ). drop i s) (let p : w .at + 1 + 1 ≡ w1 .at = omega (arith, b .at) in p) ∙ e))
 
   -- TWO BYTES AND ONE TERM
-  module _ (m inner : TermKind) (tag most r : ℕ) (count : ℕ → ℕ) (adds : (x : ℕ) → count x ≡ r + x) (d : ℕ) (w w1 : Progress) (cs : List PathReduction)
+  module _ (m inner : TermKind) (tag most r : ℕ) (count : ℕ → ℕ) (adds : (x : ℕ) → count x ≡ r + x) (d : ℕ) (w w1 : Progress)
+      (cs : List PathReduction)
       (b : Behind w w1 cs r) (reads : read m (suc d) s w ≡ read inner d s w1) where
     pub one-complete : (o : ℕ) (P : Piece) → Complete inner P → (rest : List ℕ) → drop (w .at) s ≡ one-piece tag o most count P .bytes ++ rest
         → Room (suc d) w cs (one-piece tag o most count P) → After w (read m (suc d) s w) cs (one-piece tag o most count P)

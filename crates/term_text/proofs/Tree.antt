@@ -16,20 +16,8 @@ use Rattle.terms.specs.Terms.{literal-tag}
 use Rattle.walks.specs.Lists.{All}
 use Rattle.wire.specs.Wire.{at16, at32, le16, le32}
 use Rattle.term_text.specs.Text.{expression-bytes, index-tag, of-kind, path-bytes, query-bytes}
-use Rattle.term_text.specs.Tree.{
-  Read,
-  Reader,
-  by-tag,
-  expression-of,
-  expression-to,
-  one-of,
-  query-term-of,
-  several-of,
-  two-of,
-  written-index,
-  written-path,
-  written-reduction,
-}
+use Rattle.term_text.specs.Tree.{Read, Reader, by-tag, expression-of, expression-to, one-of, query-term-of, several-of, two-of, written-index}
+use Rattle.term_text.specs.Tree.{written-path, written-reduction}
 use Rattle.term_text.proofs.Paths.{nth, source-small}
 use Rattle.term_text.proofs.Steps.{drop-on, tag-there}
 
@@ -149,7 +137,8 @@ no-depth (number x) h = omega arith
 no-depth (operator o t u) h = omega arith
 
 -- A TERM OF A QUERY
-pub term-back : (s : List ℕ) (κ : Kind) (t : QueryTerm κ) → TermFits 256 t → (d : ℕ) → depth-of t ≤ d → Back (query-term-of d κ) (query-bytes κ) s t
+pub term-back : (s : List ℕ) (κ : Kind) (t : QueryTerm κ) → TermFits 256 t → (d : ℕ) → depth-of t ≤ d → Back (query-term-of d κ)
+    (query-bytes κ) s t
 unfolding literal-tag
 term-back s κ t f zero h at rest e = absurd (no-depth t h)
 term-back s κ (path c) f (suc d) h at rest e =

@@ -4,23 +4,12 @@ use mathlib.Core.List.{map}
 use Rattle.meaning.specs.Run.{pull, push, run, stopped}
 use Rattle.query.specs.Query.{query-code, query-scan}
 use Rattle.query.specs.Tree.{query-of}
-use Rattle.plan.specs.Plan.{body-scan, plan-code, entries-scan, entry-scan, expressions-scan, final-scan, moved, plan-scan, listed-code, listed-scan, listed-step, listed-word}
+use Rattle.plan.specs.Plan.{body-scan, plan-code, entries-scan, entry-scan, expressions-scan, final-scan, moved, plan-scan, listed-code, listed-scan}
+use Rattle.plan.specs.Plan.{listed-step, listed-word}
 use Rattle.fusion.specs.Fusion.{fuse-reply}
 use Rattle.term_text.specs.Tree.{query-term-of, written-path, written-reduction}
 use Rattle.path_fields.specs.Paths.{keys-code, path-code, path-word}
-use Rattle.terms.specs.Terms.{
-  advanced,
-  kept-path,
-  leaf-step,
-  literal-tag,
-  path-step,
-  read,
-  reduce-step,
-  index-step,
-  literal-step,
-  slot-of,
-  term-step,
-}
+use Rattle.terms.specs.Terms.{advanced, kept-path, leaf-step, literal-tag, path-step, read, reduce-step, index-step, literal-step, slot-of, term-step}
 use Rattle.progress.specs.Progress.{blank, ended, started}
 use Rattle.value.specs.declared.Value.{Value}
 use Rattle.value.specs.Value.{combine, compute}
@@ -33,7 +22,8 @@ use Rattle.trials.specs.Trials.{finding, stated, trials}
 -- THE MARKED TRIALS HOLD: by pull and by push, what readers say, what fusing gives
 pub marked-trials : map finding trials ≡ map stated trials
 unfolding run stopped rounds first state marked gather best key-row query-scan header-code ended started blank read term-step leaf-step literal-tag
-    path-step path-code keys-code kept-path slot-of advanced path-word reduce-step fuse-reply query-of query-term-of written-path written-reduction compute combine
+    path-step path-code keys-code kept-path slot-of advanced path-word reduce-step fuse-reply query-of query-term-of written-path written-reduction
+    compute combine
 marked-trials = refl
 
 -- operators and reductions

@@ -103,7 +103,8 @@ runs =
     -- two path reductions, three times written; operands in order
     ∷ sample graph-a two-paths none 3 (Number 5 ∷ [])
     ∷ sample graph-a (each (operator 6 (number 7) (from (2 ∷ []) 0))) none 3 (Absent ∷ Number 1 ∷ Number 3 ∷ Number 1 ∷ [])
-    -- "A place counts where the condition is a number other than 0; an absent condition leaves the place out"; an absent value is skipped; with none left absent
+    -- "A place counts where the condition is a number other than 0; an absent condition leaves the place out"; an absent value is skipped; with none left
+    -- absent
     ∷ sample graph-a (farther 3 2) none 3 (Number 10 ∷ [])
     ∷ sample graph-a (farther 2 2) none 3 (Number 5 ∷ [])
     ∷ sample graph-a (farther 3 9) none 3 (Absent ∷ [])
@@ -166,7 +167,8 @@ plans =
     ∷ headed 0x57 (0x00 ∷ 0x00 ∷ 0x01 ∷ 0x00 ∷ 0x30 ∷ 0x00 ∷ []) 16
     ∷ headed 0x57 (0x00 ∷ 0x01 ∷ 0x01 ∷ 0x02 ∷ 0x03 ∷ 0x00 ∷ 0x00 ∷ 0x00 ∷ 0x01 ∷ 0x00 ∷ 0x30 ∷ 0x00 ∷ []) 9
     -- with 128 added a condition stands before the value: 129 to 133 and no other, for kind 1 alone
-    ∷ headed 0x57 (0x01 ∷ 0x00 ∷ 0x01 ∷ 0x81 ∷ 0x11 ∷ 0x01 ∷ 0x00 ∷ 0x00 ∷ 0x00 ∷ 0x11 ∷ 0x07 ∷ 0x00 ∷ 0x00 ∷ 0x00 ∷ 0x31 ∷ 0x00 ∷ []) 0
+    ∷ headed 0x57
+    (0x01 ∷ 0x00 ∷ 0x01 ∷ 0x81 ∷ 0x11 ∷ 0x01 ∷ 0x00 ∷ 0x00 ∷ 0x00 ∷ 0x11 ∷ 0x07 ∷ 0x00 ∷ 0x00 ∷ 0x00 ∷ 0x31 ∷ 0x00 ∷ []) 0
     ∷ headed 0x57 (0x01 ∷ 0x00 ∷ 0x01 ∷ 0x81 ∷ 0x11 ∷ 0x01 ∷ 0x00 ∷ 0x00 ∷ 0x00 ∷ 0x31 ∷ 0x00 ∷ []) 9
     ∷ headed 0x57 (0x01 ∷ 0x00 ∷ 0x01 ∷ 0x80 ∷ []) 9
     ∷ headed 0x57 (0x01 ∷ 0x00 ∷ 0x01 ∷ 0x86 ∷ []) 9

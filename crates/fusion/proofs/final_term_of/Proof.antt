@@ -26,4 +26,5 @@ returns-5 : tie.Need-returns-5
 returns-5 c = rw (final-others _ _ (c .match .keys5)) refl
 
 pub final-term-of-spec : {M : Type 1} → statement M
-final-term-of-spec = tie.close (tie.spec (λ c. search needs) (λ c. search needs) (λ c. search needs) (λ c. search needs) returns returns-2 returns-3 returns-4 returns-5)
+final-term-of-spec = tie.close
+    (tie.spec (λ c. search needs) (λ c. search needs) (λ c. search needs) (λ c. search needs) returns returns-2 returns-3 returns-4 returns-5)

@@ -1,5 +1,5 @@
 -- THE ROWS OF A PLAN'S BODY, by the bytes of a legal plan, are the rows of its tree: `body-value`. Assumes nothing.
-use Prim.Native.Nat.{ℕ, zero, suc, _+_, _-_, _*_, _%_, _≤_, _<_, min}
+use Prim.Native.Nat.{ℕ, zero, suc, _+_, _-_, _*_, _≤_, _<_, min}
 use mathlib.Core.Path.{_≡_, refl, sym, ap, ap₂, _∙_}
 use mathlib.Core.List.{List, [], _∷_, _++_, map, append-assoc, append-nil}
 use mathlib.Core.Option.{Option, none, some}
@@ -12,6 +12,7 @@ use Rattle.meaning.specs.Plan.{Body, Plan, Term, VertexReduction, each-vertex, 
 use Rattle.meaning.specs.Query.{PathReduction}
 use Rattle.meaning.specs.Run.{at-vertices, body-rows, evaluate, picked, reduced, tabulate}
 use Rattle.meaning.proofs.Lists.{tabulate-at, tabulate-length}
+use Rattle.plan.proofs.ListedEntries.{reduction-read}
 use Rattle.plan.proofs.ListedPaths.{listed-size}
 use Rattle.plan.specs.Text.{all-listed-bytes, body-bytes, condition-bytes, encode, entries-bytes, entry-bytes, reduction-byte}
 use Rattle.terms.specs.declared.TermKind.the-variants.{OfEntry, OfFinal}
@@ -57,11 +58,6 @@ entry-text r o t = reduction-byte r o ∷ (condition-bytes o ++ expression-bytes
 abbrev worth-of : List Value → Option (Term ℕ) → Term ℕ → Value
 worth-of vs none t = evaluate vs t
 worth-of vs (some c) t = where-counts (evaluate vs c) (evaluate vs t)
-
--- its byte says which reduction it is, and whether there is a condition
-byte-reduction : (r : ℕ) (o : Option (Term ℕ)) → r ≤ 5 → reduction-byte r o % 128 ≡ r
-byte-reduction r none h = omega arith
-byte-reduction r (some c) h = omega arith
 
 module _ (count : ℕ) (s : List ℕ) (r : ℕ) (small : r ≤ 5) (at : ℕ) (rest : List ℕ) where
   -- what is found where its text stands, and the position behind it
@@ -139,7 +135,7 @@ module _ (n count : ℕ) (F : ℕ → List Row) (G : ℕ → List Value) (agrees
       let next = ap (λ (x : Found). x .next) (entry-value-at count s r (f .1) at (entries-bytes es ++ rest) o t (f .2) (f .3) e1 (eight [])) in
       let others = entries-value es (a .1) (at + length l) rest (drop-on s at (length l) l (entries-bytes es ++ rest) e1 refl) in
       record {
-        worth = rw (tag, byte-reduction r o (f .1), rows, worth-reduced r n G o t, next, others .worth) refl;
+        worth = rw (tag, reduction-read r o (omega (arith, f .1)), rows, worth-reduced r n G o t, next, others .worth) refl;
         end = ap (entries-end (length es) s) next ∙ others .end
             ∙ (let z : at + length l + length (entries-bytes es) ≡ at + length (l ++ entries-bytes es) =
             omega (arith, length-append l (entries-bytes es)) in z);

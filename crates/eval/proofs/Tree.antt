@@ -9,29 +9,23 @@ use lib.ListN.{length, getD, drop, length-append}
 use Rattle.meaning.specs.Limits.{Every, Expression, depth, unit}
 use Rattle.meaning.specs.Plan.{Term, apply, leaf, literal}
 use Rattle.meaning.specs.Run.{evaluate}
-use Rattle.nodes.proofs.Fields.{byte-there, literal-tags}
+use Rattle.nodes.proofs.Fields.{literal-tags}
 use Rattle.terms.specs.declared.TermKind.{TermKind}
 use Rattle.terms.specs.declared.TermKind.the-variants.{OfEntry, OfFinal}
 use Rattle.terms.specs.Terms.{literal-tag}
 use Rattle.term_text.specs.Text.{expression-bytes, index-tag}
-use Rattle.term_text.proofs.Paths.{nth}
-use Rattle.term_text.proofs.Steps.{drop-on, tag-there, there}
+use Rattle.term_text.proofs.Steps.{byte-there, drop-on, tag-there, there, word-there}
 use Rattle.value.specs.declared.Row.{Row}
 use Rattle.value.specs.declared.Value.{Value}
 use Rattle.value.specs.declared.Value.the-variants.{Absent, Number}
 use Rattle.value.specs.Value.{operate, values}
-use Rattle.wire.specs.Wire.{at32, le32}
+use Rattle.wire.specs.Wire.{le32}
 use Rattle.eval.specs.declared.Head.the-variants.{Apply, Leaf}
 use Rattle.eval.specs.Steps.{evaluated, found, head, joined}
 
 -- the byte of an index, in entries and in final expressions
 abbrev Indexed : TermKind → Type 0
 Indexed m = (index-tag m ≡ 0x30) ⊎ (index-tag m ≡ 0x31)
-
-literal-there : (s : List ℕ) (i x k : ℕ) (l : List ℕ) → k < 2 ^ 32 → drop i s ≡ x ∷ (le32 k ++ l) → at32 s (i + 1) ≡ k
-literal-there s i x k l h e =
-    rw (nth s i 1 (i + 1) 0 refl, nth s i 2 (i + 1 + 1) 0 (omega arith), nth s i 3 (i + 1 + 2) 0 (omega arith), nth s i 4 (i + 1 + 2 + 1) 0 (omega arith), e)
-    (omega arith)
 
 -- what stands at a position, by its tag
 module _ (s : List ℕ) (rows : List Row) (at : ℕ) where
@@ -45,9 +39,9 @@ module _ (s : List ℕ) (rows : List Row) (at : ℕ) where
       → head s rows at ≡ Leaf (found (Number k) (at + 5))
   unfolding head
   head-literal tag k l (inl p) h e =
-      rw (lt-leb (length s) at (there s at tag (le32 k ++ l) e), tag-there s at tag (le32 k ++ l) e, literal-there s at tag k l h e, p) refl
+      rw (lt-leb (length s) at (there s at tag (le32 k ++ l) e), tag-there s at tag (le32 k ++ l) e, word-there s at tag k l h e, p) refl
   head-literal tag k l (inr p) h e =
-      rw (lt-leb (length s) at (there s at tag (le32 k ++ l) e), tag-there s at tag (le32 k ++ l) e, literal-there s at tag k l h e, p) refl
+      rw (lt-leb (length s) at (there s at tag (le32 k ++ l) e), tag-there s at tag (le32 k ++ l) e, word-there s at tag k l h e, p) refl
 
   head-apply : (tag o : ℕ) (l : List ℕ) → (tag ≡ 0x11) ⊎ (tag ≡ 0x21) → drop at s ≡ (tag + 1) ∷ o ∷ l → head s rows at
       ≡ Apply o (at + 2)

@@ -1,6 +1,6 @@
 -- A legal query fuses to a legal plan, with as many terms. Assumes nothing.
-use Prim.Native.Nat.{ℕ, zero, suc, _+_, _≤_, _<_}
-use mathlib.Core.Path.{_≡_, refl, sym, ap, ap₂, _∙_, subst}
+use Prim.Native.Nat.{ℕ, zero, _+_, _≤_, _<_}
+use mathlib.Core.Path.{_≡_, refl, sym, ap₂, _∙_, subst}
 use mathlib.Core.List.{List, [], _∷_, _++_}
 use native.Mathlib.Omega.{arith}
 use lib.Dec.{T}
@@ -10,7 +10,7 @@ use Rattle.meaning.specs.Limits.{BodyLegal, EntryLegal, Every, Expressio
 use Rattle.meaning.specs.Limits.{entry-terms, plan-terms, query-terms, size-of, terms, unit}
 use Rattle.meaning.specs.Plan.{VertexReduction, among, entries, expression, final, fuse}
 use Rattle.meaning.specs.Query.{Kind, PathReduction, Query, QueryTerm, ResultTerm, VertexTerm, each, number, operator, over, over-where, path, paths}
-use Rattle.meaning.specs.Query.{single, vertex, reduction-count, written-paths}
+use Rattle.meaning.specs.Query.{single, reduction-count, written-paths}
 use Rattle.meaning.proofs.Lists.{all-append, all-left, all-right}
 use Rattle.meaning.proofs.Paths.{position-below, put-all-has, put-all-holds}
 

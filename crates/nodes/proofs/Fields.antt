@@ -14,8 +14,8 @@ use Rattle.terms.specs.declared.TermKind.{TermKind}
 use Rattle.terms.specs.declared.TermKind.the-variants.{OfVertex, OfResult, OfEntry, OfFinal}
 use Rattle.terms.specs.Terms.{literal-tag}
 use Rattle.term_text.specs.Text.{path-bytes, path-number}
-use Rattle.term_text.proofs.Paths.{five-digits, key-byte, legal-parts, nth, path-numbered}
-use Rattle.term_text.proofs.Steps.{drop-on, tag-there, there}
+use Rattle.term_text.proofs.Paths.{five-digits, key-byte, legal-parts, path-numbered}
+use Rattle.term_text.proofs.Steps.{byte-there, drop-on, tag-there, there, word-there}
 use Rattle.path_fields.specs.Paths.{path-word}
 use Rattle.wire.specs.Wire.{at32, le16, le32}
 use Rattle.nodes.specs.declared.Node.{Node}
@@ -87,16 +87,6 @@ module _ (s : List ℕ) (i x : ℕ) (l : List ℕ) (e : drop i s ≡ x ∷ l) wh
   collected-on : (k : ℕ) (n : Node) (j : ℕ) → node (tagged x s i) ≡ n → passed x s i ≡ j → collected (suc k) s i ≡ n ∷ collected k s j
   unfolding collected
   collected-on k n j p q = rw (term-is, next-is, p, q) refl
-
--- the byte behind the tag
-pub byte-there : (s : List ℕ) (i x y : ℕ) (l : List ℕ) → drop i s ≡ x ∷ y ∷ l → getD s (i + 1) 0 ≡ y
-byte-there s i x y l e = rw (nth s i 1 (i + 1) 0 refl, e) refl
-
--- and the 32 bits behind it
-word-there : (s : List ℕ) (i x k : ℕ) (l : List ℕ) → k < 2 ^ 32 → drop i s ≡ x ∷ (le32 k ++ l) → at32 s (i + 1) ≡ k
-word-there s i x k l h e =
-    rw (nth s i 1 (i + 1) 0 refl, nth s i 2 (i + 1 + 1) 0 (omega arith), nth s i 3 (i + 1 + 2) 0 (omega arith), nth s i 4 (i + 1 + 2 + 1) 0 (omega arith), e)
-    (omega arith)
 
 -- ONE TERM AND ITS BYTES: where the bytes stand the term is collected, and the terms behind it; its text is the bytes
 pub record One (b : List ℕ) (n : Node) : Type 0 where

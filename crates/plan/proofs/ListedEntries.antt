@@ -69,7 +69,7 @@ reduction-small kind b e = go (eqb kind 0) (ltb 255 b) refl e
     go false false p z = ltb-false 255 b p
 
 -- in kind 1 that is one of the five, with 128 added where there is a condition
-reduction-read : (r : ℕ) (o : Option (Term ℕ)) → r < 128 → reduction-byte r o % 128 ≡ r
+pub reduction-read : (r : ℕ) (o : Option (Term ℕ)) → r < 128 → reduction-byte r o % 128 ≡ r
 reduction-read r none h = omega arith
 reduction-read r (some c) h = omega arith
 

@@ -5,7 +5,7 @@ use value::Value;
 ghost use mathlib.Core.Path.{_≡_};
 ghost use mathlib.Core.List.{_∷_, []};
 ghost use Prim.Native.Nat.{_+_, _%_, _≤_, min};
-ghost use lib.ListN.{length, getD};
+ghost use lib.ListN.{getD};
 ghost use Rattle.value.specs.Value.{reduce, values};
 ghost use Rattle.eval.specs.Steps.{body-found, count-at, eight, entries-end, entry-rows, final-found, results, row};
 ghost use Rattle.rounds.specs.Steps.{value-in};

@@ -5,10 +5,10 @@ use mathlib.Core.Path.{_≡_, refl, sym, ap₂, _∙_, subst}
 use mathlib.Core.Bool.{Bool, true, false}
 use mathlib.Core.List.{List, [], _∷_, _++_}
 use native.Mathlib.Omega.{arith}
-use borrow.Author.Tests.{ltb-false, leb-false, eqb-true, eqb-false, le-ltb, lt-leb, eq-eqb}
+use borrow.Author.Tests.{ltb-false, leb-false, eqb-true, eqb-false, le-ltb, lt-leb}
 use lib.Dec.{leb, ltb, eqb}
 use lib.ListN.{length, getD, drop, length-append}
-use Rattle.meaning.specs.Limits.{Every, PathFits, TermFits, depth, depth-of, size-of, terms, unit}
+use Rattle.meaning.specs.Limits.{Every, TermFits, depth, depth-of, size-of, terms, unit}
 use Rattle.meaning.specs.Plan.{Term, apply, leaf, literal}
 use Rattle.meaning.specs.Query.{Kind, PathReduction, QueryTerm, VertexTerm, number, operator, over, over-where, path, paths, reduction-count, result, vertex}
 use Rattle.wire.specs.Wire.{Bytes, le16}
@@ -23,8 +23,8 @@ use Rattle.terms.proofs.Laws.{accepted-as}
 use Rattle.term_text.specs.Text.{expression-bytes, index-tag, of-kind, path-bytes, path-number, query-bytes}
 use Rattle.wire.proofs.Past.{getD-any}
 use Rattle.term_text.proofs.Paths.{code-range, code-zero, drop-at, nth, path-accepted, path-count, path-found, path-numbered, present}
-use Rattle.term_text.proofs.Shape.{After, Behind, Complete, Found, FoundTwo, Piece, Room, Sound, apply-complete, literal-complete, none-found}
-use Rattle.term_text.proofs.Shape.{one-complete, one-found, one-piece, term-found, two-complete, two-found, two-piece}
+use Rattle.term_text.proofs.Shape.{After, Behind, Complete, Found, Piece, Sound, apply-complete, literal-complete, none-found}
+use Rattle.term_text.proofs.Shape.{one-complete, one-found, term-found, two-complete, two-found}
 use Rattle.term_text.proofs.Steps.{drop-on, read-by, step-is, stops, table-advanced, tag-there, there}
 use Rattle.term_text.proofs.Table.{Table, kept-few, kept-room}
 

@@ -1,5 +1,5 @@
 -- One term: what a step makes of its tag, and the bytes of literals. Assumes nothing.
-use Prim.Native.Nat.{ℕ, zero, suc, _+_, _-_, _*_, _/_, _%_, _<_}
+use Prim.Native.Nat.{ℕ, zero, suc, _+_, _-_, _*_, _/_, _%_, _^_, _<_}
 use mathlib.Core.Path.{_≡_, refl, sym, ap, _∙_}
 use mathlib.Core.Bool.{Bool, true, false, cond}
 use mathlib.Core.List.{List, [], _∷_, _++_}
@@ -9,7 +9,7 @@ use lib.Dec.{leb, eqb}
 use lib.ListN.{length, getD, drop, length-drop}
 use lib.Seq.{drop-drop, drop-append-seam}
 use Rattle.meaning.specs.Query.{PathReduction}
-use Rattle.wire.specs.Wire.{le32}
+use Rattle.wire.specs.Wire.{at32, le32}
 use Rattle.terms.specs.declared.Step.{Step}
 use Rattle.terms.specs.declared.TermKind.{TermKind}
 use Rattle.progress.specs.declared.Progress.{Progress}
@@ -19,13 +19,23 @@ use Rattle.terms.proofs.Laws.{accepted-as, read-next}
 use Rattle.term_text.proofs.Paths.{digits, nth, two-bytes}
 use Rattle.term_text.proofs.Table.{Table}
 
--- a rest that begins with x: there is a byte, it is x, and behind a text of n bytes stands what follows
+-- a rest that begins with x: there is a byte, and it is x
 pub there : (s : List ℕ) (i x : ℕ) (l : List ℕ) → drop i s ≡ x ∷ l → i < length s
 there s i x l e = omega (arith, length-drop i s, ap length e)
 
 pub tag-there : (s : List ℕ) (i x : ℕ) (l : List ℕ) → drop i s ≡ x ∷ l → getD s i 0 ≡ x
 tag-there s i x l e = rw (nth s i 0 i 0 (omega arith), e) refl
 
+-- the byte behind the first; a number of 32 bits behind it
+pub byte-there : (s : List ℕ) (i x y : ℕ) (l : List ℕ) → drop i s ≡ x ∷ y ∷ l → getD s (i + 1) 0 ≡ y
+byte-there s i x y l e = rw (nth s i 1 (i + 1) 0 refl, e) refl
+
+pub word-there : (s : List ℕ) (i x k : ℕ) (l : List ℕ) → k < 2 ^ 32 → drop i s ≡ x ∷ (le32 k ++ l) → at32 s (i + 1) ≡ k
+word-there s i x k l h e =
+    rw (nth s i 1 (i + 1) 0 refl, nth s i 2 (i + 1 + 1) 0 (omega arith), nth s i 3 (i + 1 + 2) 0 (omega arith), nth s i 4 (i + 1 + 2 + 1) 0 (omega arith), e)
+    (omega arith)
+
+-- behind a text of n bytes stands what follows
 pub drop-on : (s : List ℕ) (i n : ℕ) (l m : List ℕ) → drop i s ≡ l ++ m → length l ≡ n → drop (i + n) s ≡ m
 drop-on s i n l m e h = sym (drop-drop n i s) ∙ ap (drop n) e ∙ drop-at′
   where

@@ -19,17 +19,7 @@ use Rattle.term_text.specs.Text.{expression-bytes, index-tag, of-kind, p
 use Rattle.term_text.specs.Tree.{Read, Reader, by-tag, expression-of, expression-to, one-of, query-term-of, several-of, two-of, written-index}
 use Rattle.term_text.specs.Tree.{written-path, written-reduction}
 use Rattle.term_text.proofs.Paths.{nth, source-small}
-use Rattle.term_text.proofs.Steps.{drop-on, tag-there}
-
--- the byte behind the first
-byte-behind : (s : List ℕ) (i x y : ℕ) (l : List ℕ) → drop i s ≡ x ∷ y ∷ l → getD s (i + 1) 0 ≡ y
-byte-behind s i x y l e = rw (nth s i 1 (i + 1) 0 refl, e) refl
-
--- a number of 32 bits behind a byte
-literal-behind : (s : List ℕ) (i x k : ℕ) (l : List ℕ) → k < 2 ^ 32 → drop i s ≡ x ∷ (le32 k ++ l) → at32 s (i + 1) ≡ k
-literal-behind s i x k l h e =
-    rw (nth s i 1 (i + 1) 0 refl, nth s i 2 (i + 1 + 1) 0 (omega arith), nth s i 3 (i + 1 + 2) 0 (omega arith), nth s i 4 (i + 1 + 2 + 1) 0 (omega arith), e)
-    (omega arith)
+use Rattle.term_text.proofs.Steps.{byte-there, drop-on, tag-there, word-there}
 
 -- read, and ending behind its n bytes
 abbrev pub whole : {A : Type 0} → A → ℕ → Read A
@@ -47,14 +37,14 @@ module _ {A B : Type 0} (read : Reader A) (s : List ℕ) (first o : ℕ) (l : Li
   one-back : (make : ℕ → A → B) → Gives (one-of make read) s (first ∷ o ∷ l) (make o t)
   one-back make at rest e =
       let end : at + 2 + length l ≡ at + suc (suc (length l)) = omega arith in
-      rw (byte-behind s at first o (l ++ rest) e, gives (at + 2) rest (drop-on s at 2 (first ∷ o ∷ []) (l ++ rest) e refl), end) refl
+      rw (byte-there s at first o (l ++ rest) e, gives (at + 2) rest (drop-on s at 2 (first ∷ o ∷ []) (l ++ rest) e refl), end) refl
 
   two-back : (make : ℕ → A → A → B) (m : List ℕ) (u : A) → Gives read s m u → Gives (two-of make read) s (first ∷ o ∷ (l ++ m)) (make o t u)
   two-back make m u second at rest e =
       let d1 = drop-on s at 2 (first ∷ o ∷ []) ((l ++ m) ++ rest) e refl ∙ append-assoc l m rest in
       let d2 = drop-on s (at + 2) (length l) l (m ++ rest) d1 refl in
       let end : at + 2 + length l + length m ≡ at + suc (suc (length (l ++ m))) = omega (arith, length-append l m) in
-      rw (byte-behind s at first o ((l ++ m) ++ rest) e, gives (at + 2) (m ++ rest) d1, second (at + 2 + length l) rest d2, end) refl
+      rw (byte-there s at first o ((l ++ m) ++ rest) e, gives (at + 2) (m ++ rest) d1, second (at + 2 + length l) rest d2, end) refl
 
 -- a term is read by its first byte
 module _ {A : Type 0} (make : ℕ → A) (join : ℕ → A → A → A) (tag : ℕ) (read other : Reader A) (s : List ℕ) where
@@ -72,7 +62,7 @@ module _ {A : Type 0} (make : ℕ → A) (join : ℕ → A → A → A) (tag : �
 
   literal-back : (x : ℕ) → x < 2 ^ 32 → Gives (by-tag make join tag read other) s (tag ∷ le32 x) (make x)
   literal-back x h at rest e =
-      by-byte at ∙ rw (tag-there s at tag (le32 x ++ rest) e, eq-eqb tag tag refl, literal-behind s at tag x rest h e) refl
+      by-byte at ∙ rw (tag-there s at tag (le32 x ++ rest) e, eq-eqb tag tag refl, word-there s at tag x rest h e) refl
 
   operator-back : (o : ℕ) (l m : List ℕ) (t u : A) → Gives read s l t → Gives read s m u
       → Gives (by-tag make join tag read other) s ((tag + 1) ∷ o ∷ (l ++ m)) (join o t u)
@@ -96,7 +86,7 @@ path-back s c f at rest e =
     let source : at16 s (at + 2 + n) ≡ c .source =
     rw (nth s (at + 2 + n) 0 (at + 2 + n) 0 (omega arith), nth s (at + 2 + n) 1 (at + 2 + n + 1) 0 refl, d2) (omega (arith, source-small c f)) in
     let end : at + 4 + n ≡ at + length (0x10 ∷ path-bytes c) = omega (arith, length-append (c .keys) (le16 (c .source))) in
-    rw (byte-behind s at 0x10 n ((c .keys ++ le16 (c .source)) ++ rest) e, source, d1, take-at (c .keys) (le16 (c .source) ++ rest) n refl, end) refl
+    rw (byte-there s at 0x10 n ((c .keys ++ le16 (c .source)) ++ rest) e, source, d1, take-at (c .keys) (le16 (c .source) ++ rest) n refl, end) refl
 
 -- a reduction, by its first byte
 module _ (read : Reader VertexTerm) (s : List ℕ) where
@@ -176,7 +166,7 @@ module _ (m : TermKind) (tag count : ℕ) (literals : literal-tag m ≡ tag) (p 
       other-back literal apply tag (expression-to d tag) written-index s (index-tag m) (i ∷ []) (leaf i) p q index-back at rest e
     where
       index-back : Gives written-index s (index-tag m ∷ i ∷ []) (leaf i)
-      index-back at rest e = rw (byte-behind s at (index-tag m) i rest e) refl
+      index-back at rest e = rw (byte-there s at (index-tag m) i rest e) refl
   expression-back-to (literal x) f (suc d) h at rest e =
       literal-back literal apply tag (expression-to d tag) written-index s x f at rest (rw literals at e)
   expression-back-to (apply o t u) f (suc d) h at rest e =

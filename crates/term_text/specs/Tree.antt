@@ -6,7 +6,7 @@ use mathlib.Core.List.{List, [], _∷_}
 use lib.Dec.{eqb}
 use lib.ListN.{getD, take, drop}
 use Rattle.meaning.specs.Plan.{Term, apply, leaf, literal}
-use Rattle.meaning.specs.Query.{Kind, PathReduction, QueryTerm, ResultTerm, VertexTerm, number, operator, over, over-where, path, result, vertex}
+use Rattle.meaning.specs.Query.{Kind, QueryTerm, ResultTerm, VertexTerm, number, operator, over, over-where, path, result, vertex}
 use Rattle.wire.specs.Wire.{at16, at32}
 
 -- what was read, and where it ends

@@ -3,11 +3,11 @@
 use progress::Progress;
 ghost use mathlib.Core.Path.{_≡_};
 ghost use Prim.Native.Nat.{_+_, _≤_, _<_, max};
+ghost use mathlib.Core.Bool.{cond};
+ghost use lib.Dec.{eqb};
 ghost use lib.ListN.{length};
 ghost use Rattle.terms.specs.Terms.{alone, refused-step, slot-of, kept-path, advanced, path-step, reduce-step, index-step};
 ghost use Rattle.terms.specs.Terms.{leaf-step, literal-step, apply-step, literal-tag, term-step, read};
-ghost use lib.Dec.{eqb};
-ghost use mathlib.Core.Bool.{cond};
 
 // The four kinds of terms: place terms and result terms of a question, entries' expressions and final expressions of a worksheet.
 pub enum TermKind {

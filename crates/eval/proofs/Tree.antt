@@ -6,7 +6,7 @@ use mathlib.Core.List.{List, [], _∷_, _++_, append-assoc}
 use native.Mathlib.Omega.{arith}
 use borrow.Author.Tests.{lt-leb}
 use lib.ListN.{length, getD, drop, length-append}
-use Rattle.meaning.specs.Limits.{Every, Expression, depth, unit}
+use Rattle.meaning.specs.Limits.{Every, Expression, depth}
 use Rattle.meaning.specs.Plan.{Term, apply, leaf, literal}
 use Rattle.meaning.specs.Run.{evaluate}
 use Rattle.nodes.proofs.Fields.{literal-tags}
@@ -53,13 +53,13 @@ module _ (s : List ℕ) (rows : List Row) (at : ℕ) where
 
 module _ (m : TermKind) (indexed : Indexed m) (count : ℕ) (s : List ℕ) (rows : List Row) where
   -- THE VALUE OF THE TREE, where its bytes stand and its depth is not above what is left; and the position behind it
-  pub expression-value : (t : Term ℕ) → Every (λ i. i < count) t → (left at : ℕ) (rest : List ℕ) → depth unit t ≤ left
+  pub expression-value : (t : Term ℕ) → Every (λ i. i < count) t → (left at : ℕ) (rest : List ℕ) → depth t ≤ left
       → drop at s ≡ expression-bytes m t ++ rest
       → evaluated left s rows at ≡ found (evaluate (values rows) t) (at + length (expression-bytes m t))
   unfolding evaluated joined
   expression-value t f zero at rest h e = absurd (deep t h)
     where
-      deep : (t : Term ℕ) → depth unit t ≤ 0 → ⊥
+      deep : (t : Term ℕ) → depth t ≤ 0 → ⊥
       deep (leaf a) h = omega arith
       deep (literal k) h = omega arith
       deep (apply o t u) h = omega arith

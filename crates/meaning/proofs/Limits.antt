@@ -7,7 +7,7 @@ use lib.Dec.{T}
 use lib.ListN.{length, length-append}
 use Rattle.walks.specs.Lists.{All}
 use Rattle.meaning.specs.Limits.{BodyLegal, EntryLegal, Every, Expression, PathFits, PlanLegal, QueryLegal, TermFits, TermsFit, depth, depth-of}
-use Rattle.meaning.specs.Limits.{entry-terms, plan-terms, query-terms, size-of, terms, unit}
+use Rattle.meaning.specs.Limits.{entry-terms, plan-terms, query-terms, size-of, terms}
 use Rattle.meaning.specs.Plan.{VertexReduction, among, entries, expression, final, fuse}
 use Rattle.meaning.specs.Query.{Kind, PathReduction, Query, QueryTerm, ResultTerm, VertexTerm, each, number, operator, over, over-where, path, paths}
 use Rattle.meaning.specs.Query.{single, reduction-count, written-paths}
@@ -48,18 +48,18 @@ module _ (cs : List PathReduction) where
   Has = All (λ c. T (among c cs))
 
   -- an expression has the terms and the depth of its vertex term
-  expression-terms : (t : VertexTerm) → terms unit (expression cs t) ≡ size-of t
+  expression-terms : (t : VertexTerm) → terms (expression cs t) ≡ size-of t
   expression-terms (path c) = refl
   expression-terms (number x) = refl
   expression-terms (operator o s t) = omega (arith, expression-terms s, expression-terms t)
 
-  expression-depth : (t : VertexTerm) → depth unit (expression cs t) ≡ depth-of t
+  expression-depth : (t : VertexTerm) → depth (expression cs t) ≡ depth-of t
   expression-depth (path c) = refl
   expression-depth (number x) = refl
   expression-depth (operator o s t) = omega (arith, expression-depth s, expression-depth t)
 
   -- the entries and the final expression have the terms of the result term
-  entries-terms : (t : ResultTerm) (k : ℕ) → entry-terms (entries cs t) + terms unit (final k t) ≡ size-of t
+  entries-terms : (t : ResultTerm) (k : ℕ) → entry-terms (entries cs t) + terms (final k t) ≡ size-of t
   entries-terms (over o t) k = omega (arith, expression-terms t)
   entries-terms (over-where o c t) k = omega (arith, expression-terms c, expression-terms t)
   entries-terms (number x) k = refl
@@ -99,7 +99,7 @@ module _ (n : ℕ) where
   final-every (number x) p k m l = p
   final-every (operator o s t) p k m l = (p .0, p .1, final-every s (p .2) k m (omega arith), final-every t (p .3) (k + reduction-count s) m (omega arith))
 
-final-depth : (t : ResultTerm) (k : ℕ) → depth unit (final k t) ≤ depth-of t
+final-depth : (t : ResultTerm) (k : ℕ) → depth (final k t) ≤ depth-of t
 final-depth (over o t) k = omega arith
 final-depth (over-where o c t) k = omega arith
 final-depth (number x) k = omega arith

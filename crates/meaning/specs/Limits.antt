@@ -85,20 +85,16 @@ pub record QueryLegal (n : ℕ) (q : Query) : Type 0 where
   pub few-paths : length (put-all [] (written-paths q)) ≤ 8
   pub few-reductions : query-reductions q ≤ 8
 
--- the same of expressions; w is that of a leaf
-abbrev pub terms : {A : Type 0} → (A → ℕ) → Term A → ℕ
-terms w (leaf a) = w a
-terms w (literal k) = 1
-terms w (apply o s t) = suc (terms w s + terms w t)
+-- the same of expressions
+abbrev pub terms : {A : Type 0} → Term A → ℕ
+terms (leaf a) = 1
+terms (literal k) = 1
+terms (apply o s t) = suc (terms s + terms t)
 
-abbrev pub depth : {A : Type 0} → (A → ℕ) → Term A → ℕ
-depth w (leaf a) = w a
-depth w (literal k) = 1
-depth w (apply o s t) = suc (max (depth w s) (depth w t))
-
--- the size and the depth of a leaf that is one term
-abbrev pub unit : {A : Type 0} → A → ℕ
-unit a = 1
+abbrev pub depth : {A : Type 0} → Term A → ℕ
+depth (leaf a) = 1
+depth (literal k) = 1
+depth (apply o s t) = suc (max (depth s) (depth t))
 
 -- each leaf is as said, each literal has 32 bits, each operator is one of the eleven
 abbrev pub Every : {A : Type 0} → (A → Type 0) → Term A → Type 0
@@ -109,7 +105,7 @@ Every P (apply o s t) = (1 ≤ o) × (o ≤ 11) × Every P s × Every P t
 -- of a condition where there is one: its terms, and that it is as said
 abbrev pub condition-terms : Option (Term ℕ) → ℕ
 condition-terms none = zero
-condition-terms (some t) = terms unit t
+condition-terms (some t) = terms t
 
 abbrev pub Optional : {A : Type 0} → (A → Type 0) → Option A → Type 0
 Optional P none = Unit {0}
@@ -117,16 +113,16 @@ Optional P (some t) = P t
 
 -- "Over all expressions of a worksheet at most 64 terms, each expression of depth at most 16"; an index is below its count
 abbrev pub Expression : ℕ → Term ℕ → Type 0
-Expression c t = Every (λ i. i < c) t × (depth unit t ≤ 16)
+Expression c t = Every (λ i. i < c) t × (depth t ≤ 16)
 
 -- the terms of the entries, with their conditions; of all expressions
 abbrev pub entry-terms : List (VertexReduction ℕ) → ℕ
 entry-terms [] = zero
-entry-terms (e ∷ es) = condition-terms (e .condition) + terms unit (e .body) + entry-terms es
+entry-terms (e ∷ es) = condition-terms (e .condition) + terms (e .body) + entry-terms es
 
 abbrev pub plan-terms : Body → ℕ
-plan-terms (each-vertex t) = terms unit t
-plan-terms (one-result es t) = entry-terms es + terms unit t
+plan-terms (each-vertex t) = terms t
+plan-terms (one-result es t) = entry-terms es + terms t
 
 -- "Kind 0 has e = 1 and reduction byte 0; kind 1 has e from 0 to 8 and reduction bytes 1 to 5."
 abbrev pub EntryLegal : ℕ → VertexReduction ℕ → Type 0

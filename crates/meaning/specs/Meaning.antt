@@ -34,8 +34,8 @@ module _ (L : PathReduction → ℕ → Value → Type 0) (n : ℕ) where
   abbrev pub Means : {κ : Kind} → QueryTerm κ → At κ → Value → Type 0
   Means (path c) v x = L c v x
   Means (over o t) v x = (xs : List Value) × AtVertices n (Means t) xs × (x ≡ reduce o xs)
-  Means (over-where o c t) v x = (cs : List Value) × (xs : List Value) × AtVertices n (Means c) cs × AtVertices n (Means t) xs ×
-      (x ≡ reduce o (chosen cs xs))
+  Means (over-where o c t) v x =
+      (cs : List Value) × (xs : List Value) × AtVertices n (Means c) cs × AtVertices n (Means t) xs × (x ≡ reduce o (chosen cs xs))
   Means (number y) v x = x ≡ Number y
   Means (operator o s t) v x = (a : Value) × (b : Value) × Means s v a × Means t v b × (x ≡ operate o a b)
 

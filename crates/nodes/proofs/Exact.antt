@@ -4,7 +4,7 @@ use Prim.Native.Nat.{ℕ, suc, _+_, _<_}
 use mathlib.Core.Path.{_≡_, refl, ap, ap₂, _∙_}
 use mathlib.Core.List.{List, [], _∷_, _++_}
 use lib.ListN.{length, length-append}
-use Rattle.meaning.specs.Limits.{Every, TermFits, size-of, terms, unit}
+use Rattle.meaning.specs.Limits.{Every, TermFits, size-of, terms}
 use Rattle.meaning.specs.Plan.{Term, apply, leaf, literal}
 use Rattle.meaning.specs.Query.{Kind, QueryTerm, number, operator, over, over-where, path, vertex}
 use Rattle.terms.specs.declared.TermKind.{TermKind}
@@ -57,28 +57,28 @@ query-size κ (operator o s t) = two-size (query-nodes κ s) (query-nodes κ t) 
 -- the same, where both hold of an index
 module _ (kind : TermKind) (N : ℕ → Node) where
   expression-written : ((i : ℕ) → One (index-tag kind ∷ i ∷ []) (N i)) → (count : ℕ) (t : Term ℕ) → Every (λ i. i < count) t
-      → Written (terms unit t) (expression-bytes kind t) (expression-nodes kind N t)
+      → Written (terms t) (expression-bytes kind t) (expression-nodes kind N t)
   expression-written one count (leaf i) f = one-written (one i)
   expression-written one count (literal x) f = one-written (literal-one kind x f)
   expression-written one count (apply o s t) f =
       more-written (apply-one kind o)
       (both-written (expression-written one count s (f .2)) (expression-written one count t (f .3)))
 
-  expression-size : (t : Term ℕ) → length (expression-nodes kind N t) ≡ terms unit t
+  expression-size : (t : Term ℕ) → length (expression-nodes kind N t) ≡ terms t
   expression-size (leaf i) = refl
   expression-size (literal x) = refl
   expression-size (apply o s t) =
-      two-size (expression-nodes kind N s) (expression-nodes kind N t) (terms unit s) (terms unit t) (expression-size s) (expression-size t)
+      two-size (expression-nodes kind N s) (expression-nodes kind N t) (terms s) (terms t) (expression-size s) (expression-size t)
 
 -- ---- entries, over the indices of path reductions
 
-pub entry-written : (count : ℕ) (t : Term ℕ) → Every (λ i. i < count) t → Written (terms unit t) (expression-bytes OfEntry t) (entry-nodes t)
+pub entry-written : (count : ℕ) (t : Term ℕ) → Every (λ i. i < count) t → Written (terms t) (expression-bytes OfEntry t) (entry-nodes t)
 unfolding term-text
 entry-written = expression-written OfEntry (λ i. node (PathIndex i)) (λ i. byte-one 0x30 i PathIndex (λ s j. refl) (λ s j. refl) refl)
 
 -- its bytes are collected as its nodes
 pub entry-collected : (count : ℕ) (s : List ℕ) (t : Term ℕ) → Every (λ i. i < count) t
-    → Collects s (terms unit t) (expression-bytes OfEntry t) (entry-nodes t)
+    → Collects s (terms t) (expression-bytes OfEntry t) (entry-nodes t)
 entry-collected count s t f = entry-written count t f .collects s
 
 -- the text of its nodes is its bytes
@@ -86,18 +86,18 @@ pub entry-text : (count : ℕ) (t : Term ℕ) → Every (λ i. i < count) t → 
 entry-text count t f = entry-written count t f .text
 
 -- a node for each of its terms
-pub entry-size : (t : Term ℕ) → length (entry-nodes t) ≡ terms unit t
+pub entry-size : (t : Term ℕ) → length (entry-nodes t) ≡ terms t
 entry-size = expression-size OfEntry (λ i. node (PathIndex i))
 
 -- ---- final expressions, over the indices of entries
 
-pub final-written : (count : ℕ) (t : Term ℕ) → Every (λ i. i < count) t → Written (terms unit t) (expression-bytes OfFinal t) (final-nodes t)
+pub final-written : (count : ℕ) (t : Term ℕ) → Every (λ i. i < count) t → Written (terms t) (expression-bytes OfFinal t) (final-nodes t)
 unfolding term-text
 final-written = expression-written OfFinal (λ i. node (EntryIndex i)) (λ i. byte-one 0x31 i EntryIndex (λ s j. refl) (λ s j. refl) refl)
 
 -- its bytes are collected as its nodes
 pub final-collected : (count : ℕ) (s : List ℕ) (t : Term ℕ) → Every (λ i. i < count) t
-    → Collects s (terms unit t) (expression-bytes OfFinal t) (final-nodes t)
+    → Collects s (terms t) (expression-bytes OfFinal t) (final-nodes t)
 final-collected count s t f = final-written count t f .collects s
 
 -- the text of its nodes is its bytes
@@ -105,5 +105,5 @@ pub final-text : (count : ℕ) (t : Term ℕ) → Every (λ i. i < count) t → 
 final-text count t f = final-written count t f .text
 
 -- a node for each of its terms
-pub final-size : (t : Term ℕ) → length (final-nodes t) ≡ terms unit t
+pub final-size : (t : Term ℕ) → length (final-nodes t) ≡ terms t
 final-size = expression-size OfFinal (λ i. node (EntryIndex i))

@@ -7,7 +7,7 @@ use native.Mathlib.Omega.{arith}
 use borrow.Author.Tests.{ltb-false, leb-false, eqb-true, eqb-false, le-ltb, lt-leb, eq-eqb, ne-eqb}
 use lib.Dec.{leb, ltb, eqb}
 use lib.ListN.{length, getD, drop, length-append, length-drop}
-use Rattle.meaning.specs.Limits.{BodyLegal, Expression, PlanLegal, entry-terms, plan-terms, terms, unit}
+use Rattle.meaning.specs.Limits.{BodyLegal, Expression, PlanLegal, entry-terms, plan-terms, terms}
 use Rattle.meaning.specs.Plan.{Body, Plan, each-vertex, one-result}
 use Rattle.meaning.specs.Query.{PathReduction}
 use Rattle.fields.specs.Fields.{opening-code}
@@ -66,7 +66,7 @@ module _ (s : List ℕ) where
       entry-complete s 0 (plain-entry t) w1 cs rest z (moved-table w cs (w .at + 1) (w .reductions) tb (tb .few-reductions)) refl next
       (record { low = omega arith; condition = tt; body = l; terms = omega arith }) (omega arith) in
       let reads : body-scan 0 s w ≡ entry-scan 0 s w1 = body-scanned 0 1 w z h b refl ∙ rw (eq-eqb (w .code) 0 z) refl in
-      subst (λ (v : Progress). Further w v cs (length (body-bytes (each-vertex t))) (terms unit t) 1) (sym reads)
+      subst (λ (v : Progress). Further w v cs (length (body-bytes (each-vertex t))) (terms t) 1) (sym reads)
       (record { code = a .code; at = omega (arith, a .at); terms = omega (arith, a .terms); reductions = omega (arith, a .reductions); table = a .table })
   body-complete (one-result es t) w cs rest z tb n none e l k =
       let c = length es in

@@ -8,7 +8,7 @@ use native.Mathlib.Omega.{arith}
 use borrow.Author.Tests.{ltb-false, leb-true, leb-false, eqb-true, eqb-false, le-ltb, le-leb, lt-leb, eq-eqb, ne-eqb}
 use lib.Dec.{leb, ltb, eqb}
 use lib.ListN.{length, getD, drop, length-append}
-use Rattle.meaning.specs.Limits.{EntryLegal, Expression, Optional, condition-terms, entry-terms, terms, unit}
+use Rattle.meaning.specs.Limits.{EntryLegal, Expression, Optional, condition-terms, entry-terms, terms}
 use Rattle.meaning.specs.Plan.{Term, VertexReduction}
 use Rattle.meaning.specs.Query.{PathReduction}
 use Rattle.progress.specs.declared.Progress.{Progress}
@@ -41,14 +41,14 @@ module _ (s : List ℕ) (m : TermKind) (held : Progress → ℕ) (kept : (w w′
     (no-literal : eqb (index-tag m) (literal-tag m) ≡ false) (no-operator : eqb (index-tag m) (literal-tag m + 1) ≡ false) where
   -- its bytes are read as it; and what is read are its bytes
   pub expr-complete : (t : Term ℕ) (w : Progress) (cs : List PathReduction) (rest : List ℕ) → w .code ≡ 0 → Table w cs → held w ≤ 256
-      → drop (w .at) s ≡ expression-bytes m t ++ rest → Expression (held w) t → w .terms + terms unit t ≤ 64
-      → Passed w (read m 16 s w) cs (length (expression-bytes m t)) (terms unit t) 0
+      → drop (w .at) s ≡ expression-bytes m t ++ rest → Expression (held w) t → w .terms + terms t ≤ 64
+      → Passed w (read m 16 s w) cs (length (expression-bytes m t)) (terms t) 0
   expr-complete t w cs rest z tb few e x l =
       expression-complete s m (held w) few held kept is-index no-other no-literal no-operator t 16 w cs rest z tb refl e
       (record { fine = x .0; shallow = x .1; terms = l; paths = tb .few; reductions = omega (arith, tb .few-reductions) })
 
   pub expr-sound : Bytes s → (w : Progress) (cs : List PathReduction) → w .code ≡ 0 → Table w cs → held w ≤ 256 → read m 16 s w .code ≡ 0
-      → (t : Term ℕ) × (rest : List ℕ) × (drop (w .at) s ≡ expression-bytes m t ++ rest) × Expression (held w) t × (w .terms + terms unit t ≤ 64)
+      → (t : Term ℕ) × (rest : List ℕ) × (drop (w .at) s ≡ expression-bytes m t ++ rest) × Expression (held w) t × (w .terms + terms t ≤ 64)
   expr-sound bytes w cs z tb few e =
       let f = expression-sound s m (held w) few held kept is-index no-other no-literal no-operator bytes 16 w cs z tb refl e in
       let room = f .3 in
@@ -92,7 +92,7 @@ pub record EntryFits (z count : ℕ) (d : VertexReduction ℕ) : Type 0 where
   pub low : d .reduction < 128
   pub condition : Optional (Expression count) (d .condition)
   pub body : Expression count (d .body)
-  pub terms : z + (condition-terms (d .condition) + terms unit (d .body)) ≤ 64
+  pub terms : z + (condition-terms (d .condition) + terms (d .body)) ≤ 64
 
 -- what stands behind its reduction byte: its condition's expression, where there is one, and its value's
 abbrev behind-byte : VertexReduction ℕ → List ℕ
@@ -117,8 +117,8 @@ module _ (s : List ℕ) where
 
   -- an expression of an entry
   term-complete : (t : Term ℕ) (w : Progress) (cs : List PathReduction) (rest : List ℕ) → w .code ≡ 0 → Table w cs
-      → drop (w .at) s ≡ expression-bytes OfEntry t ++ rest → Expression (length cs) t → w .terms + terms unit t ≤ 64
-      → Passed w (read OfEntry 16 s w) cs (length (expression-bytes OfEntry t)) (terms unit t) 0
+      → drop (w .at) s ≡ expression-bytes OfEntry t ++ rest → Expression (length cs) t → w .terms + terms t ≤ 64
+      → Passed w (read OfEntry 16 s w) cs (length (expression-bytes OfEntry t)) (terms t) 0
   unfolding leaf-step literal-tag
   term-complete t w cs rest z tb e x l =
       expr-complete s OfEntry paths-of (λ w w′ p q. p) (λ w. refl) (λ tag w p. rw p refl) refl refl t w cs rest z tb (omega (arith, tb .count, tb .few)) e
@@ -126,7 +126,7 @@ module _ (s : List ℕ) where
 
   term-sound : Bytes s → (w : Progress) (cs : List PathReduction) → w .code ≡ 0 → Table w cs → read OfEntry 16 s w .code ≡ 0
       → (t : Term ℕ) × (rest : List ℕ) × (drop (w .at) s ≡ expression-bytes OfEntry t ++ rest) × Expression (length cs) t
-      × (w .terms + terms unit t ≤ 64)
+      × (w .terms + terms t ≤ 64)
   unfolding leaf-step literal-tag
   term-sound bytes w cs z tb e =
       let f = expr-sound s OfEntry paths-of (λ w w′ p q. p) (λ w. refl) (λ tag w p. rw p refl) refl refl bytes w cs z tb
@@ -139,7 +139,7 @@ module _ (s : List ℕ) where
       → drop (w .at) s ≡ (condition-bytes o ++ expression-bytes OfEntry t) ++ rest
       → EntryFits (w .terms) (length cs) (record { reduction = r; condition = o; body = t })
       → Passed w (expressions-scan (reduction-byte r o) s w) cs (length (condition-bytes o ++ expression-bytes OfEntry t))
-      (condition-terms o + terms unit t) 0
+      (condition-terms o + terms t) 0
   unfolding expressions-scan
   expressions-complete r none t w cs rest z tb e fits =
       let a = term-complete t w cs rest z tb e (fits .body) (omega (arith, fits .terms)) in
@@ -209,7 +209,7 @@ module _ (s : List ℕ) where
   pub entry-complete : (kind : ℕ) (d : VertexReduction ℕ) (w : Progress) (cs : List PathReduction) (rest : List ℕ) → w .code ≡ 0 → Table w cs
       → reduction-code kind (reduction-byte (d .reduction) (d .condition)) ≡ 0
       → drop (w .at) s ≡ entry-bytes d ++ rest → EntryFits (w .terms) (length cs) d → w .reductions < 8
-      → Passed w (entry-scan kind s w) cs (length (entry-bytes d)) (condition-terms (d .condition) + terms unit (d .body)) 1
+      → Passed w (entry-scan kind s w) cs (length (entry-bytes d)) (condition-terms (d .condition) + terms (d .body)) 1
   unfolding moved
   entry-complete kind d w cs rest z tb c e fits few =
       let b = reduction-byte (d .reduction) (d .condition) in
@@ -218,7 +218,7 @@ module _ (s : List ℕ) where
       let next = drop-on s (w .at) 1 (b ∷ []) (behind-byte d ++ rest) e refl in
       let a = expressions-complete (d .reduction) (d .condition) (d .body) (moved w (w .at + 1) (w .reductions + 1)) cs rest z
       (moved-table w cs (w .at + 1) (w .reductions + 1) tb (omega arith)) next fits in
-      subst (λ (v : Progress). Passed w v cs (length (entry-bytes d)) (condition-terms (d .condition) + terms unit (d .body)) 1)
+      subst (λ (v : Progress). Passed w v cs (length (entry-bytes d)) (condition-terms (d .condition) + terms (d .body)) 1)
       (sym (entry-scanned kind b w h here c few))
       (record { code = a .code; at = omega (arith, a .at); terms = a .terms; reductions = omega (arith, a .reductions); table = a .table })
 

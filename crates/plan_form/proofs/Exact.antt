@@ -9,7 +9,7 @@ use borrow.Author.Tests.{le-leb, le-ltb, lt-ltb, eq-eqb, eqb-true}
 use lib.Dec.{eqb}
 use lib.ListN.{length, drop, take, length-append, length-map}
 use lib.Seq.{drop-at, take-at}
-use Rattle.meaning.specs.Limits.{BodyLegal, EntryLegal, Expression, Optional, PathFits, PlanLegal, condition-terms, entry-terms, plan-terms, terms, unit}
+use Rattle.meaning.specs.Limits.{BodyLegal, EntryLegal, Expression, Optional, PathFits, PlanLegal, condition-terms, entry-terms, plan-terms, terms}
 use Rattle.meaning.specs.Plan.{Body, Plan, Term, VertexReduction, each-vertex, one-result}
 use Rattle.meaning.specs.Query.{PathReduction}
 use Rattle.nodes.specs.declared.Node.{Node}
@@ -71,8 +71,8 @@ module _ (count : ℕ) where
       let g = f .0 in
       let c = e .condition in
       let r = reduction-byte (e .reduction) c in
-      let terms-are : suc (condition-terms c + (terms unit (e .body) + (entry-terms es + length es)))
-      ≡ condition-terms c + terms unit (e .body) + entry-terms es + suc (length es) = omega arith in
+      let terms-are : suc (condition-terms c + (terms (e .body) + (entry-terms es + length es)))
+      ≡ condition-terms c + terms (e .body) + entry-terms es + suc (length es) = omega arith in
       same-written terms-are
       (ap (λ (l : List ℕ). r ∷ l) (sym (append-assoc (condition-bytes c) (expression-bytes OfEntry (e .body)) (entries-bytes es))))
       (more-written (entry-one r (entry-byte (e .reduction) c (g .1)))
@@ -81,9 +81,9 @@ module _ (count : ℕ) where
   -- of a whole body
   body-written : (b : Body) → BodyLegal count b → Written (plan-terms b + entry-count b) (inner b) (body-nodes b)
   body-written (each-vertex t) l =
-      same-written (let z : suc (terms unit t) ≡ terms unit t + 1 = omega arith in z) refl (more-written (entry-one 0 refl) (entry-written count t (l .0)))
+      same-written (let z : suc (terms t) ≡ terms t + 1 = omega arith in z) refl (more-written (entry-one 0 refl) (entry-written count t (l .0)))
   body-written (one-result es t) l =
-      same-written (let z : entry-terms es + length es + terms unit t ≡ entry-terms es + terms unit t + length es = omega arith in z) refl
+      same-written (let z : entry-terms es + length es + terms t ≡ entry-terms es + terms t + length es = omega arith in z) refl
       (both-written (entries-written es (l .1)) (final-written (length es) t (l .2 .0)))
 
 -- where their bytes stand: behind the path reductions of six bytes each

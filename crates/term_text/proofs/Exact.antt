@@ -8,7 +8,7 @@ use native.Mathlib.Omega.{arith}
 use borrow.Author.Tests.{ltb-false, leb-false, eqb-true, eqb-false, le-ltb, lt-leb}
 use lib.Dec.{leb, ltb, eqb}
 use lib.ListN.{length, getD, drop, length-append}
-use Rattle.meaning.specs.Limits.{Every, TermFits, depth, depth-of, size-of, terms, unit}
+use Rattle.meaning.specs.Limits.{Every, TermFits, depth, depth-of, size-of, terms}
 use Rattle.meaning.specs.Plan.{Term, apply, leaf, literal}
 use Rattle.meaning.specs.Query.{Kind, PathReduction, QueryTerm, VertexTerm, number, operator, over, over-where, path, paths, reduction-count, result, vertex}
 use Rattle.wire.specs.Wire.{Bytes, le16}
@@ -248,7 +248,7 @@ module _ (s : List ℕ) where
 -- what the reader sees of a plan's expression, whose indices stay below a count
 abbrev pub expression-piece : TermKind → ℕ → Term ℕ → Piece
 expression-piece m count t =
-    record { bytes = expression-bytes m t; size = terms unit t; deep = depth unit t; paths = []; count = 0; fine = Every (λ i. i < count) t }
+    record { bytes = expression-bytes m t; size = terms t; deep = depth t; paths = []; count = 0; fine = Every (λ i. i < count) t }
 
 -- `held` is the count that the state holds
 module _ (s : List ℕ) (m : TermKind) (count : ℕ) (few : count ≤ 256) (held : Progress → ℕ)

@@ -8,7 +8,7 @@ use borrow.Author.Tests.{eq-eqb, ne-eqb}
 use lib.Dec.{eqb}
 use lib.ListN.{length, getD, drop, length-append}
 use lib.Seq.{take-at}
-use Rattle.meaning.specs.Limits.{Every, PathFits, TermFits, depth, depth-of, unit}
+use Rattle.meaning.specs.Limits.{Every, PathFits, TermFits, depth, depth-of}
 use Rattle.meaning.specs.Plan.{Term, apply, leaf, literal}
 use Rattle.meaning.specs.Query.{Kind, PathReduction, QueryTerm, VertexTerm, number, operator, over, over-where, path, result, vertex}
 use Rattle.terms.specs.declared.TermKind.{TermKind}
@@ -154,11 +154,11 @@ term-back s κ (operator o t u) f (suc d) h at rest e =
 -- AN EXPRESSION of a plan, whose literals have the byte `tag`
 module _ (m : TermKind) (tag count : ℕ) (literals : literal-tag m ≡ tag) (p : eqb (index-tag m) tag ≡ false) (q : eqb (index-tag m) (tag + 1) ≡ false)
     (s : List ℕ) where
-  expression-back-to : (t : Term ℕ) → Every (λ i. i < count) t → (d : ℕ) → depth unit t ≤ d → Back (expression-to d tag) (expression-bytes m) s t
+  expression-back-to : (t : Term ℕ) → Every (λ i. i < count) t → (d : ℕ) → depth t ≤ d → Back (expression-to d tag) (expression-bytes m) s t
   unfolding expression-to written-index
   expression-back-to t f zero h at rest e = absurd (no-level t h)
     where
-      no-level : (t : Term ℕ) → depth unit t ≤ 0 → ⊥
+      no-level : (t : Term ℕ) → depth t ≤ 0 → ⊥
       no-level (leaf i) h = omega arith
       no-level (literal x) h = omega arith
       no-level (apply o t u) h = omega arith
@@ -173,7 +173,7 @@ module _ (m : TermKind) (tag count : ℕ) (literals : literal-tag m ≡ tag) (p 
       operator-back literal apply tag (expression-to d tag) written-index s o (expression-bytes m t) (expression-bytes m u) t u
       (expression-back-to t (f .2) d (omega arith)) (expression-back-to u (f .3) d (omega arith)) at rest (rw literals at e)
 
-  pub expression-back : (t : Term ℕ) → Every (λ i. i < count) t → depth unit t ≤ 16 → Back (expression-of tag) (expression-bytes m) s t
+  pub expression-back : (t : Term ℕ) → Every (λ i. i < count) t → depth t ≤ 16 → Back (expression-of tag) (expression-bytes m) s t
   expression-back t f h = expression-back-to t f 16 h
 
 -- SEVERAL THINGS, one behind the other, where each is given back

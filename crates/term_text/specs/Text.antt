@@ -28,7 +28,8 @@ query-bytes κ (over-where o c t) = 0x23 ∷ o ∷ (query-bytes vertex c ++ quer
 query-bytes κ (number x) = literal-tag (of-kind κ) ∷ le32 x
 query-bytes κ (operator o s t) = (literal-tag (of-kind κ) + 1) ∷ o ∷ (query-bytes κ s ++ query-bytes κ t)
 
--- "Worksheet expressions use 0x30 and a chain's index for a chain, 0x31 and an entry's index for a reduction; operators and literals keep their bytes."
+-- "Worksheet expressions use 0x30 and a chain's index for a chain, 0x31 and an entry's index for a reduction; operators and literals keep their bytes." (A
+-- query's terms have no index; they are given the byte of the expression that they are fused to.)
 abbrev pub index-tag : TermKind → ℕ
 index-tag OfVertex = 0x30
 index-tag OfResult = 0x31

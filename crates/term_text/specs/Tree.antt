@@ -46,9 +46,8 @@ written-path s i =
 unfoldable pub written-reduction : Reader VertexTerm → Reader ResultTerm
 written-reduction read s i = elim (eqb (getD s i 0) 0x23) [ true ↦ two-of over-where read s i | false ↦ one-of over read s i ]
 
--- "one term written operator first", to so many levels of depth. "Place terms: ..; 0x11 and a 32-bit literal; 0x12, operator, two place terms." "Result
--- terms: ..;
--- 0x21 and a 32-bit literal; 0x22, operator, two result terms"
+-- "one term written operator first", to so many levels of depth. "Place terms: ..; 0x11 and a 32-bit literal; 0x12, operator, two place terms. Result terms:
+-- ..; 0x21 and a 32-bit literal; 0x22, operator, two result terms"
 unfoldable pub query-term-of : (depth : ℕ) → (κ : Kind) → Reader (QueryTerm κ)
 query-term-of zero κ s i = record { tree = number 0; end = i }
 query-term-of (suc depth) vertex s i = by-tag number operator 0x11 (query-term-of depth vertex) written-path s i

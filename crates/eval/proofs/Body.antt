@@ -26,7 +26,7 @@ use Rattle.value.specs.Value.{reduce, values}
 use Rattle.value.proofs.Chosen.{left-out}
 use Rattle.walks.specs.Lists.{All}
 use Rattle.eval.specs.declared.Found.{Found}
-use Rattle.eval.specs.Steps.{body-found, eight, entries-end, entry-end, entry-found, entry-rows, evaluated, final-found, found, results, row}
+use Rattle.eval.specs.Steps.{body-found, condition-found, eight, entries-end, entry-end, entry-found, entry-rows, evaluated, expression-end, final-found, results, row}
 use Rattle.eval.proofs.Laws.{row-value}
 use Rattle.eval.proofs.Tree.{entry-value, evaluate-same, final-value}
 
@@ -59,31 +59,60 @@ abbrev worth-of : List Value → Option (Term ℕ) → Term ℕ → Value
 worth-of vs none t = evaluate vs t
 worth-of vs (some c) t = where-counts (evaluate vs c) (evaluate vs t)
 
+-- where an expression of an entry ends
+expression-ends : (count : ℕ) (s : List ℕ) (t : Term ℕ) → Expression count t → (at : ℕ) (rest : List ℕ) → drop at s ≡ expression-bytes OfEntry t ++ rest
+    → expression-end s at ≡ at + length (expression-bytes OfEntry t)
+unfolding expression-end
+expression-ends count s t g at rest e = ap (λ (x : Found). x .next) (entry-value count s (eight []) t g at rest e)
+
 module _ (count : ℕ) (s : List ℕ) (r : ℕ) (small : r ≤ 5) (at : ℕ) (rest : List ℕ) where
-  -- what is found where its text stands, and the position behind it
+  -- what it is worth where its text stands
   entry-value-at : (o : Option (Term ℕ)) (t : Term ℕ) → Optional (Expression count) o → Expression count t → drop at s ≡ entry-text r o t ++ rest
-      → (rows : List Row) → entry-found s rows at ≡ found (worth-of (values rows) o t) (at + length (entry-text r o t))
-  unfolding entry-found
+      → (rows : List Row) → entry-found s rows at ≡ worth-of (values rows) o t
+  unfolding entry-found condition-found
   entry-value-at none t f g e rows =
       let l = expression-bytes OfEntry t in
       let d = drop-on s at 1 (r ∷ []) (l ++ rest) e refl in
-      let end : at + 1 + length l ≡ at + suc (length l) = omega arith in
       rw (lt-leb (length s) at (there s at r (l ++ rest) e), tag-there s at r (l ++ rest) e, lt-leb 128 r (omega arith))
-      (entry-value count s rows t g (at + 1) rest d ∙ ap (found (evaluate (values rows) t)) end)
+      (ap (λ (x : Found). x .value) (entry-value count s rows t g (at + 1) rest d))
   entry-value-at (some c) t f g e rows =
       let k = expression-bytes OfEntry c in
       let l = expression-bytes OfEntry t in
       let d1 : drop (at + 1) s ≡ k ++ (l ++ rest) = drop-on s at 1 ((128 + r) ∷ []) ((k ++ l) ++ rest) e refl ∙ append-assoc k l rest in
       let d2 = drop-on s (at + 1) (length k) k (l ++ rest) d1 refl in
-      let end : at + 1 + length k + length l ≡ at + suc (length (k ++ l)) = omega (arith, length-append k l) in
       rw (
         lt-leb (length s) at (there s at (128 + r) ((k ++ l) ++ rest) e),
         tag-there s at (128 + r) ((k ++ l) ++ rest) e,
         le-leb 128 (128 + r) (omega arith),
         entry-value count s rows c f (at + 1) (l ++ rest) d1,
         entry-value count s rows t g (at + 1 + length k) rest d2,
-        end,
       ) refl
+
+  -- and where it ends
+  entry-end-at : (o : Option (Term ℕ)) (t : Term ℕ) → Optional (Expression count) o → Expression count t → drop at s ≡ entry-text r o t ++ rest
+      → entry-end s at ≡ at + length (entry-text r o t)
+  unfolding entry-end
+  entry-end-at none t f g e =
+      let l = expression-bytes OfEntry t in
+      let d = drop-on s at 1 (r ∷ []) (l ++ rest) e refl in
+      rw (
+        lt-leb (length s) at (there s at r (l ++ rest) e),
+        tag-there s at r (l ++ rest) e,
+        lt-leb 128 r (omega arith),
+        expression-ends count s t g (at + 1) rest d,
+      ) (omega arith)
+  entry-end-at (some c) t f g e =
+      let k = expression-bytes OfEntry c in
+      let l = expression-bytes OfEntry t in
+      let d1 : drop (at + 1) s ≡ k ++ (l ++ rest) = drop-on s at 1 ((128 + r) ∷ []) ((k ++ l) ++ rest) e refl ∙ append-assoc k l rest in
+      let d2 = drop-on s (at + 1) (length k) k (l ++ rest) d1 refl in
+      rw (
+        lt-leb (length s) at (there s at (128 + r) ((k ++ l) ++ rest) e),
+        tag-there s at (128 + r) ((k ++ l) ++ rest) e,
+        le-leb 128 (128 + r) (omega arith),
+        expression-ends count s c f (at + 1) (l ++ rest) d1,
+        expression-ends count s t g (at + 1 + length k) rest d2,
+      ) (omega (arith, length-append k l))
 
 -- two tables, value by value
 where-table : (f g : ℕ → Value) (n i : ℕ) → tabulate n i (λ v. where-counts (f v) (g v)) ≡ all-where (tabulate n i f) (tabulate n i g)
@@ -110,9 +139,9 @@ module _ (n count : ℕ) (F : ℕ → List Row) (G : ℕ → List Value) (agrees
       → values (entry-rows s at F n) ≡ tabulate n zero (λ v. worth-of (G v) o t)
   unfolding entry-rows
   entry-rows-value r small o t f g at rest e =
-      row-values (λ v. entry-found s (F v) at .value) n zero
-      ∙ tabulate-same (λ v. entry-found s (F v) at .value) (λ v. worth-of (G v) o t) n
-      (λ v h. ap (λ (x : Found). x .value) (entry-value-at count s r small at rest o t f g e (F v)) ∙ worth-same o t f g v h)
+      row-values (λ v. entry-found s (F v) at) n zero
+      ∙ tabulate-same (λ v. entry-found s (F v) at) (λ v. worth-of (G v) o t) n
+      (λ v h. entry-value-at count s r small at rest o t f g e (F v) ∙ worth-same o t f g v h)
 
   -- THE ENTRIES, one after the other
   record Entries (es : List (VertexReduction ℕ)) (at : ℕ) : Type 0 where
@@ -121,7 +150,7 @@ module _ (n count : ℕ) (F : ℕ → List Row) (G : ℕ → List Value) (agrees
 
   entries-value : (es : List (VertexReduction ℕ)) → All (EntryLegal count) es → (at : ℕ) (rest : List ℕ) → drop at s ≡ entries-bytes es ++ rest
       → Entries es at
-  unfolding results entries-end entry-end
+  unfolding results entries-end
   entries-value [] a at rest e = record { worth = refl; end = omega arith }
   entries-value (x ∷ es) a at rest e =
       let r = x .reduction in
@@ -132,7 +161,7 @@ module _ (n count : ℕ) (F : ℕ → List Row) (G : ℕ → List Value) (agrees
       let e1 : drop at s ≡ l ++ (entries-bytes es ++ rest) = e ∙ append-assoc l (entries-bytes es) rest in
       let tag = tag-there s at (reduction-byte r o) _ e1 in
       let rows = entry-rows-value r (f .1) o t (f .2) (f .3) at (entries-bytes es ++ rest) e1 in
-      let next = ap (λ (x : Found). x .next) (entry-value-at count s r (f .1) at (entries-bytes es ++ rest) o t (f .2) (f .3) e1 (eight [])) in
+      let next = entry-end-at count s r (f .1) at (entries-bytes es ++ rest) o t (f .2) (f .3) e1 in
       let others = entries-value es (a .1) (at + length l) rest (drop-on s at (length l) l (entries-bytes es ++ rest) e1 refl) in
       record {
         worth = rw (tag, reduction-read r o (omega (arith, f .1)), rows, worth-reduced r n G o t, next, others .worth) refl;

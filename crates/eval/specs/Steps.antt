@@ -56,20 +56,27 @@ row v = record { value = v }
 abbrev pub eight : List Value → List Row
 eight vs = map row vs ++ replicate (8 - length vs) (row Absent)
 
--- the entry whose reduction byte stands at `at`, at one vertex: its value, absent where its condition leaves the vertex out, and where it ends
-unfoldable pub entry-found : List ℕ → List Row → ℕ → Found
-entry-found s rows at =
-    let c = evaluated 16 s rows (at + 1) in
-    let x = evaluated 16 s rows (c .next) in
-    cond (leb (length s) at) (found Absent at) (cond (leb 128 (getD s at 0)) (found (where-counts (c .value) (x .value)) (x .next)) c)
+-- a condition at `at` and the value behind it: absent where the condition leaves the vertex out
+unfoldable pub condition-found : List ℕ → List Row → ℕ → Value
+condition-found s rows at = let c = evaluated 16 s rows at in where-counts (c .value) (evaluated 16 s rows (c .next) .value)
 
--- where an entry ends
+-- the value of the entry whose reduction byte stands at `at`, at one vertex
+unfoldable pub entry-found : List ℕ → List Row → ℕ → Value
+entry-found s rows at =
+    cond (leb (length s) at) Absent (cond (leb 128 (getD s at 0)) (condition-found s rows (at + 1)) (evaluated 16 s rows (at + 1) .value))
+
+-- where an expression ends, and an entry
+unfoldable pub expression-end : List ℕ → ℕ → ℕ
+expression-end s at = evaluated 16 s (eight []) at .next
+
 unfoldable pub entry-end : List ℕ → ℕ → ℕ
-entry-end s at = entry-found s (eight []) at .next
+entry-end s at =
+    let end = expression-end s (at + 1) in
+    cond (leb (length s) at) at (cond (leb 128 (getD s at 0)) (expression-end s end) end)
 
 -- the entry at `at`, at each of the n vertices
 unfoldable pub entry-rows : List ℕ → ℕ → (ℕ → List Row) → ℕ → List Row
-entry-rows s at F n = tabulate n zero (λ v. row (entry-found s (F v) at .value))
+entry-rows s at F n = tabulate n zero (λ v. row (entry-found s (F v) at))
 
 -- "e entries, each a reduction byte and an expression": their results, "over all n places", the first entry at `at`
 unfoldable pub results : ℕ → List ℕ → ℕ → (ℕ → List Row) → ℕ → List Value

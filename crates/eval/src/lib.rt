@@ -5,7 +5,7 @@ use value::Value;
 ghost use mathlib.Core.Path.{_≡_};
 ghost use lib.ListN.{getD};
 ghost use Rattle.value.specs.Value.{values};
-ghost use Rattle.eval.specs.Steps.{entry-end, entry-found, evaluated, head, one-of};
+ghost use Rattle.eval.specs.Steps.{condition-found, entry-end, evaluated, expression-end, head, one-of};
 
 // The value of a term, and where the term behind it starts.
 pub struct Found {
@@ -98,38 +98,39 @@ pub fn evaluate(s: &[u8], rows: [Row; 8], at: usize, left: usize) -> Found
     }
 }
 
-// The entry whose reduction byte stands at `at`, of the values of the path reductions at a vertex: with 128 added to that byte the condition precedes the
-// value, which is absent where the vertex does not count. Also where the entry ends.
-pub fn entry(s: &[u8], rows: [Row; 8], at: usize) -> Found
-    ensures { λ r. ⌜ r ≡ entry-found (now (s .entry)) rows at ⌝ }
+// A condition at `at`, and the value behind it: absent where the vertex does not count.
+pub fn condition(s: &[u8], rows: [Row; 8], at: usize) -> Value
+    ensures { λ r. ⌜ r ≡ condition-found (now (s .entry)) rows at ⌝ }
 {
-    if s.len() <= at {
-        return Found {
-            value: Value::Absent,
-            next: at,
-        };
-    }
-    let first = evaluate(s, rows, at + 1, 16);
-    if s[at] < 128 {
-        return first;
-    }
+    let first = evaluate(s, rows, at, 16);
     let second = evaluate(s, rows, first.next, 16);
-    let condition = first.value;
+    let counts = first.value;
     let value = second.value;
-    Found {
-        value: value::where_counts(condition, value),
-        next: second.next,
-    }
+    value::where_counts(counts, value)
 }
 
-// Where the entry ends: that rests on its bytes alone.
-pub fn entry_end(s: &[u8], at: usize) -> usize
-    ensures { λ r. ⌜ r ≡ entry-end (now (s .entry)) at ⌝ }
+// Where the expression at `at` ends: that rests on its bytes alone.
+fn expression_end(s: &[u8], at: usize) -> usize
+    ensures { λ r. ⌜ r ≡ expression-end (now (s .entry)) at ⌝ }
 {
     let absent = Row {
         value: Value::Absent,
     };
     let rows = [absent; 8];
-    let found = entry(s, rows, at);
+    let found = evaluate(s, rows, at, 16);
     found.next
+}
+
+// Where the entry ends.
+pub fn entry_end(s: &[u8], at: usize) -> usize
+    ensures { λ r. ⌜ r ≡ entry-end (now (s .entry)) at ⌝ }
+{
+    if s.len() <= at {
+        return at;
+    }
+    let end = expression_end(s, at + 1);
+    if s[at] < 128 {
+        return end;
+    }
+    expression_end(s, end)
 }

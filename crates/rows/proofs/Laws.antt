@@ -36,7 +36,7 @@ rows-at-filled figures paths v = eight-filled (λ j. value-in figures j v) (min 
 
 -- the row of an entry at the vertex v
 abbrev pub entry-row : List ℕ → (ℕ → List Row) → ℕ → ℕ → Row
-entry-row s F at v = row (entry-found s (F v) at .value)
+entry-row s F at v = row (entry-found s (F v) at)
 
 -- where entry k starts, the first at `at`
 module _ (s : List ℕ) where

@@ -7,7 +7,7 @@ ghost use mathlib.Core.List.{_∷_, []};
 ghost use Prim.Native.Nat.{_+_, _%_, _≤_, min};
 ghost use lib.ListN.{getD};
 ghost use Rattle.value.specs.Value.{reduce, values};
-ghost use Rattle.eval.specs.Steps.{body-found, count-at, eight, entries-end, entry-rows, final-found, results, row};
+ghost use Rattle.eval.specs.Steps.{body-found, count-at, eight, entries-end, entry-found, entry-rows, final-found, results, row};
 ghost use Rattle.rounds.specs.Steps.{value-in};
 ghost use Rattle.rows.specs.Steps.{many, rows-at};
 
@@ -78,6 +78,21 @@ fn values_at(figures: &[u32], paths: usize, v: usize) -> [Row; 8]
     rows
 }
 
+// The value at the vertex v of the entry whose reduction byte stands at `at`: with 128 added to that byte the condition precedes the value. (The values of the
+// path reductions are made where they are handed on: an array handed through a function more is copied once more, at each vertex.)
+fn entry_value(plan: &[u8], at: usize, figures: &[u32], paths: usize, v: usize) -> Value
+    ensures { λ r. ⌜ r ≡ entry-found (now (plan .entry)) (rows-at (now (figures .entry)) paths v) at ⌝ }
+{
+    if plan.len() <= at {
+        return Value::Absent;
+    }
+    if 128 <= plan[at] {
+        return eval::condition(plan, values_at(figures, paths, v), at + 1);
+    }
+    let found = eval::evaluate(plan, values_at(figures, paths, v), at + 1, 16);
+    found.value
+}
+
 // The entry at `at`, at each of the n vertices.
 fn entry_rows(plan: &[u8], at: usize, figures: &[u32], paths: usize, n: usize) -> [Row; 256]
     requires { ⌜ n ≤ 256 ⌝ }
@@ -89,8 +104,7 @@ fn entry_rows(plan: &[u8], at: usize, figures: &[u32], paths: usize, n: usize) -
     let mut rows = [absent; 256];
     let mut v: usize = 0;
     while v < n {
-        let found = eval::entry(plan, values_at(figures, paths, v), at);
-        let value = found.value;
+        let value = entry_value(plan, at, figures, paths, v);
         rows[v] = Row { value };
         v += 1;
     }

@@ -8,7 +8,6 @@ use lib.ListN.{set}
 use Rattle.value.specs.declared.Row.{Row}
 use Rattle.value.specs.declared.Value.{Value}
 use Rattle.value.specs.declared.Value.the-variants.{Absent}
-use Rattle.eval.specs.declared.Found.{Found}
 use Rattle.eval.specs.Steps.{entry-found, row}
 use Rattle.eval.proofs.Fill.{filled, fill-next, fill-none}
 use Rattle.rows.specs.Steps.{rows-at}
@@ -28,20 +27,19 @@ loop-holds c =
     (omega arith, sym (fill-none 256 (entry-row (a .plan .now) (rows-at (a .figures .now) (a .paths)) (a .at)) (row Absent)))
 
 mul-rows : tie.Need-mul-rows Inv-loop μ-loop
-mul-rows c = omega (arith, c .before .before .before .before .before .before .pre)
+mul-rows c = omega (arith, c .before .before .before .before .before .pre)
 
 array-set-from-rows : tie.Need-array-set-from-rows Inv-loop μ-loop
-array-set-from-rows c = omega (arith, c .before .before .before .before .before .before .pre)
+array-set-from-rows c = omega (arith, c .before .before .before .before .before .pre)
 
 loop-again : tie.Need-loop-again Inv-loop μ-loop
 loop-again c =
-    let s = c .before .before .before .before .before .before in
+    let s = c .before .before .before .before .before in
     let a = s .args in
-    let l = c .before .before .before .loop in
-    let F : ℕ → List Row = rows-at (a .figures .now) (a .paths) in
-    let one = c .entry .ensures ∙ ap (λ (rows : List Row). entry-found (a .plan .now) rows (a .at)) (c .before .values-at .ensures) in (
+    let l = c .before .before .loop in
+    let F : ℕ → List Row = rows-at (a .figures .now) (a .paths) in (
       omega arith,
-      ap₂ (λ (rows : List Row) (value : Value). set rows (l .v) (row value)) (l .inv .1) (ap (λ (f : Found). f .value) one)
+      ap₂ (λ (rows : List Row) (value : Value). set rows (l .v) (row value)) (l .inv .1) (c .entry-value .ensures)
           ∙ fill-next 256 (entry-row (a .plan .now) F (a .at)) (row Absent) (l .v) (omega (arith, s .pre)),
     )
 
@@ -56,5 +54,5 @@ returns c =
 pub entry-rows-spec : {M : Type 1} → statement M
 entry-rows-spec =
     tie.close
-    (tie.spec Inv-loop μ-loop loop-holds (λ c κs. search needs) (λ c κs. search needs) mul-rows array-set-from-rows (λ c. search needs)
+    (tie.spec Inv-loop μ-loop loop-holds (λ c κs. search needs) mul-rows array-set-from-rows (λ c. search needs)
     (λ c. search needs) loop-again returns)

@@ -26,7 +26,8 @@ use Rattle.value.specs.Value.{reduce, values}
 use Rattle.value.proofs.Chosen.{left-out}
 use Rattle.walks.specs.Lists.{All}
 use Rattle.eval.specs.declared.Found.{Found}
-use Rattle.eval.specs.Steps.{body-found, condition-found, eight, entries-end, entry-end, entry-found, entry-rows, evaluated, expression-end, final-found, results, row}
+use Rattle.eval.specs.Steps.{body-found, condition-found, eight, entries-end, entry-end, entry-found, entry-rows, evaluated, expression-end}
+use Rattle.eval.specs.Steps.{final-found, results, row}
 use Rattle.eval.proofs.Laws.{row-value}
 use Rattle.eval.proofs.Tree.{entry-value, evaluate-same, final-value}
 
@@ -60,8 +61,8 @@ worth-of vs none t = evaluate vs t
 worth-of vs (some c) t = where-counts (evaluate vs c) (evaluate vs t)
 
 -- where an expression of an entry ends
-expression-ends : (count : ℕ) (s : List ℕ) (t : Term ℕ) → Expression count t → (at : ℕ) (rest : List ℕ) → drop at s ≡ expression-bytes OfEntry t ++ rest
-    → expression-end s at ≡ at + length (expression-bytes OfEntry t)
+expression-ends : (count : ℕ) (s : List ℕ) (t : Term ℕ) → Expression count t → (at : ℕ) (rest : List ℕ)
+    → drop at s ≡ expression-bytes OfEntry t ++ rest → expression-end s at ≡ at + length (expression-bytes OfEntry t)
 unfolding expression-end
 expression-ends count s t g at rest e = ap (λ (x : Found). x .next) (entry-value count s (eight []) t g at rest e)
 

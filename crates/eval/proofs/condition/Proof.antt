@@ -1,5 +1,4 @@
 -- `eval::condition` meets its contract. Assumes nothing.
-use mathlib.Core.Path.{refl}
 use borrow.Author.Needs.{needs}
 use Rattle.eval.specs.Steps.{condition-found}
 use Rattle.eval.proofs.condition.Statement.{statement}

@@ -8,7 +8,7 @@ use lib.ListN.{set}
 use Rattle.value.specs.declared.Row.{Row}
 use Rattle.value.specs.declared.Value.{Value}
 use Rattle.value.specs.declared.Value.the-variants.{Absent}
-use Rattle.eval.specs.Steps.{entry-found, row}
+use Rattle.eval.specs.Steps.{row}
 use Rattle.eval.proofs.Fill.{filled, fill-next, fill-none}
 use Rattle.rows.specs.Steps.{rows-at}
 use Rattle.rows.proofs.Laws.{entry-filled, entry-row}

@@ -1,11 +1,9 @@
 -- `rows::entry_value` meets its contract. Assumes nothing.
-use mathlib.Core.Path.{refl, ap, _∙_}
-use mathlib.Core.List.{List}
+use mathlib.Core.Path.{refl, ap}
 use borrow.Author.Needs.{needs}
 use borrow.Author.Tests.{le-leb, lt-leb}
-use Rattle.value.specs.declared.Row.{Row}
 use Rattle.eval.specs.declared.Found.{Found}
-use Rattle.eval.specs.Steps.{condition-found, entry-found, evaluated}
+use Rattle.eval.specs.Steps.{entry-found}
 use Rattle.rows.proofs.entry_value.Statement.{statement}
 use Rattle.rows.proofs.entry_value.Tie as tie
 
@@ -26,5 +24,5 @@ returns-3 c = rw (lt-leb _ _ (c .before .before .before .before .if1 .left), lt-
 pub entry-value-spec : {M : Type 1} → statement M
 entry-value-spec =
     tie.close
-    (tie.spec returns (λ c. search needs) (λ c κs. search needs) (λ c. search needs) (λ c κs. search needs) returns-2 (λ c κs. search needs) (λ c. search needs)
-    (λ c κs. search needs) returns-3)
+    (tie.spec returns (λ c. search needs) (λ c κs. search needs) (λ c. search needs) (λ c κs. search needs) returns-2
+    (λ c κs. search needs) (λ c. search needs) (λ c κs. search needs) returns-3)

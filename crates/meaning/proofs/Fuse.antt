@@ -40,6 +40,7 @@ module _ (L : PathReduction → ℕ → Value → Type 0) (F : PathReduction →
   In vertex v = v < n
   In result v = Unit {0}
 
+  -- a table of values that mean a term means it at the vertices
   table-means : (t : VertexTerm) → ((v : ℕ) → v < n → Means L n t v (value F n t v)) → AtVertices n (Means L n t) (tabulate n zero (value F n t))
   table-means t f = (tabulate-length n zero _, λ v h. subst (Means L n t v) (sym (tabulate-at n v (value F n t) Absent h)) (f v h))
 
@@ -63,9 +64,11 @@ module _ (F : PathReduction → ℕ → Value) (n : ℕ) (cs : List PathReductio
   abbrev at : ℕ → List Value
   at v = map (λ c. F c v) cs
 
+  -- they stand among cs
   abbrev Has : List PathReduction → Type 0
   Has = All (λ c. T (among c cs))
 
+  -- an expression has the value of its vertex term
   expression-value : (t : VertexTerm) → Has (paths t) → (v : ℕ) → evaluate (at v) (expression cs t) ≡ value F n t v
   expression-value (path c) h v = position-at (λ c. F c v) Absent c cs (h .0)
   expression-value (number x) h v = refl
@@ -82,12 +85,12 @@ module _ (F : PathReduction → ℕ → Value) (n : ℕ) (cs : List PathReductio
   -- the value at an index behind those of ys
   there : (xs ys zs : List Value) (k : ℕ) (y : Value) → length ys ≡ k → xs ≡ ys ++ (y ∷ zs) → getD xs k Absent ≡ y
   there xs ys zs k y l e =
-      ap₂ (λ (r : List Value) (i : ℕ). getD r i Absent) e (let p : k ≡ length ys + zero = omega (arith, l) in p) ∙ getD-append-add ys
-      (y ∷ zs) zero Absent
+      ap₂ (λ (r : List Value) (i : ℕ). getD r i Absent) e (let p : k ≡ length ys + zero = omega (arith, l) in p)
+      ∙ getD-append-add ys (y ∷ zs) zero Absent
 
   -- where the results of its entries stand from k on, the final expression has the value of the result term
-  final-value : (t : ResultTerm) → Has (paths t) → (xs ys zs : List Value) (k : ℕ) → length ys ≡ k → xs ≡ ys ++ (made t ++ zs) → evaluate xs
-      (final k t) ≡ value F n t tt
+  final-value : (t : ResultTerm) → Has (paths t) → (xs ys zs : List Value) (k : ℕ) → length ys ≡ k → xs ≡ ys ++ (made t ++ zs)
+      → evaluate xs (final k t) ≡ value F n t tt
   final-value (over o t) h xs ys zs k l e = there xs ys zs k _ l e ∙ ap (reduce o) (tabulate-same n zero _ _ (expression-value t h))
   final-value (over-where o c t) h xs ys zs k l e =
       there xs ys zs k _ l e

@@ -28,14 +28,14 @@ module _ (n : ℕ) where
   legal-paths (single t) h = term-paths t h
 
 -- a vertex term has no reduction; a result term has as many entries as reductions
-no-reductiont : (t : VertexTerm) → reduction-count t ≡ 0
-no-reductiont (path c) = refl
-no-reductiont (number x) = refl
-no-reductiont (operator o s t) = omega (arith, no-reductiont s, no-reductiont t)
+no-reduction : (t : VertexTerm) → reduction-count t ≡ 0
+no-reduction (path c) = refl
+no-reduction (number x) = refl
+no-reduction (operator o s t) = omega (arith, no-reduction s, no-reduction t)
 
 pub entries-length : (cs : List PathReduction) (t : ResultTerm) → length (entries cs t) ≡ reduction-count t
-entries-length cs (over o t) = omega (arith, no-reductiont t)
-entries-length cs (over-where o c t) = omega (arith, no-reductiont c, no-reductiont t)
+entries-length cs (over o t) = omega (arith, no-reduction t)
+entries-length cs (over-where o c t) = omega (arith, no-reduction c, no-reduction t)
 entries-length cs (number x) = refl
 entries-length cs (operator o s t) = length-append (entries cs s) (entries cs t) ∙ ap₂ _+_ (entries-length cs s) (entries-length cs t)
 
@@ -44,6 +44,7 @@ entry-append [] ds = omega arith
 entry-append (e ∷ es) ds = omega (arith, entry-append es ds)
 
 module _ (cs : List PathReduction) where
+  -- they stand among cs
   abbrev Has : List PathReduction → Type 0
   Has = All (λ c. T (among c cs))
 

@@ -22,6 +22,7 @@ path-unique g W c v x y p q =
     p .2 ∙ ap value (figures-unique N (c .keys) (W N v) (p .0) (q .0) (p .1) (q .1)) ∙ sym (q .2)
 
 module _ (L : PathReduction → ℕ → Value → Type 0) (u : (c : PathReduction) (v : ℕ) (x y : Value) → L c v x → L c v y → x ≡ y) (n : ℕ) where
+  -- the values at the vertices are one list, where each vertex has one value
   vertices-unique : (M : ℕ → Value → Type 0) → ((v : ℕ) (x y : Value) → M v x → M v y → x ≡ y) → (xs ys : List Value)
       → AtVertices n M xs → AtVertices n M ys → xs ≡ ys
   vertices-unique M m xs ys p q =

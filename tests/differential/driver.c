@@ -591,6 +591,11 @@ int main(int argc, char **argv)
     }
     printf("answers that start with a number %llu, with more rounds than places %llu, most rounds %llu\n", numbered, past_places, most_rounds);
     printf("conditions at a place: absent %llu, 0 %llu, another number %llu\n", plain_conditions[0], plain_conditions[1], plain_conditions[2]);
+    for (int i = 0; i < 3; i++)
+        if (cases >= 1000 && plain_conditions[i] == 0) {
+            printf("the cases have no such condition\n");
+            return 1;
+        }
     printf("%llu cases, 0 differences\n", cases);
     return 0;
 }

@@ -104,9 +104,9 @@ pub fn condition(s: &[u8], rows: [Row; 8], at: usize) -> Value
 {
     let first = evaluate(s, rows, at, 16);
     let second = evaluate(s, rows, first.next, 16);
-    let counts = first.value;
+    let test = first.value;
     let value = second.value;
-    value::where_counts(counts, value)
+    value::where_counts(test, value)
 }
 
 // Where the expression at `at` ends: that rests on its bytes alone.
@@ -121,7 +121,7 @@ fn expression_end(s: &[u8], at: usize) -> usize
     found.next
 }
 
-// Where the entry ends.
+// Where the entry whose reduction byte stands at `at` ends.
 pub fn entry_end(s: &[u8], at: usize) -> usize
     ensures { λ r. ⌜ r ≡ entry-end (now (s .entry)) at ⌝ }
 {

@@ -36,7 +36,8 @@ fn position_of(table: [u64; 8], w: u64) -> usize
     8
 }
 
-// What a node of a query is in the entries of its plan; empty for one of a result term, which is in none.
+// What a node of a query is in the entries of its plan: a reduction is the byte of its entry, 128 added with a condition; empty for a literal or an operator of
+// a result term, which is in none.
 fn entry_term_of(t: Term, table: [u64; 8]) -> Term
     ensures { λ r. ⌜ r ≡ entry-term table t ⌝ }
 {

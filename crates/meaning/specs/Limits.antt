@@ -37,7 +37,7 @@ PathFits n c = T (legal-keys (c .keys)) × SourceFits n (c .source)
 abbrev pub QueryFits : Graph → Query → Type 0
 QueryFits g q = All (PathFits (g .vertices)) (written-paths q)
 
--- how many terms; how deep, "the root has depth 1"
+-- how many terms; how deep, "The root has depth 1"
 abbrev pub size-of : {κ : Kind} → QueryTerm κ → ℕ
 size-of (path c) = 1
 size-of (over o t) = suc (size-of t)
@@ -85,7 +85,7 @@ pub record QueryLegal (n : ℕ) (q : Query) : Type 0 where
   pub few-paths : length (put-all [] (written-paths q)) ≤ 8
   pub few-reductions : query-reductions q ≤ 8
 
--- the same of expressions
+-- how many terms an expression has; how deep it is
 abbrev pub terms : {A : Type 0} → Term A → ℕ
 terms (leaf a) = 1
 terms (literal k) = 1
@@ -124,7 +124,8 @@ abbrev pub plan-terms : Body → ℕ
 plan-terms (each-vertex t) = terms t
 plan-terms (one-result es t) = entry-terms es + terms t
 
--- "Kind 0 has e = 1 and reduction byte 0; kind 1 has e from 0 to 8 and reduction bytes 1 to 5."
+-- "Kind 0 has e = 1 and reduction byte 0; kind 1 has e from 0 to 8 and reduction bytes 1 to 5." (without the 128 of a condition, which is as legal as the
+-- value)
 abbrev pub EntryLegal : ℕ → VertexReduction ℕ → Type 0
 EntryLegal c e = (1 ≤ e .reduction) × (e .reduction ≤ 5) × Optional (Expression c) (e .condition) × Expression c (e .body)
 

@@ -28,21 +28,21 @@ PathWithin g r = PathOver g (λ N v. Within N r v)
 abbrev pub AtVertices : ℕ → (ℕ → Value → Type 0) → List Value → Type 0
 AtVertices n M xs = (length xs ≡ n) × ((v : ℕ) → v < n → M v (getD xs v Absent))
 
-module _ (L : PathReduction → ℕ → Value → Type 0) (n : ℕ) where
-  -- what a term is worth, where L says it of a path reduction at a vertex: "a reduction goes over all n places", or over those that count; "a literal is its
-  -- number, at every place in a place term; an operator joins the values of its two terms, at the same place in a place term"
-  abbrev pub Means : {κ : Kind} → QueryTerm κ → At κ → Value → Type 0
-  Means (path c) v x = L c v x
-  Means (over o t) v x = (xs : List Value) × AtVertices n (Means t) xs × (x ≡ reduce o xs)
-  Means (over-where o c t) v x =
-      (cs : List Value) × (xs : List Value) × AtVertices n (Means c) cs × AtVertices n (Means t) xs × (x ≡ reduce o (chosen cs xs))
-  Means (number y) v x = x ≡ Number y
-  Means (operator o s t) v x = (a : Value) × (b : Value) × Means s v a × Means t v b × (x ≡ operate o a b)
+-- what a term is worth on n vertices, where L says it of a path reduction at a vertex: "a reduction goes over all n places", or over those that count by a
+-- condition (document 02, a); "a literal is its number, at every place in a place term; an operator joins the values of its two terms, at the same place in a
+-- place term"
+abbrev pub Means : (PathReduction → ℕ → Value → Type 0) → ℕ → {κ : Kind} → QueryTerm κ → At κ → Value → Type 0
+Means L n (path c) v x = L c v x
+Means L n (over o t) v x = (xs : List Value) × AtVertices n (Means L n t) xs × (x ≡ reduce o xs)
+Means L n (over-where o c t) v x =
+    (cs : List Value) × (xs : List Value) × AtVertices n (Means L n c) cs × AtVertices n (Means L n t) xs × (x ≡ reduce o (chosen cs xs))
+Means L n (number y) v x = x ≡ Number y
+Means L n (operator o s t) v x = (a : Value) × (b : Value) × Means L n s v a × Means L n t v b × (x ≡ operate o a b)
 
-  -- the rows of an answer: "n rows for kind 0 or one row for kind 1"
-  abbrev pub Rows : Query → List Value → Type 0
-  Rows (each t) xs = AtVertices n (Means t) xs
-  Rows (single t) xs = (x : Value) × Means t tt x × (xs ≡ x ∷ [])
+-- the rows of an answer: "n rows for kind 0 or one row for kind 1"
+abbrev pub Rows : (PathReduction → ℕ → Value → Type 0) → ℕ → Query → List Value → Type 0
+Rows L n (each t) xs = AtVertices n (Means L n t) xs
+Rows L n (single t) xs = (x : Value) × Means L n t tt x × (xs ≡ x ∷ [])
 
 -- THE MEANING OF A QUERY over all walks, and over walks of at most r edges
 abbrev pub Unfused : Graph → Query → List Value → Type 0

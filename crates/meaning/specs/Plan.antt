@@ -14,7 +14,7 @@ pub data Term (A : Type 0) : Type 0 where
   literal : ℕ → Term A
   apply : ℕ → Term A → Term A → Term A
 
--- an entry with its reduction, over all vertices or over those that count by the condition
+-- an entry with its reduction, over all vertices or over those that count by the condition (document 02, a)
 pub record VertexReduction (A : Type 0) : Type 0 where
   pub reduction : ℕ
   pub condition : Option (Term A)
@@ -53,19 +53,18 @@ abbrev pub put-all : List PathReduction → List PathReduction → List PathRedu
 put-all cs [] = cs
 put-all cs (d ∷ ds) = put-all (put cs d) ds
 
-module _ (cs : List PathReduction) where
-  -- a vertex term over the indices of the path reductions cs: "0x30 and a chain's index for a chain ..; operators and literals keep their bytes"
-  abbrev pub expression : VertexTerm → Term ℕ
-  expression (path c) = leaf (position c cs)
-  expression (number x) = literal x
-  expression (operator o s t) = apply o (expression s) (expression t)
+-- a vertex term over the indices of the path reductions cs: "0x30 and a chain's index for a chain ..; operators and literals keep their bytes"
+abbrev pub expression : List PathReduction → VertexTerm → Term ℕ
+expression cs (path c) = leaf (position c cs)
+expression cs (number x) = literal x
+expression cs (operator o s t) = apply o (expression cs s) (expression cs t)
 
-  -- "and reductions in order of writing": the entries of a result term
-  abbrev pub entries : ResultTerm → List (VertexReduction ℕ)
-  entries (over o t) = record { reduction = o; condition = none; body = expression t } ∷ []
-  entries (over-where o c t) = record { reduction = o; condition = some (expression c); body = expression t } ∷ []
-  entries (number x) = []
-  entries (operator o s t) = entries s ++ entries t
+-- "and reductions in order of writing": the entries of a result term
+abbrev pub entries : List PathReduction → ResultTerm → List (VertexReduction ℕ)
+entries cs (over o t) = record { reduction = o; condition = none; body = expression cs t } ∷ []
+entries cs (over-where o c t) = record { reduction = o; condition = some (expression cs c); body = expression cs t } ∷ []
+entries cs (number x) = []
+entries cs (operator o s t) = entries cs s ++ entries cs t
 
 -- a result term over the indices of its entries, the first being k: "0x31 and an entry's index for a reduction"
 abbrev pub final : ℕ → ResultTerm → Term ℕ
@@ -74,6 +73,7 @@ final k (over-where o c t) = leaf k
 final k (number x) = literal x
 final k (operator o s t) = apply o (final k s) (final (k + reduction-count s) t)
 
+-- the expressions of the plan: for kind 0 the vertex term's, for kind 1 the entries and the final one
 abbrev pub fuse-body : List PathReduction → Query → Body
 fuse-body cs (each t) = each-vertex (expression cs t)
 fuse-body cs (single t) = one-result (entries cs t) (final zero t)

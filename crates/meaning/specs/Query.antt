@@ -28,8 +28,8 @@ network-of g c = network g every-edge (starts (g .vertices) (c .source))
 pub data Kind : Type 0 where
   vertex result : Kind
 
--- the terms of each kind: a path reduction (0x10); a reduction over all vertices (0x20), or of those that count, "a place term as condition, a place term as
--- value" (0x23); of both kinds "a 32-bit literal" (0x11, 0x21), and "operator, two [..] terms" (0x12, 0x22)
+-- the terms of each kind: a path reduction (0x10); a reduction over all vertices (0x20), or over those that count, "a place term as condition, a place term as
+-- value" (0x23, document 02, a); of both kinds "a 32-bit literal" (0x11, 0x21), and "operator, two [..] terms" (0x12, 0x22)
 pub data QueryTerm : Kind → Type 0 where
   path : PathReduction → QueryTerm vertex
   over : ℕ → QueryTerm vertex → QueryTerm result
@@ -66,7 +66,7 @@ abbrev pub written-paths : Query → List PathReduction
 written-paths (each t) = paths t
 written-paths (single t) = paths t
 
--- how many reductions a term has; one with a condition "counts as one reduction"
+-- how many reductions a term has; one with a condition "counts as one reduction" (document 02, a)
 abbrev pub reduction-count : {κ : Kind} → QueryTerm κ → ℕ
 reduction-count (path c) = zero
 reduction-count (over o t) = suc (reduction-count t)

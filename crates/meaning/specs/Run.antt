@@ -28,11 +28,11 @@ abbrev pub tabulate : {A : Type 0} → ℕ → ℕ → (ℕ → A) → List A
 tabulate zero i f = []
 tabulate (suc n) i f = f i ∷ tabulate n (suc i) f
 
--- the rows of a plan's body on n vertices, where the path reductions have the values F v at the vertex v
+-- the values of an expression at the n vertices, where the path reductions have the values F v at the vertex v
 abbrev pub at-vertices : (ℕ → List Value) → ℕ → Term ℕ → List Value
 at-vertices F n t = tabulate n zero (λ v. evaluate (F v) t)
 
--- those of them that count by a condition, all where there is none; a reduction
+-- those of them that count by a condition, all where there is none; an entry's result
 abbrev pub picked : (ℕ → List Value) → ℕ → Option (Term ℕ) → List Value → List Value
 picked F n none xs = xs
 picked F n (some c) xs = chosen (at-vertices F n c) xs
@@ -40,6 +40,7 @@ picked F n (some c) xs = chosen (at-vertices F n c) xs
 abbrev pub reduced : (ℕ → List Value) → ℕ → VertexReduction ℕ → Value
 reduced F n e = reduce (e .reduction) (picked F n (e .condition) (at-vertices F n (e .body)))
 
+-- the rows of a plan's body: n for kind 0, one for kind 1
 abbrev pub body-rows : Body → (ℕ → List Value) → ℕ → List Value
 body-rows (each-vertex t) F n = at-vertices F n t
 body-rows (one-result es t) F n = evaluate (map (reduced F n) es) t ∷ []

@@ -56,6 +56,7 @@ listed-scan zero s w = w
 listed-scan (suc k) s w = cond (eqb (w .code) 0) (listed-scan k s (listed-step s w)) w
 
 -- "Kind 0 has .. reduction byte 0; kind 1 has .. reduction bytes 1 to 5"; with a condition "the entry's reduction byte has 128 added"
+-- (document 02, a)
 abbrev pub reduction-code : ℕ → ℕ → ℕ
 reduction-code kind b = cond (eqb kind 0) (filler-code b) (cond (ltb 255 b) 1 (code-of (b % 128) 5))
 

@@ -19,7 +19,7 @@ abbrev pub all-listed-bytes : List PathReduction → List ℕ
 all-listed-bytes [] = []
 all-listed-bytes (c ∷ cs) = listed-bytes c ++ all-listed-bytes cs
 
--- "the entry's reduction byte has 128 added and the condition's expression precedes the value's"
+-- "the entry's reduction byte has 128 added and the condition's expression precedes the value's" (document 02, a)
 abbrev pub reduction-byte : ℕ → Option (Term ℕ) → ℕ
 reduction-byte r none = r
 reduction-byte r (some c) = 128 + r

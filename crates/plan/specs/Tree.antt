@@ -14,7 +14,7 @@ use Rattle.wire.specs.Wire.{at16}
 unfoldable pub listed-path : Reader PathReduction
 listed-path s i = record { tree = record { keys = take (getD s i 0) (drop (i + 1) s); source = at16 s (i + 4) }; end = i + 6 }
 
--- "a reduction byte and an expression"; with 128 added "the condition's expression precedes the value's"
+-- "a reduction byte and an expression"; with 128 added "the condition's expression precedes the value's" (document 02, a)
 unfoldable pub entry-of : Reader (VertexReduction ℕ)
 entry-of s i =
     let t = expression-of 0x11 s (i + 1) in

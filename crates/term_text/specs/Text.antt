@@ -20,7 +20,7 @@ of-kind vertex = OfVertex
 of-kind result = OfResult
 
 -- "Place terms: 0x10, key count .. ; 0x11 and a 32-bit literal; 0x12, operator, two place terms. Result terms: 0x20, reduction, a place term; 0x21 and a 32-bit
--- literal; 0x22, operator, two result terms"; 0x23: "reduction, a place term as condition, a place term as value"
+-- literal; 0x22, operator, two result terms"; 0x23: "reduction, a place term as condition, a place term as value" (document 02, a)
 abbrev pub query-bytes : (κ : Kind) → QueryTerm κ → List ℕ
 query-bytes κ (path c) = 0x10 ∷ path-bytes c
 query-bytes κ (over o t) = 0x20 ∷ o ∷ query-bytes vertex t

@@ -18,7 +18,7 @@ pub record Read (A : Type 0) : Type 0 where
 abbrev pub Reader : Type 0 → Type 0
 Reader A = List ℕ → ℕ → Read A
 
--- what stands behind two bytes, its second byte and one thing or two: "reduction, a place term", "operator, two .. terms"
+-- two bytes, the second a number, and one thing or two behind them: "reduction, a place term", "operator, two .. terms"
 abbrev pub one-of : {A B : Type 0} → (ℕ → A → B) → Reader A → Reader B
 one-of make read s i = let t = read s (i + 2) in record { tree = make (getD s (i + 1) 0) (t .tree); end = t .end }
 
@@ -42,7 +42,7 @@ written-path s i =
     let n = getD s (i + 1) 0 in
     record { tree = path (record { keys = take n (drop (i + 2) s); source = at16 s (i + 2 + n) }); end = i + 4 + n }
 
--- "0x20, reduction, a place term", and 0x23: "reduction, a place term as condition, a place term as value"
+-- "0x20, reduction, a place term", and 0x23: "reduction, a place term as condition, a place term as value" (document 02, a)
 unfoldable pub written-reduction : Reader VertexTerm → Reader ResultTerm
 written-reduction read s i = elim (eqb (getD s i 0) 0x23) [ true ↦ two-of over-where read s i | false ↦ one-of over read s i ]
 

@@ -43,8 +43,8 @@ path-step s w =
     let at = w .at + 1 in
     cond (eqb (path-code s at) 0) (alone (kept-path (advanced w (at + 3 + getD s at 256)) (path-word s at))) (refused-step (path-code s at))
 
--- "0x20, reduction, a place term", and "reduction, a place term as condition, a place term as value": so many place terms follow; "A reduction's 14 follows
--- its byte."
+-- "0x20, reduction, a place term", and 0x23, "reduction, a place term as condition, a place term as value" (document 02, a): so many place terms follow; "A
+-- reduction's 14 follows its byte."
 unfoldable pub reduce-step : ℕ → List ℕ → Progress → Step
 reduce-step follow s w =
     let c = code-of (getD s (w .at + 1) 256) 5 in

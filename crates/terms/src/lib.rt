@@ -175,7 +175,7 @@ fn apply_step_of(s: &[u8], w: Progress, kind: TermKind) -> Step
     }
 }
 
-// A chain, by its first byte.
+// A chain, by its first byte; any other is 9.
 fn path_leaf_of(s: &[u8], w: Progress, tag: u8) -> Step
     requires { ⌜ (w .at < length (now s)) × (w .terms < 64) ⌝ }
     ensures { λ r. ⌜ r ≡ cond (eqb tag 0x10) (path-step (now (s .entry)) w) (refused-step 9) ⌝ }
@@ -186,7 +186,7 @@ fn path_leaf_of(s: &[u8], w: Progress, tag: u8) -> Step
     refuse(9)
 }
 
-// A reduction without or with a condition.
+// A reduction without or with a condition; any other byte is 9.
 fn reduce_leaf_of(s: &[u8], w: Progress, tag: u8) -> Step
     requires { ⌜ (w .at < length (now s)) × (w .terms < 64) ⌝ }
     ensures { λ r. ⌜ r ≡ leaf-step TermKind.OfResult tag (now (s .entry)) w ⌝ }
@@ -200,7 +200,7 @@ fn reduce_leaf_of(s: &[u8], w: Progress, tag: u8) -> Step
     refuse(9)
 }
 
-// An index behind its byte.
+// An index behind its own byte; any other is 9.
 fn index_leaf_of(s: &[u8], w: Progress, tag: u8, own: u8, count: usize) -> Step
     requires { ⌜ (w .at < length (now s)) × (w .terms < 64) ⌝ }
     ensures { λ r. ⌜ r ≡ cond (eqb tag own) (index-step (now (s .entry)) w count) (refused-step 9) ⌝ }

@@ -12,11 +12,11 @@ use Rattle.terms.specs.declared.TermKind.the-variants.{OfEntry, OfFinal}
 use Rattle.term_text.specs.Text.{expression-bytes, index-tag, of-kind, query-bytes}
 use Rattle.nodes.specs.declared.Node.{Node}
 use Rattle.nodes.specs.declared.Term.the-variants.{EntryIndex, PathIndex, Reduce, ReduceWhere}
-use Rattle.nodes.specs.Text.{nodes-text, term-text}
+use Rattle.nodes.specs.Text.{term-text}
 use Rattle.nodes.specs.Nodes.{node}
 use Rattle.nodes.specs.Tree.{entry-nodes, expression-nodes, final-nodes, query-nodes}
 use Rattle.nodes.proofs.Fields.{One, apply-one, byte-one, literal-one, path-one}
-use Rattle.nodes.proofs.Shape.{Collects, Written, both-written, more-written, one-written}
+use Rattle.nodes.proofs.Shape.{Written, both-written, more-written, one-written}
 
 -- a node, and those of two terms
 two-size : (l r : List Node) (n m : ℕ) → length l ≡ n → length r ≡ m → suc (length (l ++ r)) ≡ suc (n + m)
@@ -24,7 +24,7 @@ two-size l r n m p q = ap suc (length-append l r ∙ ap₂ _+_ p q)
 
 -- ---- terms of queries, of both kinds
 
--- both laws
+-- the bytes are collected as the nodes, and the text of these is the bytes
 pub query-written : (κ : Kind) (t : QueryTerm κ) → TermFits 256 t → Written (size-of t) (query-bytes κ t) (query-nodes κ t)
 unfolding term-text
 query-written κ (path c) f = one-written (path-one c f)
@@ -36,14 +36,6 @@ query-written κ (number x) f = one-written (literal-one (of-kind κ) x f)
 query-written κ (operator o s t) f =
     more-written (apply-one (of-kind κ) o) (both-written (query-written κ s (f .2)) (query-written κ t (f .3)))
 
--- its bytes are collected as its nodes
-pub query-collected : (s : List ℕ) (κ : Kind) (t : QueryTerm κ) → TermFits 256 t → Collects s (size-of t) (query-bytes κ t) (query-nodes κ t)
-query-collected s κ t f = query-written κ t f .collects s
-
--- the text of its nodes is its bytes
-pub query-text : (κ : Kind) (t : QueryTerm κ) → TermFits 256 t → nodes-text (query-nodes κ t) ≡ query-bytes κ t
-query-text κ t f = query-written κ t f .text
-
 -- a node for each of its terms
 pub query-size : (κ : Kind) (t : QueryTerm κ) → length (query-nodes κ t) ≡ size-of t
 query-size κ (path c) = refl
@@ -54,7 +46,7 @@ query-size κ (operator o s t) = two-size (query-nodes κ s) (query-nodes κ t) 
 
 -- ---- expressions of plans, over the node of an index
 
--- the same, where both hold of an index
+-- the same, where it holds of an index
 module _ (kind : TermKind) (N : ℕ → Node) where
   expression-written : ((i : ℕ) → One (index-tag kind ∷ i ∷ []) (N i)) → (count : ℕ) (t : Term ℕ) → Every (λ i. i < count) t
       → Written (terms t) (expression-bytes kind t) (expression-nodes kind N t)
@@ -76,15 +68,6 @@ pub entry-written : (count : ℕ) (t : Term ℕ) → Every (λ i. i < count) t �
 unfolding term-text
 entry-written = expression-written OfEntry (λ i. node (PathIndex i)) (λ i. byte-one 0x30 i PathIndex (λ s j. refl) (λ s j. refl) refl)
 
--- its bytes are collected as its nodes
-pub entry-collected : (count : ℕ) (s : List ℕ) (t : Term ℕ) → Every (λ i. i < count) t
-    → Collects s (terms t) (expression-bytes OfEntry t) (entry-nodes t)
-entry-collected count s t f = entry-written count t f .collects s
-
--- the text of its nodes is its bytes
-pub entry-text : (count : ℕ) (t : Term ℕ) → Every (λ i. i < count) t → nodes-text (entry-nodes t) ≡ expression-bytes OfEntry t
-entry-text count t f = entry-written count t f .text
-
 -- a node for each of its terms
 pub entry-size : (t : Term ℕ) → length (entry-nodes t) ≡ terms t
 entry-size = expression-size OfEntry (λ i. node (PathIndex i))
@@ -94,15 +77,6 @@ entry-size = expression-size OfEntry (λ i. node (PathIndex i))
 pub final-written : (count : ℕ) (t : Term ℕ) → Every (λ i. i < count) t → Written (terms t) (expression-bytes OfFinal t) (final-nodes t)
 unfolding term-text
 final-written = expression-written OfFinal (λ i. node (EntryIndex i)) (λ i. byte-one 0x31 i EntryIndex (λ s j. refl) (λ s j. refl) refl)
-
--- its bytes are collected as its nodes
-pub final-collected : (count : ℕ) (s : List ℕ) (t : Term ℕ) → Every (λ i. i < count) t
-    → Collects s (terms t) (expression-bytes OfFinal t) (final-nodes t)
-final-collected count s t f = final-written count t f .collects s
-
--- the text of its nodes is its bytes
-pub final-text : (count : ℕ) (t : Term ℕ) → Every (λ i. i < count) t → nodes-text (final-nodes t) ≡ expression-bytes OfFinal t
-final-text count t f = final-written count t f .text
 
 -- a node for each of its terms
 pub final-size : (t : Term ℕ) → length (final-nodes t) ≡ terms t

@@ -1,4 +1,4 @@
--- Terms read from bytes one after the other, as the program goes. Nothing to believe: `query-collected`, `entry-collected` and `final-collected`
+-- Terms read from bytes one after the other, as the program goes. Nothing to believe: `query-written`, `entry-written` and `final-written`
 -- (proofs/Exact) say that the terms read from a tree's bytes are the tree's nodes.
 use Prim.Native.Nat.{ℕ, zero, suc, _+_, min}
 use mathlib.Core.Bool.{Bool, cond, _||_}

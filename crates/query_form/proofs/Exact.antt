@@ -14,7 +14,7 @@ use Rattle.nodes.specs.declared.Node.{Node}
 use Rattle.nodes.specs.Text.{nodes-text}
 use Rattle.nodes.specs.Steps.{nodes-read}
 use Rattle.nodes.specs.Tree.{query-nodes}
-use Rattle.nodes.proofs.Exact.{query-collected, query-size, query-text}
+use Rattle.nodes.proofs.Exact.{query-size, query-written}
 use Rattle.nodes.proofs.Held.{first-nodes, read-whole}
 use Rattle.query.specs.Query.{encode, query-code, query-scan}
 use Rattle.query.specs.Tree.{query-of}
@@ -32,10 +32,10 @@ nodes-are : (q : Query) → QueryLegal 256 q → nodes-read (query-terms q) (enc
 unfolding form-of
 nodes-are (each t) l =
     read-whole (encode (each t)) 6 (6 + length (query-bytes vertex t)) (query-terms (each t)) (query-nodes vertex t) (omega (arith, l .few-terms))
-    (query-collected (encode (each t)) vertex t (l .legal) 6 0 [] (sym (append-nil (query-bytes vertex t))))
+    (query-written vertex t (l .legal) .collects (encode (each t)) 6 0 [] (sym (append-nil (query-bytes vertex t))))
 nodes-are (single t) l =
     read-whole (encode (single t)) 6 (6 + length (query-bytes result t)) (query-terms (single t)) (query-nodes result t) (omega (arith, l .few-terms))
-    (query-collected (encode (single t)) result t (l .legal) 6 0 [] (sym (append-nil (query-bytes result t))))
+    (query-written result t (l .legal) .collects (encode (single t)) 6 0 [] (sym (append-nil (query-bytes result t))))
 
 -- the form made of the bytes of a legal query is the query's
 form-made : (q : Query) → QueryLegal 256 q → form-after (encode q) (query-terms q) ≡ form-of q
@@ -91,10 +91,10 @@ pub write-form : (q : Query) → QueryLegal 256 q → form-bytes (form-of q) ≡
 unfolding form-of form-bytes
 write-form (each t) l =
     let list = first-nodes (query-terms (each t)) (query-nodes vertex t) (query-size vertex t) in
-    ap (λ (b : List ℕ). header-bytes 0x51 ++ (0 ∷ b)) (ap nodes-text list ∙ query-text vertex t (l .legal))
+    ap (λ (b : List ℕ). header-bytes 0x51 ++ (0 ∷ b)) (ap nodes-text list ∙ query-written vertex t (l .legal) .text)
 write-form (single t) l =
     let list = first-nodes (query-terms (single t)) (query-nodes result t) (query-size result t) in
-    ap (λ (b : List ℕ). header-bytes 0x51 ++ (1 ∷ b)) (ap nodes-text list ∙ query-text result t (l .legal))
+    ap (λ (b : List ℕ). header-bytes 0x51 ++ (1 ∷ b)) (ap nodes-text list ∙ query-written result t (l .legal) .text)
 
 -- WRITING WHAT WAS READ GIVES THE BYTES READ
 pub write-read : (s : List ℕ) → Bytes s → query-code s ≡ 0 → (room : ℕ) → length s ≤ room → write-reply (query-reading s .form) room

@@ -40,7 +40,7 @@ extern "C" {
 #define GRAFS_WORKSHEET_MAX 560
 #define GRAFS_ANSWER_MAX 2314
 
-/* A thread that has so many bytes of stack left can make the call. Measured: some 25,000 and 53,000 bytes; the rest is margin. */
+/* A thread that has so many bytes of stack left can make the call. Measured: some 25,000 and 54,000 bytes; the rest is margin. */
 #define GRAFS_FUSE_STACK 49152
 #define GRAFS_RUN_STACK 98304
 

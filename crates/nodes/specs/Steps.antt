@@ -17,6 +17,10 @@ use Rattle.nodes.specs.Nodes.{node, padded}
 abbrev pub reduction-tag : ℕ → Bool
 reduction-tag tag = ltb tag 0x10 || leb 128 tag
 
+-- what another byte is than a term's first: an entry's reduction byte, or nothing
+abbrev pub entry-tagged : ℕ → Term
+entry-tagged tag = cond (reduction-tag tag) (Entry tag) Empty
+
 -- the term that starts at index i, by its tag: "0x10, key count 1 to 3, the keys, a 16-bit start .. ; 0x11 and a 32-bit literal; 0x12, operator, ..", "0x20,
 -- reduction, a place term; 0x21 and a 32-bit literal; 0x22, operator, ..", 0x23 with a condition, "0x30 and a chain's index for a chain, 0x31 and an entry's
 -- index for a reduction"; "e entries, each a reduction byte and an expression"; empty for another byte
@@ -31,7 +35,7 @@ tagged tag s i =
     (cond (eqb tag 0x23) (ReduceWhere (getD s (i + 1) 0))
     (cond (eqb tag 0x30) (PathIndex (getD s (i + 1) 0))
     (cond (eqb tag 0x31) (EntryIndex (getD s (i + 1) 0))
-    (cond (reduction-tag tag) (Entry tag) Empty)))))))))
+    (entry-tagged tag)))))))))
 
 -- where the next term starts: a path reduction has four bytes and its keys, a literal five, every other term two, a reduction byte is one
 abbrev pub passed : ℕ → List ℕ → ℕ → ℕ

@@ -5,7 +5,7 @@ ghost use Prim.Native.Nat.{_+_, _≤_, _<_};
 ghost use lib.ListN.{length, take};
 ghost use mathlib.Core.List.{_∷_};
 ghost use Rattle.wire.specs.Wire.{le32};
-ghost use Rattle.nodes.specs.Steps.{reduction-tag, term-at, next-at, nodes-read};
+ghost use Rattle.nodes.specs.Steps.{entry-tagged, reduction-tag, term-at, next-at, nodes-read};
 ghost use Rattle.nodes.specs.Text.{key-text, path-text, term-text, nodes-text};
 ghost use Rattle.draft.specs.Steps.{put-list};
 
@@ -39,6 +39,16 @@ fn reduction_byte(tag: u8) -> bool
     128 <= tag
 }
 
+// What another byte is than a term's first: an entry's reduction byte, or nothing.
+fn entry_of(tag: u8) -> Term
+    ensures { λ r. ⌜ r ≡ entry-tagged tag ⌝ }
+{
+    if reduction_byte(tag) {
+        return Term::Entry(tag);
+    }
+    Term::Empty
+}
+
 // The term that starts at i, by its tag.
 fn term_of(s: &[u8], i: usize) -> Term
     ensures { λ r. ⌜ r ≡ term-at (now (s .entry)) i ⌝ }
@@ -47,37 +57,18 @@ fn term_of(s: &[u8], i: usize) -> Term
         return Term::Empty;
     }
     let tag = s[i];
-    if tag == 0x10 {
-        return Term::Path(path_fields::path_word(s, i + 1));
+    match tag {
+        0x10 => Term::Path(path_fields::path_word(s, i + 1)),
+        0x11 => Term::Literal(wire::word(s, i + 1)),
+        0x12 => Term::Apply(wire::byte(s, i + 1)),
+        0x20 => Term::Reduce(wire::byte(s, i + 1)),
+        0x21 => Term::ResultLiteral(wire::word(s, i + 1)),
+        0x22 => Term::ResultApply(wire::byte(s, i + 1)),
+        0x23 => Term::ReduceWhere(wire::byte(s, i + 1)),
+        0x30 => Term::PathIndex(wire::byte(s, i + 1)),
+        0x31 => Term::EntryIndex(wire::byte(s, i + 1)),
+        _ => entry_of(tag),
     }
-    if tag == 0x11 {
-        return Term::Literal(wire::word(s, i + 1));
-    }
-    if tag == 0x12 {
-        return Term::Apply(wire::byte(s, i + 1));
-    }
-    if tag == 0x20 {
-        return Term::Reduce(wire::byte(s, i + 1));
-    }
-    if tag == 0x21 {
-        return Term::ResultLiteral(wire::word(s, i + 1));
-    }
-    if tag == 0x22 {
-        return Term::ResultApply(wire::byte(s, i + 1));
-    }
-    if tag == 0x23 {
-        return Term::ReduceWhere(wire::byte(s, i + 1));
-    }
-    if tag == 0x30 {
-        return Term::PathIndex(wire::byte(s, i + 1));
-    }
-    if tag == 0x31 {
-        return Term::EntryIndex(wire::byte(s, i + 1));
-    }
-    if reduction_byte(tag) {
-        return Term::Entry(tag);
-    }
-    Term::Empty
 }
 
 // Where the term after the one at i starts.

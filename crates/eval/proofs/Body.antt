@@ -67,6 +67,17 @@ unfolding expression-end
 expression-ends count s t g at rest e = ap (λ (x : Found). x .next) (entry-value count s (eight []) t g at rest e)
 
 module _ (count : ℕ) (s : List ℕ) (r : ℕ) (small : r ≤ 5) (at : ℕ) (rest : List ℕ) where
+  -- where a condition and the value behind it stand
+  behind-byte : (c t : Term ℕ) → drop at s ≡ entry-text r (some c) t ++ rest
+      → let k = expression-bytes OfEntry c in
+      let l = expression-bytes OfEntry t in
+      (drop (at + 1) s ≡ k ++ (l ++ rest)) × (drop (at + 1 + length k) s ≡ l ++ rest)
+  behind-byte c t e =
+      let k = expression-bytes OfEntry c in
+      let l = expression-bytes OfEntry t in
+      let d = drop-on s at 1 ((128 + r) ∷ []) ((k ++ l) ++ rest) e refl ∙ append-assoc k l rest in
+      (d, drop-on s (at + 1) (length k) k (l ++ rest) d refl)
+
   -- what it is worth where its text stands
   entry-value-at : (o : Option (Term ℕ)) (t : Term ℕ) → Optional (Expression count) o → Expression count t → drop at s ≡ entry-text r o t ++ rest
       → (rows : List Row) → entry-found s rows at ≡ worth-of (values rows) o t
@@ -79,14 +90,13 @@ module _ (count : ℕ) (s : List ℕ) (r : ℕ) (small : r ≤ 5) (at : ℕ) (re
   entry-value-at (some c) t f g e rows =
       let k = expression-bytes OfEntry c in
       let l = expression-bytes OfEntry t in
-      let d1 : drop (at + 1) s ≡ k ++ (l ++ rest) = drop-on s at 1 ((128 + r) ∷ []) ((k ++ l) ++ rest) e refl ∙ append-assoc k l rest in
-      let d2 = drop-on s (at + 1) (length k) k (l ++ rest) d1 refl in
+      let d = behind-byte c t e in
       rw (
         lt-leb (length s) at (there s at (128 + r) ((k ++ l) ++ rest) e),
         tag-there s at (128 + r) ((k ++ l) ++ rest) e,
         le-leb 128 (128 + r) (omega arith),
-        entry-value count s rows c f (at + 1) (l ++ rest) d1,
-        entry-value count s rows t g (at + 1 + length k) rest d2,
+        entry-value count s rows c f (at + 1) (l ++ rest) (d .0),
+        entry-value count s rows t g (at + 1 + length k) rest (d .1),
       ) refl
 
   -- and where it ends
@@ -105,14 +115,13 @@ module _ (count : ℕ) (s : List ℕ) (r : ℕ) (small : r ≤ 5) (at : ℕ) (re
   entry-end-at (some c) t f g e =
       let k = expression-bytes OfEntry c in
       let l = expression-bytes OfEntry t in
-      let d1 : drop (at + 1) s ≡ k ++ (l ++ rest) = drop-on s at 1 ((128 + r) ∷ []) ((k ++ l) ++ rest) e refl ∙ append-assoc k l rest in
-      let d2 = drop-on s (at + 1) (length k) k (l ++ rest) d1 refl in
+      let d = behind-byte c t e in
       rw (
         lt-leb (length s) at (there s at (128 + r) ((k ++ l) ++ rest) e),
         tag-there s at (128 + r) ((k ++ l) ++ rest) e,
         le-leb 128 (128 + r) (omega arith),
-        expression-ends count s c f (at + 1) (l ++ rest) d1,
-        expression-ends count s t g (at + 1 + length k) rest d2,
+        expression-ends count s c f (at + 1) (l ++ rest) (d .0),
+        expression-ends count s t g (at + 1 + length k) rest (d .1),
       ) (omega (arith, length-append k l))
 
 -- two tables, value by value

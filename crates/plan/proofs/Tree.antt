@@ -1,6 +1,6 @@
 -- THE ENCODING OF A LEGAL PLAN GIVES BACK THE PLAN, AND ACCEPTED BYTES ARE THE ENCODING OF THE PLAN THAT THEY GIVE. Assumes nothing.
 use Prim.Native.Nat.{ℕ, suc, _+_, _-_, _≤_, _<_}
-use mathlib.Core.Path.{_≡_, refl, sym, ap, _∙_, subst}
+use mathlib.Core.Path.{_≡_, refl, sym, ap, _∙_}
 use mathlib.Core.Bool.{Bool, true, false, cond}
 use mathlib.Core.List.{List, [], _∷_, _++_, append-assoc, append-nil}
 use mathlib.Core.Option.{Option, none, some}
@@ -17,7 +17,7 @@ use Rattle.term_text.specs.Text.{expression-bytes}
 use Rattle.term_text.specs.Tree.{Read, expression-of}
 use Rattle.term_text.proofs.Paths.{legal-parts, nth, source-small}
 use Rattle.term_text.proofs.Steps.{drop-on, tag-there}
-use Rattle.term_text.proofs.Tree.{Back, expression-back, several-back, whole}
+use Rattle.term_text.proofs.Tree.{Back, expression-back, given, seen, several-back, whole}
 use Rattle.wire.specs.Wire.{Bytes, at16, le16}
 use Rattle.plan.specs.Plan.{plan-code}
 use Rattle.plan.specs.Text.{all-listed-bytes, body-bytes, encode, entries-bytes, entry-bytes, kind-of, listed-bytes}
@@ -125,7 +125,7 @@ plan-back p l =
 
 -- so a plan is seen from its bytes: accepted bytes are read as one plan
 pub encode-unique : (p q : Plan) → PlanLegal 256 p → PlanLegal 256 q → encode p ≡ encode q → p ≡ q
-encode-unique p q l m e = sym (plan-back p l) ∙ ap plan-of e ∙ plan-back q m
+encode-unique = seen encode plan-of (PlanLegal 256) plan-back
 
 -- THE READER ACCEPTS EVERY LEGAL PLAN'S BYTES
 pub plan-accepted : (p : Plan) → PlanLegal 256 p → plan-code (encode p) ≡ 0
@@ -133,7 +133,4 @@ plan-accepted p l = read-complete p l .accepted
 
 -- WHAT ACCEPTED BYTES GIVE IS LEGAL, AND THEY ARE ITS ENCODING
 pub plan-read : (s : List ℕ) → Bytes s → plan-code s ≡ 0 → PlanLegal 256 (plan-of s) × (encode (plan-of s) ≡ s)
-plan-read s b z =
-    let f = read-sound s b z in
-    let e : f .0 ≡ plan-of s = sym (plan-back (f .0) (f .1)) ∙ ap plan-of (f .2) in
-    (subst (PlanLegal 256) e (f .1), ap encode (sym e) ∙ f .2)
+plan-read s b z = given encode plan-of (PlanLegal 256) plan-back s (read-sound s b z)

@@ -1,12 +1,12 @@
 -- THE ENCODING OF A LEGAL QUERY GIVES BACK THE QUERY, AND ACCEPTED BYTES ARE THE ENCODING OF THE QUERY THAT THEY GIVE. Assumes nothing.
 use Prim.Native.Nat.{ℕ}
-use mathlib.Core.Path.{_≡_, sym, ap, _∙_, subst}
+use mathlib.Core.Path.{_≡_, sym, ap}
 use mathlib.Core.List.{List, [], append-nil}
 use Rattle.meaning.specs.Limits.{QueryLegal}
 use Rattle.meaning.specs.Query.{Query, ResultTerm, VertexTerm, each, result, single, vertex}
 use Rattle.term_text.specs.Text.{query-bytes}
 use Rattle.term_text.specs.Tree.{Read}
-use Rattle.term_text.proofs.Tree.{term-back}
+use Rattle.term_text.proofs.Tree.{given, seen, term-back}
 use Rattle.wire.specs.Wire.{Bytes}
 use Rattle.query.specs.Query.{encode, query-code}
 use Rattle.query.specs.Tree.{query-of}
@@ -24,7 +24,7 @@ query-back (single t) l =
 
 -- so a query is seen from its bytes: accepted bytes are read as one query
 pub encode-unique : (q r : Query) → QueryLegal 256 q → QueryLegal 256 r → encode q ≡ encode r → q ≡ r
-encode-unique q r l m e = sym (query-back q l) ∙ ap query-of e ∙ query-back r m
+encode-unique = seen encode query-of (QueryLegal 256) query-back
 
 -- THE READER ACCEPTS EVERY LEGAL QUERY'S BYTES
 pub query-accepted : (q : Query) → QueryLegal 256 q → query-code (encode q) ≡ 0
@@ -32,7 +32,4 @@ query-accepted q l = read-complete q l .accepted
 
 -- WHAT ACCEPTED BYTES GIVE IS LEGAL, AND THEY ARE ITS ENCODING
 pub query-read : (s : List ℕ) → Bytes s → query-code s ≡ 0 → QueryLegal 256 (query-of s) × (encode (query-of s) ≡ s)
-query-read s b z =
-    let f = read-sound s b z in
-    let e : f .0 ≡ query-of s = sym (query-back (f .0) (f .1)) ∙ ap query-of (f .2) in
-    (subst (QueryLegal 256) e (f .1), ap encode (sym e) ∙ f .2)
+query-read s b z = given encode query-of (QueryLegal 256) query-back s (read-sound s b z)

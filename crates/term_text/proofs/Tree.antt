@@ -1,6 +1,6 @@
 -- THE BYTES OF A LEGAL TERM GIVE BACK THE TERM AND WHERE IT ENDS: a query's (`term-back`), a plan's expression (`expression-back`). Assumes nothing.
 use Prim.Native.Nat.{ℕ, zero, suc, _+_, _^_, _≤_, _<_}
-use mathlib.Core.Path.{_≡_, refl, ap, _∙_}
+use mathlib.Core.Path.{_≡_, refl, sym, ap, _∙_, subst}
 use mathlib.Core.Bool.{Bool, true, false, cond}
 use mathlib.Core.List.{List, [], _∷_, _++_, append-assoc}
 use native.Mathlib.Omega.{arith}
@@ -190,3 +190,13 @@ several-back one L fine text none more s back (a ∷ l) f at rest e =
     let b = several-back one L fine text none more s back l (f .1) (at + length (L a)) rest e2 in
     let end : at + length (L a) + length (text l) ≡ at + length (text (a ∷ l)) = rw (more a l) (omega (arith, length-append (L a) (text l))) in
     rw (back a (f .0) at (text l ++ rest) e1, b, end) refl
+
+-- WHAT A READER GIVES BACK OF EVERY LEGAL THING'S BYTES: the thing is seen from its bytes, and bytes that are a legal thing's are those of what it gives
+module _ {A : Type 0} (encode : A → List ℕ) (of : List ℕ → A) (Legal : A → Type 0) (back : (a : A) → Legal a → of (encode a) ≡ a) where
+  pub seen : (a b : A) → Legal a → Legal b → encode a ≡ encode b → a ≡ b
+  seen a b l m e = sym (back a l) ∙ ap of e ∙ back b m
+
+  pub given : (s : List ℕ) → (a : A) × Legal a × (encode a ≡ s) → Legal (of s) × (encode (of s) ≡ s)
+  given s f =
+      let e : f .0 ≡ of s = sym (back (f .0) (f .1)) ∙ ap of (f .2) in
+      (subst Legal e (f .1), ap encode (sym e) ∙ f .2)

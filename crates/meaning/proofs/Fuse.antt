@@ -14,6 +14,7 @@ use Rattle.walks.specs.Lists.{All}
 use Rattle.meaning.specs.Meaning.{AtVertices, Means, Rows}
 use Rattle.meaning.specs.Plan.{among, entries, expression, final, fuse}
 use Rattle.meaning.specs.Query.{At, Kind, PathReduction, Query, QueryTerm, ResultTerm, VertexTerm, each, number, operator, over, over-where, path}
+use Rattle.meaning.specs.Query.{path-set}
 use Rattle.meaning.specs.Query.{paths, result, single, vertex, reduction-count, written-paths}
 use Rattle.meaning.specs.Run.{body-rows, evaluate, reduced, tabulate}
 use Rattle.meaning.proofs.Limits.{entries-length}
@@ -24,6 +25,7 @@ use Rattle.meaning.proofs.Paths.{position-at, put-all-has}
 module _ (F : PathReduction → ℕ → Value) (n : ℕ) where
   abbrev value : {κ : Kind} → QueryTerm κ → At κ → Value
   value (path c) v = F c v
+  value (path-set c) v = F c v
   value (over o t) v = reduce o (tabulate n zero (value t))
   value (over-where o c t) v = reduce o (chosen (tabulate n zero (value c)) (tabulate n zero (value t)))
   value (number x) v = Number x
@@ -46,6 +48,7 @@ module _ (L : PathReduction → ℕ → Value → Type 0) (F : PathReduction →
 
   value-means : {κ : Kind} (t : QueryTerm κ) → All Right (paths t) → (v : At κ) → In κ v → Means L n t v (value F n t v)
   value-means (path c) h v i = h .0 v i
+  value-means (path-set c) h v i = h .0 v i
   value-means (over o t) h v i = (tabulate n zero (value F n t), table-means t (value-means t h), refl)
   value-means (over-where o c t) h v i = (
     tabulate n zero (value F n c),
@@ -71,6 +74,7 @@ module _ (F : PathReduction → ℕ → Value) (n : ℕ) (cs : List PathReductio
   -- an expression has the value of its vertex term
   expression-value : (t : VertexTerm) → Has (paths t) → (v : ℕ) → evaluate (at v) (expression cs t) ≡ value F n t v
   expression-value (path c) h v = position-at (λ c. F c v) Absent c cs (h .0)
+  expression-value (path-set c) h v = position-at (λ c. F c v) Absent c cs (h .0)
   expression-value (number x) h v = refl
   expression-value (operator o s t) h v =
       ap₂ (operate o) (expression-value s (all-left _ (paths s) (paths t) h) v) (expression-value t (all-right _ (paths s) (paths t) h) v)

@@ -1,23 +1,26 @@
 -- A legal query fuses to a legal plan, with as many terms. Assumes nothing.
 use Prim.Native.Nat.{ℕ, zero, _+_, _≤_, _<_}
 use mathlib.Core.Path.{_≡_, refl, sym, ap₂, _∙_, subst}
+use mathlib.Core.Bool.{Bool, true, false, cond}
 use mathlib.Core.List.{List, [], _∷_, _++_}
 use native.Mathlib.Omega.{arith}
-use lib.Dec.{T}
+use borrow.Author.Tests.{leb-false}
+use lib.Dec.{T, leb}
 use lib.ListN.{length, length-append}
 use Rattle.walks.specs.Lists.{All}
-use Rattle.meaning.specs.Limits.{BodyLegal, EntryLegal, Every, Expression, PathFits, PlanLegal, QueryLegal, TermFits, TermsFit, depth, depth-of}
-use Rattle.meaning.specs.Limits.{entry-terms, plan-terms, query-terms, size-of, terms}
-use Rattle.meaning.specs.Plan.{VertexReduction, among, entries, expression, final, fuse}
-use Rattle.meaning.specs.Query.{Kind, PathReduction, Query, QueryTerm, ResultTerm, VertexTerm, each, number, operator, over, over-where, path, paths}
-use Rattle.meaning.specs.Query.{single, reduction-count, written-paths}
-use Rattle.meaning.proofs.Lists.{all-append, all-left, all-right}
+use Rattle.meaning.specs.Limits.{BodyLegal, EntryLegal, Every, Expression, HeldBy, PathFits, PlanLegal, QueryLegal, TermFits, TermsFit, depth}
+use Rattle.meaning.specs.Limits.{depth-of, entry-terms, plan-terms, query-terms, size-of, terms}
+use Rattle.meaning.specs.Plan.{VertexReduction, among, entries, expression, final, fuse, version-of}
+use Rattle.meaning.specs.Query.{Kind, PathReduction, Query, QueryTerm, ResultTerm, VertexTerm, each, number, operator, over, over-where, path, path-set}
+use Rattle.meaning.specs.Query.{paths, single, reduction-count, written-paths}
+use Rattle.meaning.proofs.Lists.{all-append, all-left, all-right, all-weaken}
 use Rattle.meaning.proofs.Paths.{position-below, put-all-has, put-all-holds}
 
 -- THE PATH REDUCTIONS OF A LEGAL QUERY ARE LEGAL
 module _ (n : ℕ) where
   term-paths : {κ : Kind} (t : QueryTerm κ) → TermFits n t → All (PathFits n) (paths t)
-  term-paths (path c) h = (h, tt)
+  term-paths (path c) h = (h .0, tt)
+  term-paths (path-set c) h = (h .0, tt)
   term-paths (over o t) h = term-paths t (h .2)
   term-paths (over-where o c t) h = all-append _ (paths c) (paths t) (term-paths c (h .2)) (term-paths t (h .3))
   term-paths (number x) h = tt
@@ -30,6 +33,7 @@ module _ (n : ℕ) where
 -- a vertex term has no reduction; a result term has as many entries as reductions
 no-reduction : (t : VertexTerm) → reduction-count t ≡ 0
 no-reduction (path c) = refl
+no-reduction (path-set c) = refl
 no-reduction (number x) = refl
 no-reduction (operator o s t) = omega (arith, no-reduction s, no-reduction t)
 
@@ -51,11 +55,13 @@ module _ (cs : List PathReduction) where
   -- an expression has the terms and the depth of its vertex term
   expression-terms : (t : VertexTerm) → terms (expression cs t) ≡ size-of t
   expression-terms (path c) = refl
+  expression-terms (path-set c) = refl
   expression-terms (number x) = refl
   expression-terms (operator o s t) = omega (arith, expression-terms s, expression-terms t)
 
   expression-depth : (t : VertexTerm) → depth (expression cs t) ≡ depth-of t
   expression-depth (path c) = refl
+  expression-depth (path-set c) = refl
   expression-depth (number x) = refl
   expression-depth (operator o s t) = omega (arith, expression-depth s, expression-depth t)
 
@@ -69,6 +75,7 @@ module _ (cs : List PathReduction) where
   module _ (n : ℕ) where
     expression-every : (t : VertexTerm) → TermFits n t → Has (paths t) → Every (λ i. i < length cs) (expression cs t)
     expression-every (path c) p h = position-below c cs (h .0)
+    expression-every (path-set c) p h = position-below c cs (h .0)
     expression-every (number x) p h = p
     expression-every (operator o s t) p h =
         (p .0, p .1, expression-every s (p .2) (all-left _ (paths s) (paths t) h), expression-every t (p .3) (all-right _ (paths s) (paths t) h))
@@ -121,9 +128,28 @@ body-legal n (single t) h =
       (final-every n t (h .legal) zero (length (entries cs t)) (omega (arith, l)), omega (arith, final-depth t zero, h .shallow)),
     )
 
+-- the version of a plan is known, and has bytes for its path reductions
+version-known : (cs : List PathReduction) → (1 ≤ version-of cs) × (version-of cs ≤ 2)
+version-known [] = (omega arith, omega arith)
+version-known (c ∷ cs) = go (leb 2 (length (c .sources))) (version-known cs)
+  where
+    go : (b : Bool) → (1 ≤ version-of cs) × (version-of cs ≤ 2) → (1 ≤ cond b 2 (version-of cs)) × (cond b 2 (version-of cs) ≤ 2)
+    go true h = (omega arith, omega arith)
+    go false h = h
+
+version-holds : (cs : List PathReduction) → All (HeldBy (version-of cs)) cs
+version-holds [] = tt
+version-holds (c ∷ cs) = go (leb 2 (length (c .sources))) refl (version-holds cs)
+  where
+    go : (b : Bool) → leb 2 (length (c .sources)) ≡ b → All (HeldBy (version-of cs)) cs → All (HeldBy (cond b 2 (version-of cs))) (c ∷ cs)
+    go true e h = (λ l. absurd (omega arith), all-weaken cs (λ d x l. absurd (omega arith)) h)
+    go false e h = (λ l. omega (arith, leb-false 2 (length (c .sources)) e), h)
+
 -- FUSING A LEGAL QUERY GIVES A LEGAL PLAN
 pub fuse-legal : (n : ℕ) (q : Query) → QueryLegal n q → PlanLegal n (fuse q)
 fuse-legal n q h = record {
+  known-version = version-known (fuse q .paths);
+  paths-held = version-holds (fuse q .paths);
   few-paths = h .few-paths;
   paths-legal = put-all-holds (PathFits n) [] (written-paths q) tt (legal-paths n q (h .legal));
   body-legal = body-legal n q h;

@@ -1,12 +1,11 @@
 -- The rounds of a run by pull: the smallest count, at most 2n, and what the figures are then; by push everything is the same. Assumes nothing.
 use Prim.Native.Nat.{ℕ, zero, suc, _*_, _≤_, _<_}
 use mathlib.Core.Path.{_≡_, refl, sym, ap, _∙_, subst, fun-ext}
-use mathlib.Core.Logic.{inl, inr}
-use mathlib.Core.Bool.{Bool, true, false, cond, _&&_}
-use mathlib.Core.List.{List, [], map}
+use mathlib.Core.Bool.{Bool, true, false, _&&_, _||_}
+use mathlib.Core.List.{List, [], _∷_, map}
 use native.Mathlib.Omega.{arith}
-use borrow.Author.Tests.{eqb-false}
-use lib.Dec.{T, leb, ltb, eqb, eqb→eq, ltb→lt}
+use borrow.Author.Tests.{eqb-true}
+use lib.Dec.{T, leb, eqb, ltb→lt}
 use lib.ListN.{length}
 use Rattle.value.specs.declared.Value.{Value}
 use Rattle.walks.specs.Keys.{all-known, in-order}
@@ -21,10 +20,10 @@ use Rattle.walks.proofs.Push.{push-state}
 use Rattle.walks.proofs.Rounds.{state-figures}
 use Rattle.walks.proofs.Same.{quiet-of, quiet-yes, unchanged-of, unchanged-yes}
 use Rattle.walks.proofs.Tests.{and-right}
-use Rattle.meaning.specs.Limits.{GraphFits, PathFits, SourceFits}
+use Rattle.meaning.specs.Limits.{GraphFits, PathFits, SourcesFit}
 use Rattle.meaning.specs.Meaning.{Outcome, Same, Smallest}
 use Rattle.meaning.specs.Plan.{Plan}
-use Rattle.meaning.specs.Query.{PathReduction, anywhere, network-of, starts}
+use Rattle.meaning.specs.Query.{PathReduction, member, network-of, starts}
 use Rattle.meaning.specs.Run.{Way, body-rows, pull, push, run, run-rounds, stopped}
 use Rattle.meaning.proofs.Lists.{all-both, all-mapped, all-unmapped, all-weaken, map-same}
 
@@ -32,14 +31,18 @@ use Rattle.meaning.proofs.Lists.{all-both, all-mapped, all-unmapped, al
 pub path-in-order : (n : ℕ) (c : PathReduction) → PathFits n c → T (in-order (c .keys))
 path-in-order n c p = and-right (leb 1 (length (c .keys)) && leb (length (c .keys)) 3 && all-known (c .keys)) (in-order (c .keys)) (p .0)
 
--- a walk starts at a vertex
-source-fits : (n s : ℕ) → SourceFits n s → (v : ℕ) → T (starts n s v) → v < n
-source-fits n s h v t = go (eqb s anywhere) refl t h
+-- a walk starts at a vertex: at any of the sources, by a proof over the set, or anywhere
+member-fits : (n : ℕ) (ss : List ℕ) → All (λ s. s < n) ss → (v : ℕ) → T (member v ss) → v < n
+member-fits n [] h v t = absurd t
+member-fits n (s ∷ ss) h v t = go (eqb s v) refl (member-fits n ss (h .1) v) t
   where
-    go : (b : Bool) → eqb s anywhere ≡ b → T (cond b (ltb v n) (eqb s v)) → SourceFits n s → v < n
-    go true e t h = ltb→lt v n t
-    go false e t (inl h) = omega (arith, eqb→eq s v t)
-    go false e t (inr h) = absurd (eqb-false s anywhere e h)
+    go : (b : Bool) → eqb s v ≡ b → (T (member v ss) → v < n) → T (b || member v ss) → v < n
+    go true e f t = omega (arith, eqb-true s v e, h .0)
+    go false e f t = f t
+
+source-fits : (n : ℕ) (ss : List ℕ) → SourcesFit n ss → (v : ℕ) → T (starts n ss v) → v < n
+source-fits n [] h v t = ltb→lt v n t
+source-fits n (s ∷ ss) h v t = member-fits n (s ∷ ss) (h .0) v t
 
 module _ (g : Graph) (fits : GraphFits g) where
   -- what the theory asks of a network holds of a legal path reduction's
@@ -48,7 +51,7 @@ module _ (g : Graph) (fits : GraphFits g) where
     some-vertex = fits .some-vertex;
     from-fits = λ i l t. fits .ends-fit i l .0;
     to-fits = λ i l t. fits .ends-fit i l .1;
-    source-fits = source-fits (g .vertices) (c .source) (p .1);
+    source-fits = source-fits (g .vertices) (c .sources) (p .1);
   }
 
   -- the rounds of legal path reductions settle

@@ -12,7 +12,7 @@ use Rattle.walks.specs.Meaning.{value}
 use Rattle.walks.specs.Walks.{AllTo, Graph, Network, WalkSet, Within}
 use Rattle.walks.proofs.Optimal.{figures-unique}
 use Rattle.meaning.specs.Meaning.{AtVertices, Means, PathOver, Rows, Unfused, UnfusedWithin}
-use Rattle.meaning.specs.Query.{At, Kind, PathReduction, Query, QueryTerm, each, network-of, number, operator, over, over-where, path, single}
+use Rattle.meaning.specs.Query.{At, Kind, PathReduction, Query, QueryTerm, each, network-of, number, operator, over, over-where, path, path-set, single}
 
 -- a path reduction has one value at a vertex
 pub path-unique : (g : Graph) (W : Network → ℕ → WalkSet) (c : PathReduction) (v : ℕ) (x y : Value) → PathOver g W c v x → PathOver g W c v y
@@ -32,6 +32,7 @@ module _ (L : PathReduction → ℕ → Value → Type 0) (u : (c : PathReductio
   -- a term has one value
   pub means-unique : {κ : Kind} (t : QueryTerm κ) (v : At κ) (x y : Value) → Means L n t v x → Means L n t v y → x ≡ y
   means-unique (path c) v x y p q = u c v x y p q
+  means-unique (path-set c) v x y p q = u c v x y p q
   means-unique (over o t) v x y p q = p .2 ∙ ap (reduce o) (vertices-unique (Means L n t) (means-unique t) (p .0) (q .0) (p .1) (q .1)) ∙ sym (q .2)
   means-unique (over-where o c t) v x y p q =
       p .4

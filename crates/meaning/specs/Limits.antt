@@ -1,16 +1,16 @@
 -- What is legal (document 01, "Layouts"): graphs, queries and plans as trees.
 use Prim.Native.Nat.{ℕ, zero, suc, _+_, _^_, _≤_, _<_, max}
 use mathlib.Core.Path.{_≡_}
-use mathlib.Core.Logic.{_⊎_}
+use mathlib.Core.Bool.{Bool, true, _&&_}
 use mathlib.Core.List.{List, [], _∷_}
 use mathlib.Core.Option.{Option, none, some}
-use lib.Dec.{T}
+use lib.Dec.{T, leb}
 use lib.ListN.{length}
 use Rattle.walks.specs.Keys.{legal-keys}
 use Rattle.walks.specs.Lists.{All}
 use Rattle.walks.specs.Walks.{Graph, edge-at}
 use Rattle.meaning.specs.Plan.{Body, Plan, Term, VertexReduction, apply, each-vertex, leaf, literal, one-result, put-all}
-use Rattle.meaning.specs.Query.{Kind, PathReduction, Query, QueryTerm, anywhere, each, number, operator, over, over-where, path, reduction-count}
+use Rattle.meaning.specs.Query.{Kind, PathReduction, Query, QueryTerm, each, number, operator, over, over-where, path, path-set, reduction-count}
 use Rattle.meaning.specs.Query.{single, written-paths}
 
 -- the edges are between vertices, and there is a vertex
@@ -26,12 +26,17 @@ pub record GraphLegal (g : Graph) : Type 0 where
   pub weights : (i : ℕ) → i < length (g .edges) → edge-at (g .edges) i .weight ≤ 65535
   pub capacities : (i : ℕ) → i < length (g .edges) → (1 ≤ edge-at (g .edges) i .capacity) × (edge-at (g .edges) i .capacity ≤ 65534)
 
--- a path reduction on n vertices: legal keys, and its source is a vertex or anywhere
-abbrev pub SourceFits : ℕ → ℕ → Type 0
-SourceFits n source = (source < n) ⊎ (source ≡ anywhere)
+-- "the 16-bit starts strictly rising" (document 02, b): the first is `least` or more, each other one exceeds the one before
+abbrev pub rising : ℕ → List ℕ → Bool
+rising least [] = true
+rising least (s ∷ ss) = leb least s && rising (suc s) ss
+
+-- a path reduction on n vertices: legal keys, and its sources are vertices, none for anywhere, else "1 to 16"
+abbrev pub SourcesFit : ℕ → List ℕ → Type 0
+SourcesFit n ss = All (λ s. s < n) ss × T (rising 0 ss) × (length ss ≤ 16)
 
 abbrev pub PathFits : ℕ → PathReduction → Type 0
-PathFits n c = T (legal-keys (c .keys)) × SourceFits n (c .source)
+PathFits n c = T (legal-keys (c .keys)) × SourcesFit n (c .sources)
 
 -- every path reduction of the query is legal on the graph's vertices
 abbrev pub QueryFits : Graph → Query → Type 0
@@ -40,6 +45,7 @@ QueryFits g q = All (PathFits (g .vertices)) (written-paths q)
 -- how many terms; how deep, "The root has depth 1"
 abbrev pub size-of : {κ : Kind} → QueryTerm κ → ℕ
 size-of (path c) = 1
+size-of (path-set c) = 1
 size-of (over o t) = suc (size-of t)
 size-of (over-where o c t) = suc (size-of c + size-of t)
 size-of (number x) = 1
@@ -47,14 +53,17 @@ size-of (operator o s t) = suc (size-of s + size-of t)
 
 abbrev pub depth-of : {κ : Kind} → QueryTerm κ → ℕ
 depth-of (path c) = 1
+depth-of (path-set c) = 1
 depth-of (over o t) = suc (depth-of t)
 depth-of (over-where o c t) = suc (max (depth-of c) (depth-of t))
 depth-of (number x) = 1
 depth-of (operator o s t) = suc (max (depth-of s) (depth-of t))
 
--- each number is legal on n vertices: path reductions, the five reductions, literals of 32 bits, the eleven operators
+-- each number is legal on n vertices: path reductions, 0x10 with "a 16-bit start (0 to 255, or 65,535 for anywhere)" and 0x13 with "a set count 1 to 16"; the
+-- five reductions, literals of 32 bits, the eleven operators
 abbrev pub TermFits : ℕ → {κ : Kind} → QueryTerm κ → Type 0
-TermFits n (path c) = PathFits n c
+TermFits n (path c) = PathFits n c × (length (c .sources) ≤ 1)
+TermFits n (path-set c) = PathFits n c × (1 ≤ length (c .sources))
 TermFits n (over o t) = (1 ≤ o) × (o ≤ 5) × TermFits n t
 TermFits n (over-where o c t) = (1 ≤ o) × (o ≤ 5) × TermFits n c × TermFits n t
 TermFits n (number x) = x < 2 ^ 32
@@ -133,8 +142,14 @@ abbrev pub BodyLegal : ℕ → Body → Type 0
 BodyLegal c (each-vertex t) = Expression c t
 BodyLegal c (one-result es t) = (length es ≤ 8) × All (EntryLegal c) es × Expression (length es) t
 
+-- version 1 has bytes for one start or for anywhere, version 2 for sets: "What that version has no bytes for is refused 3" (document 02, b)
+abbrev pub HeldBy : ℕ → PathReduction → Type 0
+HeldBy version c = version < 2 → length (c .sources) ≤ 1
+
 -- "chain count c (0 to 8)"; the path reductions, the entries and the final expression are legal
 pub record PlanLegal (n : ℕ) (p : Plan) : Type 0 where
+  pub known-version : (1 ≤ p .version) × (p .version ≤ 2)
+  pub paths-held : All (HeldBy (p .version)) (p .paths)
   pub few-paths : length (p .paths) ≤ 8
   pub paths-legal : All (PathFits n) (p .paths)
   pub body-legal : BodyLegal (length (p .paths)) (p .body)

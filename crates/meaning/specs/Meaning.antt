@@ -10,7 +10,7 @@ use Rattle.value.specs.Value.{chosen, operate, reduce}
 use Rattle.walks.specs.Lists.{All}
 use Rattle.walks.specs.Meaning.{Figures, value}
 use Rattle.walks.specs.Walks.{AllTo, Graph, Network, WalkSet, Within}
-use Rattle.meaning.specs.Query.{At, Kind, PathReduction, Query, QueryTerm, each, network-of, number, operator, over, over-where, path, single}
+use Rattle.meaning.specs.Query.{At, Kind, PathReduction, Query, QueryTerm, each, network-of, number, operator, over, over-where, path, path-set, single}
 use Rattle.meaning.specs.Query.{written-paths}
 
 -- "each chain where it is written, over all walks": W gives the set of walks to a vertex, on a network
@@ -33,6 +33,7 @@ AtVertices n M xs = (length xs ≡ n) × ((v : ℕ) → v < n → M v (getD xs v
 -- place term"
 abbrev pub Means : (PathReduction → ℕ → Value → Type 0) → ℕ → {κ : Kind} → QueryTerm κ → At κ → Value → Type 0
 Means L n (path c) v x = L c v x
+Means L n (path-set c) v x = L c v x
 Means L n (over o t) v x = (xs : List Value) × AtVertices n (Means L n t) xs × (x ≡ reduce o xs)
 Means L n (over-where o c t) v x =
     (cs : List Value) × (xs : List Value) × AtVertices n (Means L n c) cs × AtVertices n (Means L n t) xs × (x ≡ reduce o (chosen cs xs))

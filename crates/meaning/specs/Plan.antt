@@ -3,10 +3,11 @@ use Prim.Native.Nat.{ℕ, zero, suc, _+_}
 use mathlib.Core.Bool.{Bool, false, cond, _&&_, _||_}
 use mathlib.Core.List.{List, [], _∷_, _++_}
 use mathlib.Core.Option.{Option, none, some}
-use lib.Dec.{eqb}
+use lib.Dec.{leb}
+use lib.ListN.{length}
 use Rattle.walks.specs.Rounds.{same-list}
-use Rattle.meaning.specs.Query.{PathReduction, Query, ResultTerm, VertexTerm, each, number, operator, over, over-where, path, reduction-count, single}
-use Rattle.meaning.specs.Query.{written-paths}
+use Rattle.meaning.specs.Query.{PathReduction, Query, ResultTerm, VertexTerm, each, number, operator, over, over-where, path, path-set, reduction-count}
+use Rattle.meaning.specs.Query.{single, written-paths}
 
 -- expressions over leaves of some kind: a leaf, a literal, or an operator
 pub data Term (A : Type 0) : Type 0 where
@@ -26,14 +27,15 @@ pub data Body : Type 0 where
   each-vertex : Term ℕ → Body
   one-result : List (VertexReduction ℕ) → Term ℕ → Body
 
--- "c chains", and the expressions
+-- "c chains", and the expressions; "a writer keeps the version it is handed" (document 02, b)
 pub record Plan : Type 0 where
+  pub version : ℕ
   pub paths : List PathReduction
   pub body : Body
 
--- equal path reductions, as a test
+-- equal path reductions, as a test; the starts are "strictly rising", so equal sets are equal lists
 abbrev pub same-path : PathReduction → PathReduction → Bool
-same-path c d = same-list (c .keys) (d .keys) && eqb (c .source) (d .source)
+same-path c d = same-list (c .keys) (d .keys) && same-list (c .sources) (d .sources)
 
 -- where a path reduction first stands in a list (its length, where it does not)
 abbrev pub position : PathReduction → List PathReduction → ℕ
@@ -53,9 +55,15 @@ abbrev pub put-all : List PathReduction → List PathReduction → List PathRedu
 put-all cs [] = cs
 put-all cs (d ∷ ds) = put-all (put cs d) ds
 
+-- "Fusing writes version 2 .. when some set has two or more; else version 1." (document 02, b)
+abbrev pub version-of : List PathReduction → ℕ
+version-of [] = 1
+version-of (c ∷ cs) = cond (leb 2 (length (c .sources))) 2 (version-of cs)
+
 -- a vertex term over the indices of the path reductions cs: "0x30 and a chain's index for a chain ..; operators and literals keep their bytes"
 abbrev pub expression : List PathReduction → VertexTerm → Term ℕ
 expression cs (path c) = leaf (position c cs)
+expression cs (path-set c) = leaf (position c cs)
 expression cs (number x) = literal x
 expression cs (operator o s t) = apply o (expression cs s) (expression cs t)
 
@@ -80,4 +88,4 @@ fuse-body cs (single t) = one-result (entries cs t) (final zero t)
 
 -- the plan that a query is fused to
 abbrev pub fuse : Query → Plan
-fuse q = record { paths = put-all [] (written-paths q); body = fuse-body (put-all [] (written-paths q)) q }
+fuse q = let cs = put-all [] (written-paths q) in record { version = version-of cs; paths = cs; body = fuse-body cs q }

@@ -22,7 +22,7 @@ rows-bytes (v ∷ vs) = row-bytes v ++ rows-bytes vs
 
 -- "three letters and a 16-bit version, 1", "n (16 bits), rounds (16 bits), kind byte"
 abbrev pub head-bytes : ℕ → ℕ → ℕ → List ℕ
-head-bytes n rounds kind = header-bytes 0x41 ++ le16 n ++ le16 rounds ++ (kind ∷ [])
+head-bytes n rounds kind = header-bytes 0x41 1 ++ le16 n ++ le16 rounds ++ (kind ∷ [])
 
 -- THE BYTES OF AN ANSWER on n vertices
 abbrev pub encode : ℕ → ℕ → Outcome → List ℕ

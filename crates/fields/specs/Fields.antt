@@ -12,8 +12,8 @@ abbrev pub kind-code : ℕ → ℕ
 kind-code b = cond (ltb 255 b) 1 (cond (ltb 1 b) 9 0)
 
 -- how a question or a worksheet begins: its header, and its kind behind five bytes
-abbrev pub opening-code : ℕ → List ℕ → ℕ
-opening-code letter s = then (header-code letter 5 s) (kind-code (getD s 5 256))
+abbrev pub opening-code : ℕ → ℕ → List ℕ → ℕ
+opening-code letter newest s = then (header-code letter newest 5 s) (kind-code (getD s 5 256))
 
 -- a byte from 1 to `most`: "9 | code | an illegal .. key count, key, operator, reduction .. byte"
 abbrev pub code-of : ℕ → ℕ → ℕ

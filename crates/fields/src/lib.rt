@@ -12,10 +12,10 @@ pub fn byte(s: &[u8], i: usize) -> u16
 }
 
 // The refusal of the header and the kind of a question or worksheet, or 0.
-pub fn opening_code(s: &[u8], letter: u8) -> u8
-    ensures { λ r. ⌜ r ≡ opening-code letter (now (s .entry)) ⌝ }
+pub fn opening_code(s: &[u8], letter: u8, newest: u8) -> u8
+    ensures { λ r. ⌜ r ≡ opening-code letter newest (now (s .entry)) ⌝ }
 {
-    let h = wire::judge_header(s, letter, 5);
+    let h = wire::judge_header(s, letter, newest, 5);
     if h != 0 {
         return h;
     }

@@ -9,7 +9,7 @@ use lib.ListN.{length, drop}
 use Rattle.wire.specs.Header.{header-bytes, header-code}
 use Rattle.wire.specs.Wire.{at16}
 use Rattle.wire.proofs.Codes.{held, past, then-both}
-use Rattle.wire.proofs.Header.{header-found}
+use Rattle.wire.proofs.Header.{header-one}
 use Rattle.graph.specs.Graph.{counts-code, edges-code, edges-in, graph-code, length-code}
 
 -- numbers of vertices and of edges that are not refused
@@ -30,7 +30,7 @@ counts n m e =
 
 -- bytes of a graph: its header, its counts, its length, and no edge refused
 pub record Accepted (s : List ℕ) : Type 0 where
-  pub header : s ≡ header-bytes 0x4d ++ drop 5 s
+  pub header : s ≡ header-bytes 0x4d 1 ++ drop 5 s
   pub sizes : Counts (at16 s 5) (at16 s 7)
   pub exact : length s ≡ 9 + 8 * at16 s 7
   pub rows : edges-code (at16 s 5) (edges-in s) ≡ 0
@@ -39,11 +39,11 @@ pub record Accepted (s : List ℕ) : Type 0 where
 pub accepted : (s : List ℕ) → graph-code s ≡ 0 → Accepted s
 unfolding graph-code
 accepted s e =
-    let a = then-both (header-code 0x4d 9 s) _ e in
+    let a = then-both (header-code 0x4d 1 9 s) _ e in
     let b = then-both (counts-code (at16 s 5) (at16 s 7)) _ (a .1) in
     let c = then-both (length-code s) _ (b .1) in
     record {
-      header = header-found 0x4d 9 s (a .0);
+      header = header-one 0x4d 9 s (a .0);
       sizes = counts _ _ (b .0);
       exact = eqb-true _ _ (held (eqb (length s) (9 + 8 * at16 s 7)) 5 0 (c .0) .0);
       rows = c .1;

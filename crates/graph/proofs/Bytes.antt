@@ -75,10 +75,10 @@ module _ (s : List ℕ) (b : Bytes s) where
   edges-bytes-at (suc k) i h =
       edge-bytes-at i (omega arith) ∙ ap (λ (l : List ℕ). edge-bytes (edge-in s i) ++ l) (edges-bytes-at k (suc i) (omega arith))
 
-  head-bytes-at : 9 ≤ length s → s ≡ header-bytes 0x4d ++ drop 5 s → s ≡ head-bytes (at16 s 5) (at16 s 7) ++ drop 9 s
+  head-bytes-at : 9 ≤ length s → s ≡ header-bytes 0x4d 1 ++ drop 5 s → s ≡ head-bytes (at16 s 5) (at16 s 7) ++ drop 9 s
   head-bytes-at h e =
       e
-      ∙ ap (λ (l : List ℕ). header-bytes 0x4d ++ l) (word-at 5 7 (omega arith) refl
+      ∙ ap (λ (l : List ℕ). header-bytes 0x4d 1 ++ l) (word-at 5 7 (omega arith) refl
       ∙ ap (λ (l : List ℕ). le16 (at16 s 5) ++ l) (word-at 7 9 (omega arith) refl))
 
   -- ACCEPTED BYTES ARE THOSE OF THEIR COUNTS AND EDGES

@@ -94,7 +94,7 @@ judged-bytes n m es hn hm same f =
     let rest : counts-code n m ≡ 0 → then (cond (eqb (length s) (9 + 8 * m)) 0 6) (edges-code n (edges-in s)) ≡ edges-code n es = λ z.
     let e : m ≡ length es = same (counts n m z .few-edges) in
     rw (eq-eqb (length s) (9 + 8 * m) (omega arith)) (ap (edges-code n) (edges-read n m es hm e f)) in
-    then-none (header-code 0x4d 9 s) _ (header-accepted 0x4d 9 (le16 n ++ (le16 m ++ edges-bytes es)) (omega arith))
+    then-none (header-code 0x4d 1 9 s) _ (header-accepted 0x4d 1 9 1 (le16 n ++ (le16 m ++ edges-bytes es)) (omega arith) (omega arith) (omega arith))
     ∙ rw (word-back n hn, word-back m hm) (then-same (counts-code n m) _ _ rest)
 
 -- ---- legal graphs

@@ -20,7 +20,7 @@ edges-bytes (e ∷ es) = edge-bytes e ++ edges-bytes es
 
 -- "places n (16 bits ..), passages m (16 bits ..)"
 abbrev pub head-bytes : ℕ → ℕ → List ℕ
-head-bytes n m = header-bytes 0x4d ++ le16 n ++ le16 m
+head-bytes n m = header-bytes 0x4d 1 ++ le16 n ++ le16 m
 
 -- THE BYTES OF A GRAPH
 abbrev pub encode : Graph → List ℕ

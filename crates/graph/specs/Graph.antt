@@ -45,7 +45,7 @@ edges-code n (e ∷ es) = then (edge-code n e) (edges-code n es)
 
 -- the number of the first refusal, 0 where the bytes are accepted: "header ..., 2, 3; a map then 4, 5, 6, and its rows in turn"
 unfoldable pub graph-code : List ℕ → ℕ
-graph-code s = then (header-code 0x4d 9 s) (then (counts-code (at16 s 5) (at16 s 7)) (then (length-code s) (edges-code (at16 s 5) (edges-in s))))
+graph-code s = then (header-code 0x4d 1 9 s) (then (counts-code (at16 s 5) (at16 s 7)) (then (length-code s) (edges-code (at16 s 5) (edges-in s))))
 
 -- the typed form of an edge
 abbrev pub row-of : Edge → EdgeRow

@@ -126,7 +126,7 @@ fn bytes_code(s: &[u8], n: u16, m: usize) -> u8
 pub fn judge(s: &[u8]) -> u8
     ensures { λ r. ⌜ r ≡ graph-code (now (s .entry)) ⌝ }
 {
-    let h = wire::judge_header(s, 0x4d, 9);
+    let h = wire::judge_header(s, 0x4d, 1, 9);
     if h != 0 {
         return h;
     }

@@ -1,25 +1,26 @@
 // How far a reading of a question or worksheet has come (document 01, "Layouts": "judged left to right"): before the first term, after a
 // refusal, after the last term.
+use packed_path::PackedPath;
 ghost use mathlib.Core.Path.{_≡_};
 ghost use Rattle.progress.specs.Progress.{blank, started, ended};
 
 // How far a reading has come: `code` is 0, or the number of the refusal; `at` is the next byte, `terms` how many terms have been read so far;
-// `paths` is how many path reductions `table` holds so far, each as its six worksheet bytes in one number; `reductions` is how many vertex
-// reductions (in a worksheet: entries) have been met so far.
+// `paths` is how many path reductions `table` holds so far; `reductions` is how many vertex reductions (in a worksheet: entries) have been met so far.
 pub struct Progress {
     pub code: u8,
     pub at: usize,
     pub terms: usize,
     pub paths: usize,
     pub reductions: usize,
-    pub table: [u64; 8],
+    pub table: [PackedPath; 8],
 }
 
 // The state after a refusal: its number, and nothing read.
 pub fn blank_of(code: u8) -> Progress
     ensures { λ r. ⌜ r ≡ blank code ⌝ }
 {
-    let table = [0u64; 8];
+    let none = packed_path::none();
+    let table = [none; 8];
     Progress {
         code,
         at: 0,
@@ -34,7 +35,8 @@ pub fn blank_of(code: u8) -> Progress
 pub fn start(at: usize) -> Progress
     ensures { λ r. ⌜ r ≡ started at ⌝ }
 {
-    let table = [0u64; 8];
+    let none = packed_path::none();
+    let table = [none; 8];
     Progress {
         code: 0,
         at,

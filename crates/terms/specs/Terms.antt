@@ -1,5 +1,5 @@
 -- Terms, "judged left to right: for a term 1, 12, 11, 9, then each field, missing (1) before wrong".
-use Prim.Native.Nat.{ℕ, zero, suc, _+_, max}
+use Prim.Native.Nat.{ℕ, zero, suc, _+_, _*_, max}
 use mathlib.Core.Bool.{true, false, cond}
 use mathlib.Core.List.{List}
 use lib.Dec.{leb, ltb, eqb}
@@ -10,7 +10,9 @@ use Rattle.terms.specs.declared.TermKind.the-variants.{OfVertex, OfResul
 use Rattle.progress.specs.declared.Progress.{Progress}
 use Rattle.progress.specs.Progress.{blank}
 use Rattle.fields.specs.Fields.{code-of}
-use Rattle.path_fields.specs.Paths.{path-code, path-word}
+use Rattle.packed_path.specs.declared.PackedPath.{PackedPath}
+use Rattle.packed_path.specs.Steps.{no-path, same-packed}
+use Rattle.path_fields.specs.Paths.{path-at, path-code, set-at, set-code}
 
 -- a term that contains no other
 abbrev pub alone : Progress → Step
@@ -26,22 +28,30 @@ advanced w next = record { code = w .code; at = next; terms = w .terms + 1; path
 
 -- "8 different chains": where a path reduction stands among those met, or a new one is to be put: the first of k slots of the table, from slot i on, that is
 -- free or holds it
-unfoldable pub slot-of : ℕ → ℕ → List ℕ → ℕ → ℕ → ℕ
-slot-of zero paths table word i = i
-slot-of (suc k) paths table word i = cond (leb paths i) i (cond (eqb (getD table i 0) word) i (slot-of k paths table word (i + 1)))
+unfoldable pub slot-of : ℕ → ℕ → List PackedPath → PackedPath → ℕ → ℕ
+slot-of zero paths table path i = i
+slot-of (suc k) paths table path i =
+    cond (leb paths i) i (cond (same-packed (getD table i no-path) path) i (slot-of k paths table path (i + 1)))
 
 -- the path reduction put after those met, unless it is among them: "14 | full sheet | a ninth chain"
-unfoldable pub kept-path : Progress → ℕ → Progress
-kept-path w word =
-    let i = slot-of 8 (w .paths) (w .table) word 0 in
+unfoldable pub kept-path : Progress → PackedPath → Progress
+kept-path w path =
+    let i = slot-of 8 (w .paths) (w .table) path 0 in
     cond (leb 8 i) (blank 14)
-    (record { code = w .code; at = w .at; terms = w .terms; paths = max (w .paths) (i + 1); reductions = w .reductions; table = set (w .table) i word })
+    (record { code = w .code; at = w .at; terms = w .terms; paths = max (w .paths) (i + 1); reductions = w .reductions; table = set (w .table) i path })
 
 -- "0x10, key count 1 to 3, the keys, a 16-bit start"; "In a chain, 14 comes after 13."
 unfoldable pub path-step : List ℕ → Progress → Step
 path-step s w =
     let at = w .at + 1 in
-    cond (eqb (path-code s at) 0) (alone (kept-path (advanced w (at + 3 + getD s at 256)) (path-word s at))) (refused-step (path-code s at))
+    cond (eqb (path-code s at) 0) (alone (kept-path (advanced w (at + 3 + getD s at 256)) (path-at s at))) (refused-step (path-code s at))
+
+-- "A place term 0x13 is a chain whose start is a set: key count, keys, a set count 1 to 16, the 16-bit starts strictly rising." (document 02, b)
+unfoldable pub set-step : List ℕ → Progress → Step
+set-step s w =
+    let at = w .at + 1 in
+    let count = at + 1 + getD s at 256 in
+    cond (eqb (set-code s at) 0) (alone (kept-path (advanced w (count + 1 + 2 * getD s count 256)) (set-at s at))) (refused-step (set-code s at))
 
 -- "0x20, reduction, a place term", and 0x23, "reduction, a place term as condition, a place term as value" (document 02, a): so many place terms follow; "A
 -- reduction's 14 follows its byte."
@@ -74,10 +84,10 @@ apply-step kind s w =
     let c = code-of (getD s (w .at + 1) 256) 11 in
     cond (eqb c 0) (record { progress = advanced w (w .at + 1 + 1); follow = 2; inner = kind }) (refused-step c)
 
--- what each kind has instead of literals and operators, by its first byte: in place terms a chain, in result terms a reduction, without or with a condition, in
+-- what each kind has instead of literals and operators, by its first byte: in place terms a chain, with one start or a set of them, in result terms a reduction, without or with a condition, in
 -- an entry's expression a chain's index, in a final expression an entry's; "9 | code | an illegal .. term .. byte"
 unfoldable pub leaf-step : TermKind → ℕ → List ℕ → Progress → Step
-leaf-step OfVertex tag s w = cond (eqb tag 0x10) (path-step s w) (refused-step 9)
+leaf-step OfVertex tag s w = cond (eqb tag 0x10) (path-step s w) (cond (eqb tag 0x13) (set-step s w) (refused-step 9))
 leaf-step OfResult tag s w = cond (eqb tag 0x20) (reduce-step 1 s w) (cond (eqb tag 0x23) (reduce-step 2 s w) (refused-step 9))
 leaf-step OfEntry tag s w = cond (eqb tag 0x30) (index-step s w (w .paths)) (refused-step 9)
 leaf-step OfFinal tag s w = cond (eqb tag 0x31) (index-step s w (w .reductions)) (refused-step 9)

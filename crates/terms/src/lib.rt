@@ -1,12 +1,13 @@
 // The reader of terms, of questions and worksheets alike (document 01, "Layouts"): bytes judged left to right, each term by the
 // numbers 1, 12, 11, 9 and then its fields. The result is how far the reading has come, or one blank state with the refusal.
+use packed_path::PackedPath;
 use progress::Progress;
 ghost use mathlib.Core.Path.{_≡_};
 ghost use Prim.Native.Nat.{_+_, _≤_, _<_, max};
 ghost use mathlib.Core.Bool.{cond};
 ghost use lib.Dec.{eqb};
 ghost use lib.ListN.{length};
-ghost use Rattle.terms.specs.Terms.{alone, refused-step, slot-of, kept-path, advanced, path-step, reduce-step, index-step};
+ghost use Rattle.terms.specs.Terms.{alone, refused-step, slot-of, kept-path, advanced, path-step, reduce-step, index-step, set-step};
 ghost use Rattle.terms.specs.Terms.{leaf-step, literal-step, apply-step, literal-tag, term-step, read};
 
 // The four kinds of terms: place terms and result terms of a question, entries' expressions and final expressions of a worksheet.
@@ -25,15 +26,16 @@ pub struct Step {
 }
 
 // The first of the eight slots of the table that is free or holds the path reduction; 8 where there is none.
-fn slot(table: [u64; 8], paths: usize, word: u64) -> usize
-    ensures { λ r. ⌜ (r ≡ slot-of 8 paths table word 0) × (r ≤ 8) ⌝ }
+fn slot(table: [PackedPath; 8], paths: usize, path: PackedPath) -> usize
+    ensures { λ r. ⌜ (r ≡ slot-of 8 paths table path 0) × (r ≤ 8) ⌝ }
 {
     let mut i: usize = 0;
     while i < 8 {
         if paths <= i {
             return i;
         }
-        if table[i] == word {
+        let other = table[i];
+        if packed_path::same(other, path) {
             return i;
         }
         i += 1;
@@ -78,16 +80,16 @@ fn greater(a: usize, b: usize) -> usize
 }
 
 // The path reduction put into the table: 14 where it is a ninth.
-fn keep_path(w: Progress, word: u64) -> Progress
-    ensures { λ r. ⌜ r ≡ kept-path w word ⌝ }
+fn keep_path(w: Progress, path: PackedPath) -> Progress
+    ensures { λ r. ⌜ r ≡ kept-path w path ⌝ }
 {
     let table = w.table;
-    let i = slot(table, w.paths, word);
+    let i = slot(table, w.paths, path);
     if 8 <= i {
         return progress::blank_of(14);
     }
     let mut r = w;
-    r.table[i] = word;
+    r.table[i] = path;
     r.paths = greater(w.paths, i + 1);
     r
 }
@@ -103,8 +105,24 @@ fn path_step_of(s: &[u8], w: Progress) -> Step
         return refuse(c);
     }
     let n = fields::byte(s, at);
-    let word = path_fields::path_word(s, at);
-    alone_of(keep_path(advance(w, at + 3 + (n as usize)), word))
+    let path = path_fields::path_at(s, at);
+    alone_of(keep_path(advance(w, at + 3 + (n as usize)), path))
+}
+
+// "A place term 0x13 is a chain whose start is a set: key count, keys, a set count 1 to 16, the 16-bit starts strictly rising." (document 02, b)
+fn set_step_of(s: &[u8], w: Progress) -> Step
+    requires { ⌜ (w .at < length (now s)) × (w .terms < 64) ⌝ }
+    ensures { λ r. ⌜ r ≡ set-step (now (s .entry)) w ⌝ }
+{
+    let at = w.at + 1;
+    let c = path_fields::set_code(s, at);
+    if c != 0 {
+        return refuse(c);
+    }
+    let count = at + 1 + (fields::byte(s, at) as usize);
+    let k = fields::byte(s, count);
+    let path = path_fields::set_at(s, at);
+    alone_of(keep_path(advance(w, count + 1 + 2 * (k as usize)), path))
 }
 
 // "0x20, reduction, a place term", and 0x23 with two, condition and value; "A reduction's 14 follows its byte."
@@ -175,13 +193,16 @@ fn apply_step_of(s: &[u8], w: Progress, kind: TermKind) -> Step
     }
 }
 
-// A chain, by its first byte; any other is 9.
+// A chain with one start or with a set of them, by its first byte; any other is 9.
 fn path_leaf_of(s: &[u8], w: Progress, tag: u8) -> Step
     requires { ⌜ (w .at < length (now s)) × (w .terms < 64) ⌝ }
-    ensures { λ r. ⌜ r ≡ cond (eqb tag 0x10) (path-step (now (s .entry)) w) (refused-step 9) ⌝ }
+    ensures { λ r. ⌜ r ≡ leaf-step TermKind.OfVertex tag (now (s .entry)) w ⌝ }
 {
     if tag == 0x10 {
         return path_step_of(s, w);
+    }
+    if tag == 0x13 {
+        return set_step_of(s, w);
     }
     refuse(9)
 }

@@ -3,12 +3,25 @@
 ghost use mathlib.Core.Path.{_≡_};
 ghost use Prim.Native.Nat.{_≤_, min};
 ghost use lib.ListN.{length, getD, take};
-ghost use Rattle.wire.specs.Header.{header-code};
+ghost use Rattle.wire.specs.Header.{header-code, version-code};
 ghost use Rattle.wire.specs.Wire.{at16, at32, fitted, Returned};
 
-// The refusal of a file's first five bytes, or 0: short (under five bytes, or under `least`), other letters, another version.
-pub fn judge_header(s: &[u8], letter: u8, least: usize) -> u8
-    ensures { λ r. ⌜ r ≡ header-code letter least (now (s .entry)) ⌝ }
+// A version that is not known: 3.
+fn version_code(version: u32, newest: u8) -> u8
+    ensures { λ r. ⌜ r ≡ version-code newest version ⌝ }
+{
+    if version == 0 {
+        return 3;
+    }
+    if (newest as u32) < version {
+        return 3;
+    }
+    0
+}
+
+// The refusal of a file's first five bytes, or 0: short (under five bytes, or under `least`), other letters, a version other than 1 to `newest`.
+pub fn judge_header(s: &[u8], letter: u8, newest: u8, least: usize) -> u8
+    ensures { λ r. ⌜ r ≡ header-code letter newest least (now (s .entry)) ⌝ }
 {
     if s.len() < 5 {
         return 1;
@@ -25,13 +38,7 @@ pub fn judge_header(s: &[u8], letter: u8, least: usize) -> u8
     if s[2] != letter {
         return 2;
     }
-    if s[3] != 1 {
-        return 3;
-    }
-    if s[4] != 0 {
-        return 3;
-    }
-    0
+    version_code(half(s, 3), newest)
 }
 
 // The byte at i, or 0 past the end.

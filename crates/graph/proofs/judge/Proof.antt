@@ -13,7 +13,7 @@ use Rattle.graph.proofs.judge.Tie as tie
 returns : tie.Need-returns
 unfolding graph-code
 returns c =
-    let h : _ ≡ header-code 0x4d 9 (c .before .before .before .args .s .now) = c .before .judge-header .ensures in
+    let h : _ ≡ header-code 0x4d 1 9 (c .before .before .before .args .s .now) = c .before .judge-header .ensures in
     rw (← h, ne-eqb _ _ (c .if1 .taken))
 
 read16-requires : tie.Need-read16-requires

@@ -12,7 +12,7 @@ returns c = rw (lt-ltb _ _ (c .if1 .taken))
 
 returns-2 : tie.Need-returns-2
 unfolding header-code
-returns-2 c = rw (le-ltb _ _ (c .before .if1 .left), lt-ltb _ (c .before .before .args .least) (c .if2 .taken))
+returns-2 c = rw (le-ltb _ _ (c .before .if1 .left), lt-ltb _ (c .before .before .before .args .least) (c .if2 .taken))
 
 returns-3 : tie.Need-returns-3
 unfolding header-code
@@ -37,6 +37,12 @@ returns-5 c = rw (
   ne-eqb _ _ (c .if5 .taken),
 )
 
+half-requires : tie.Need-half-requires
+half-requires c κs = search needs
+
+version-code-requires : tie.Need-version-code-requires
+version-code-requires c κs = search needs
+
 returns-6 : tie.Need-returns-6
 unfolding header-code
 returns-6 c = rw (
@@ -45,32 +51,8 @@ returns-6 c = rw (
   eq-eqb _ _ (c .before .before .before .before .before .before .if3 .left),
   eq-eqb _ _ (c .before .before .before .before .if4 .left),
   eq-eqb _ _ (c .before .before .if5 .left),
-  ne-eqb _ 1 (c .if6 .taken),
-)
-
-returns-7 : tie.Need-returns-7
-unfolding header-code
-returns-7 c = rw (
-  le-ltb _ _ (c .before .before .before .before .before .before .before .before .before .before .before .if1 .left),
-  le-ltb _ _ (c .before .before .before .before .before .before .before .before .before .before .if2 .left),
-  eq-eqb _ _ (c .before .before .before .before .before .before .before .before .if3 .left),
-  eq-eqb _ _ (c .before .before .before .before .before .before .if4 .left),
-  eq-eqb _ _ (c .before .before .before .before .if5 .left),
-  eq-eqb _ _ (c .before .before .if6 .left),
-  ne-eqb _ _ (c .if7 .taken),
-)
-
-returns-8 : tie.Need-returns-8
-unfolding header-code
-returns-8 c = rw (
-  le-ltb _ _ (c .before .before .before .before .before .before .before .before .before .before .before .if1 .left),
-  le-ltb _ _ (c .before .before .before .before .before .before .before .before .before .before .if2 .left),
-  eq-eqb _ _ (c .before .before .before .before .before .before .before .before .if3 .left),
-  eq-eqb _ _ (c .before .before .before .before .before .before .if4 .left),
-  eq-eqb _ _ (c .before .before .before .before .if5 .left),
-  eq-eqb _ _ (c .before .before .if6 .left),
-  eq-eqb _ _ (c .if7 .left),
-) refl
+  ← c .before .half .ensures .0,
+) (c .version-code .ensures)
 
 pub judge-header-spec : {M : Type 1} → statement M
 judge-header-spec =
@@ -84,8 +66,6 @@ judge-header-spec =
     returns-4
     (λ c. search needs)
     returns-5
-    (λ c. search needs)
-    returns-6
-    (λ c. search needs)
-    returns-7
-    returns-8)
+    half-requires
+    version-code-requires
+    returns-6)

@@ -13,13 +13,11 @@ use Rattle.wire.proofs.Codes.{held, past}
 
 -- a known version is accepted, and no other
 version-accepted : (newest version : ℕ) → 1 ≤ version → version ≤ newest → version-code newest (version + 256 * 0) ≡ 0
-unfolding version-code
 version-accepted newest version h k =
     let e : version + 256 * 0 ≡ version = omega arith in
     rw (e, ne-eqb version 0 (λ z. omega arith), le-ltb newest version k) refl
 
 version-found : (newest version : ℕ) → version-code newest version ≡ 0 → (1 ≤ version) × (version ≤ newest)
-unfolding version-code
 version-found newest version e =
     let a = past (eqb version 0) 2 _ e in
     let b = past (ltb newest version) 2 _ (a .1) in

@@ -15,7 +15,7 @@ abbrev pub header-bytes : ℕ → ℕ → List ℕ
 header-bytes letter version = 0x4c ∷ 0x50 ∷ letter ∷ version ∷ 0 ∷ []
 
 -- "3 | version | not 1"; "Both are read" (document 02, b): those known are 1 to the newest that the reader knows
-unfoldable pub version-code : ℕ → ℕ → ℕ
+abbrev pub version-code : ℕ → ℕ → ℕ
 version-code newest version = cond (eqb version 0) 3 (cond (ltb newest version) 3 0)
 
 -- "header (1 if under 5 bytes, or under 9 for a map), 2, 3": `least` is 9 for a map, 5 for the others

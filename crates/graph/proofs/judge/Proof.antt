@@ -17,10 +17,10 @@ returns c =
     rw (← h, ne-eqb _ _ (c .if1 .taken))
 
 read16-requires : tie.Need-read16-requires
-read16-requires c κs = omega (arith, header-long 0x4d 9 _ (sym (c .before .judge-header .ensures) ∙ c .if1 .left))
+read16-requires c κs = omega (arith, header-long 0x4d 1 9 _ (sym (c .before .judge-header .ensures) ∙ c .if1 .left))
 
 read16-requires-2 : tie.Need-read16-requires-2
-read16-requires-2 c κs = omega (arith, header-long 0x4d 9 _ (sym (c .before .before .judge-header .ensures) ∙ c .before .if1 .left))
+read16-requires-2 c κs = omega (arith, header-long 0x4d 1 9 _ (sym (c .before .before .judge-header .ensures) ∙ c .before .if1 .left))
 
 returns-2 : tie.Need-returns-2
 unfolding graph-code

@@ -5,11 +5,10 @@ use mathlib.Core.List.{List, [], _∷_, _++_, append-assoc}
 use native.Mathlib.Numerals.{add-one}
 use native.Mathlib.Omega.{arith}
 use native.Mathlib.Decide.{decLe}
-use lib.ListN.{length, getD, take, drop, length-append, length-take}
+use lib.ListN.{length, getD, take, drop, length-append}
 use lib.Seq.{take-all, drop-cons}
 use Rattle.wire.specs.Wire.{fitted, unless}
-use Rattle.draft.specs.declared.Draft.{Draft}
-use Rattle.draft.specs.Steps.{put-list}
+use Rattle.draft.specs.Steps.{Draft, put-list}
 use Rattle.draft.specs.Texts.{texts}
 use Rattle.draft.proofs.Drafts.{put-append}
 
@@ -56,7 +55,6 @@ module _ {A : Type 0} (text : A → List ℕ) where
         let none : n - i ≡ 0 = omega arith in
         (rw none at e) ∙ ap (λ (t : List A). put-list d₀ (texts text t)) (take-least count most n l k least)
 
--- what is laid of the draft is all that it holds
-pub delivered : (b : List ℕ) (len code room : ℕ) → length b ≡ 576 → code ≡ 0 → unless code (fitted (take len b) room)
-    ≡ fitted (take 576 (take len b)) room
-delivered b len code room h z = rw (z, take-all 576 (take len b) (omega (arith, length-take len b))) refl
+-- of bytes that a layout has, all are laid
+pub delivered : (b : List ℕ) (code room : ℕ) → length b ≤ 65535 → unless code (fitted (take 65535 b) room) ≡ unless code (fitted b room)
+delivered b code room h = rw (take-all 65535 b h) refl

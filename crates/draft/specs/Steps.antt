@@ -4,16 +4,19 @@ use Prim.Native.Nat.{ℕ, _+_}
 use mathlib.Core.Bool.{cond}
 use mathlib.Core.List.{List, [], _∷_}
 use lib.Dec.{leb}
-use lib.ListN.{set, replicate}
-use Rattle.draft.specs.declared.Draft.{Draft}
+use lib.ListN.{length, set}
 
--- nothing put
-abbrev pub empty-draft : Draft
-empty-draft = record { bytes = replicate 576 0; len = 0 }
+-- a lent buffer, the first `len` of whose bytes have been put
+pub record Draft : Type 0 where
+  pub bytes : List ℕ
+  pub len : ℕ
 
--- one byte more; no change where the draft is full
+abbrev pub draft : List ℕ → ℕ → Draft
+draft bytes len = record { bytes = bytes; len = len }
+
+-- one byte more; no change where there is no room
 unfoldable pub put-byte : Draft → ℕ → Draft
-put-byte d b = cond (leb 576 (d .len)) d (record { bytes = set (d .bytes) (d .len) b; len = d .len + 1 })
+put-byte d b = cond (leb (length (d .bytes)) (d .len)) d (draft (set (d .bytes) (d .len) b) (d .len + 1))
 
 -- bytes in turn
 unfoldable pub put-list : Draft → List ℕ → Draft

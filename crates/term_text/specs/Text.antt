@@ -1,18 +1,30 @@
 -- THE BYTES OF TERMS (document 01, "Layouts").
 use Prim.Native.Nat.{ℕ, _+_}
 use mathlib.Core.List.{List, [], _∷_, _++_}
-use lib.ListN.{length, getD}
+use lib.ListN.{length}
 use Rattle.meaning.specs.Plan.{Term, apply, leaf, literal}
-use Rattle.meaning.specs.Query.{Kind, PathReduction, QueryTerm, number, operator, over, over-where, path, result, vertex}
+use Rattle.meaning.specs.Query.{Kind, PathReduction, QueryTerm, number, operator, over, over-where, path, path-set, result, vertex}
 use Rattle.wire.specs.Wire.{le16, le32}
-use Rattle.path_fields.specs.Paths.{as-word}
 use Rattle.terms.specs.declared.TermKind.{TermKind}
 use Rattle.terms.specs.declared.TermKind.the-variants.{OfVertex, OfResult, OfEntry, OfFinal}
 use Rattle.terms.specs.Terms.{literal-tag}
 
+-- "a 16-bit start (0 to 255, or 65,535 for anywhere)"
+abbrev pub start-of : List ℕ → ℕ
+start-of [] = 65535
+start-of (s ∷ ss) = s
+
 -- "key count 1 to 3, the keys, a 16-bit start"
 abbrev pub path-bytes : PathReduction → List ℕ
-path-bytes c = length (c .keys) ∷ (c .keys ++ le16 (c .source))
+path-bytes c = length (c .keys) ∷ (c .keys ++ le16 (start-of (c .sources)))
+
+-- "key count, keys, a set count 1 to 16, the 16-bit starts" (document 02, b)
+abbrev pub starts-bytes : List ℕ → List ℕ
+starts-bytes [] = []
+starts-bytes (s ∷ ss) = le16 s ++ starts-bytes ss
+
+abbrev pub set-bytes : PathReduction → List ℕ
+set-bytes c = length (c .keys) ∷ (c .keys ++ (length (c .sources) ∷ starts-bytes (c .sources)))
 
 -- how each kind of a query's terms is read
 abbrev pub of-kind : Kind → TermKind
@@ -20,9 +32,11 @@ of-kind vertex = OfVertex
 of-kind result = OfResult
 
 -- "Place terms: 0x10, key count .. ; 0x11 and a 32-bit literal; 0x12, operator, two place terms. Result terms: 0x20, reduction, a place term; 0x21 and a 32-bit
--- literal; 0x22, operator, two result terms"; 0x23: "reduction, a place term as condition, a place term as value" (document 02, a)
+-- literal; 0x22, operator, two result terms"; 0x23: "reduction, a place term as condition, a place term as value" (document 02, a); 0x13: "a chain whose start
+-- is a set" (document 02, b)
 abbrev pub query-bytes : (κ : Kind) → QueryTerm κ → List ℕ
 query-bytes κ (path c) = 0x10 ∷ path-bytes c
+query-bytes κ (path-set c) = 0x13 ∷ set-bytes c
 query-bytes κ (over o t) = 0x20 ∷ o ∷ query-bytes vertex t
 query-bytes κ (over-where o c t) = 0x23 ∷ o ∷ (query-bytes vertex c ++ query-bytes vertex t)
 query-bytes κ (number x) = literal-tag (of-kind κ) ∷ le32 x
@@ -40,7 +54,3 @@ abbrev pub expression-bytes : TermKind → Term ℕ → List ℕ
 expression-bytes kind (leaf i) = index-tag kind ∷ i ∷ []
 expression-bytes kind (literal x) = literal-tag kind ∷ le32 x
 expression-bytes kind (apply o s t) = (literal-tag kind + 1) ∷ o ∷ (expression-bytes kind s ++ expression-bytes kind t)
-
--- a path reduction as its six bytes in a worksheet, one number
-abbrev pub path-number : PathReduction → ℕ
-path-number c = as-word (length (c .keys)) (getD (c .keys) 0 0) (getD (c .keys) 1 0) (getD (c .keys) 2 0) (c .source)

@@ -1,12 +1,12 @@
 -- BYTES AS TREES (document 01, "Layouts"): the terms that accepted bytes write. Of the bytes of every legal term these give back the term and where it ends
 -- (`term-back`, `expression-back`, proofs/Tree). Other bytes are given some term, and accepted bytes do not reach that.
-use Prim.Native.Nat.{ℕ, zero, suc, _+_}
-use mathlib.Core.Bool.{true, false}
+use Prim.Native.Nat.{ℕ, zero, suc, _+_, _*_}
+use mathlib.Core.Bool.{true, false, cond}
 use mathlib.Core.List.{List, [], _∷_}
 use lib.Dec.{eqb}
 use lib.ListN.{getD, take, drop}
 use Rattle.meaning.specs.Plan.{Term, apply, leaf, literal}
-use Rattle.meaning.specs.Query.{Kind, QueryTerm, ResultTerm, VertexTerm, number, operator, over, over-where, path, result, vertex}
+use Rattle.meaning.specs.Query.{Kind, QueryTerm, ResultTerm, VertexTerm, number, operator, over, over-where, path, path-set, result, vertex}
 use Rattle.wire.specs.Wire.{at16, at32}
 
 -- what was read, and where it ends
@@ -36,11 +36,24 @@ by-tag literal-as join tag read other s i =
       | false ↦ elim (eqb (getD s i 0) (tag + 1)) [ true ↦ two-of join read s i | false ↦ other s i ]
     ]
 
--- "0x10, key count 1 to 3, the keys, a 16-bit start"
+-- "a 16-bit start (0 to 255, or 65,535 for anywhere)" as a set; "a set count .. and its starts" (document 02, b): so many starts from byte i on
+abbrev pub one-start : ℕ → List ℕ
+one-start source = cond (eqb source 65535) [] (source ∷ [])
+
+unfoldable pub starts-of : (count : ℕ) → List ℕ → ℕ → List ℕ
+starts-of zero s i = []
+starts-of (suc count) s i = at16 s i ∷ starts-of count s (i + 2)
+
+-- "0x10, key count 1 to 3, the keys, a 16-bit start"; 0x13: "key count, keys, a set count 1 to 16, the 16-bit starts" (document 02, b)
 unfoldable pub written-path : Reader VertexTerm
 written-path s i =
     let n = getD s (i + 1) 0 in
-    record { tree = path (record { keys = take n (drop (i + 2) s); source = at16 s (i + 2 + n) }); end = i + 4 + n }
+    let k = getD s (i + 2 + n) 0 in
+    elim (eqb (getD s i 0) 0x13) [
+      | true ↦
+          record { tree = path-set (record { keys = take n (drop (i + 2) s); sources = starts-of k s (i + 3 + n) }); end = i + 3 + n + 2 * k }
+      | false ↦ record { tree = path (record { keys = take n (drop (i + 2) s); sources = one-start (at16 s (i + 2 + n)) }); end = i + 4 + n }
+    ]
 
 -- "0x20, reduction, a place term", and 0x23: "reduction, a place term as condition, a place term as value" (document 02, a)
 unfoldable pub written-reduction : Reader VertexTerm → Reader ResultTerm

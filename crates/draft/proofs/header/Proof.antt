@@ -7,8 +7,9 @@ use Rattle.draft.proofs.header.Tie as tie
 
 returns : tie.Need-returns
 unfolding put-list
-returns c = c .put .ensures ∙ rw (c .before .put-two2 .ensures, c .before .before .put-two .ensures, c .before .before .before .empty .ensures) refl
+returns c =
+    let second = c .before .before .before .before .before .before in
+    c .before .before .put .ensures ∙ rw (second .put-two2 .ensures, second .before .before .before .before .put-two .ensures) refl
 
 pub header-spec : {M : Type 1} → statement M
-header-spec =
-    tie.close (tie.spec (λ c κs. search needs) (λ c κs. search needs) (λ c κs. search needs) (λ c κs. search needs) returns)
+header-spec = tie.close (tie.spec (λ c κs. search needs) (λ c κs. search needs) (λ c κs. search needs) (λ c. search needs) returns)

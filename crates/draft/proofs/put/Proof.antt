@@ -15,4 +15,4 @@ unfolding put-byte
 returns-2 c = rw (lt-leb _ _ (c .if1 .left)) refl
 
 pub put-spec : {M : Type 1} → statement M
-put-spec = tie.close (tie.spec returns (λ c. search needs) (λ c. search needs) returns-2)
+put-spec = tie.close (tie.spec returns (λ c. search needs) (λ c. search needs) (λ c. search needs) returns-2)

@@ -7,7 +7,7 @@ use Rattle.draft.proofs.put_two.Tie as tie
 
 returns : tie.Need-returns
 unfolding put-list
-returns c = c .put2 .ensures ∙ rw (c .before .put .ensures) refl
+returns c = c .before .before .put2 .ensures ∙ rw (c .before .before .before .before .before .before .put .ensures) refl
 
 pub put-two-spec : {M : Type 1} → statement M
-put-two-spec = tie.close (tie.spec (λ c κs. search needs) (λ c κs. search needs) returns)
+put-two-spec = tie.close (tie.spec (λ c κs. search needs) (λ c κs. search needs) (λ c. search needs) returns)

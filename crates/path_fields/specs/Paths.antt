@@ -1,5 +1,5 @@
--- The fields of a path reduction, judged in turn: "missing (1) before wrong"; and the path reduction read from them. A byte past the end reads as 256 where it is
--- judged.
+-- The fields of a path reduction, judged in turn: "missing (1) before wrong"; and the path reduction read from them. A byte past the end reads as 256 where
+-- it is judged.
 use Prim.Native.Nat.{ℕ, zero, suc, _+_, _*_, min}
 use mathlib.Core.Bool.{cond}
 use mathlib.Core.List.{List}

@@ -7,6 +7,7 @@ use native.Mathlib.Omega.{arith}
 use borrow.Author.Tests.{ltb-false, eqb-false, le-ltb}
 use lib.Dec.{ltb, eqb}
 use lib.ListN.{length, replicate}
+use Rattle.packed_path.specs.Steps.{no-path}
 use Rattle.progress.specs.declared.Progress.{Progress}
 use Rattle.progress.specs.Progress.{blank, ended, started}
 use Rattle.term_text.proofs.Table.{Table}
@@ -14,7 +15,7 @@ use Rattle.term_text.proofs.Table.{Table}
 -- before the first term the table is empty
 pub started-table : (at : ℕ) → Table (started at) []
 unfolding started
-started-table at = record { legal = tt; count = refl; few = omega arith; rest = replicate 8 0; holds = refl; size = refl; few-reductions = omega arith }
+started-table at = record { legal = tt; count = refl; few = omega arith; rest = replicate 8 no-path; holds = refl; size = refl; few-reductions = omega arith }
 
 -- nothing is left over exactly where the reading has come to the end
 pub ended-whole : (s : List ℕ) (w : Progress) → length s ≤ w .at → ended s w ≡ w

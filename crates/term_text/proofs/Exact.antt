@@ -1,28 +1,36 @@
 -- The terms of queries (document 01: place terms and result terms) and the expressions of plans are read exactly: the laws of `Shape`, for each byte that is
 -- neither a literal's nor an operator's. Assumes nothing.
-use Prim.Native.Nat.{ℕ, zero, suc, _+_, _≤_, _<_}
+use Prim.Native.Nat.{ℕ, zero, suc, _+_, _*_, _≤_, _<_}
 use mathlib.Core.Path.{_≡_, refl, sym, ap₂, _∙_, subst}
-use mathlib.Core.Bool.{Bool, true, false}
+use mathlib.Core.Bool.{Bool, true, false, cond}
 use mathlib.Core.List.{List, [], _∷_, _++_}
 use native.Mathlib.Omega.{arith}
 use borrow.Author.Tests.{ltb-false, leb-false, eqb-true, eqb-false, le-ltb, lt-leb}
 use lib.Dec.{leb, ltb, eqb}
 use lib.ListN.{length, getD, drop, length-append}
-use Rattle.meaning.specs.Limits.{Every, TermFits, depth, depth-of, size-of, terms}
+use Rattle.meaning.specs.Limits.{Every, PathFits, TermFits, depth, depth-of, size-of, terms}
 use Rattle.meaning.specs.Plan.{Term, apply, leaf, literal}
-use Rattle.meaning.specs.Query.{Kind, PathReduction, QueryTerm, VertexTerm, number, operator, over, over-where, path, paths, reduction-count, result, vertex}
+use Rattle.meaning.specs.Query.{Kind, PathReduction, QueryTerm, VertexTerm, number, operator, over, over-where, path, path-set, paths}
+use Rattle.meaning.specs.Query.{reduction-count, result, vertex}
 use Rattle.wire.specs.Wire.{Bytes, le16}
 use Rattle.progress.specs.declared.Progress.{Progress}
 use Rattle.fields.specs.Fields.{code-of}
-use Rattle.path_fields.specs.Paths.{path-code}
+use Rattle.packed_path.specs.declared.PackedPath.{PackedPath}
+use Rattle.packed_path.specs.Packed.{packed}
+use Rattle.path_fields.specs.Paths.{path-at, path-code, set-at, set-code}
+use Rattle.terms.specs.declared.Step.{Step}
 use Rattle.terms.specs.declared.TermKind.{TermKind}
 use Rattle.terms.specs.declared.TermKind.the-variants.{OfVertex, OfResult}
-use Rattle.terms.specs.Terms.{advanced, alone, index-step, kept-path, leaf-step, literal-tag, path-step, read, reduce-step, refused-step, term-step}
+use Rattle.terms.specs.Terms.{advanced, alone, index-step, kept-path, leaf-step, literal-tag, path-step, read, reduce-step, refused-step, set-step}
+use Rattle.terms.specs.Terms.{term-step}
 use Rattle.progress.specs.Progress.{blank}
 use Rattle.terms.proofs.Laws.{accepted-as}
-use Rattle.term_text.specs.Text.{expression-bytes, index-tag, of-kind, path-bytes, path-number, query-bytes}
+use Rattle.term_text.specs.Text.{expression-bytes, index-tag, of-kind, path-bytes, query-bytes, set-bytes, start-of, starts-bytes}
 use Rattle.wire.proofs.Past.{getD-any}
-use Rattle.term_text.proofs.Paths.{code-range, code-zero, drop-at, nth, path-accepted, path-count, path-found, path-numbered, present}
+use Rattle.term_text.proofs.Fields.{code-range, code-zero, drop-at, nth, present}
+use Rattle.term_text.proofs.Paths.{OneFits, SetFits, path-accepted, path-count, path-found, path-numbered, set-accepted, set-count, set-found, set-keys}
+use Rattle.term_text.proofs.Paths.{set-numbered}
+use Rattle.term_text.proofs.Sources.{starts-size}
 use Rattle.term_text.proofs.Shape.{After, Behind, Complete, Found, Piece, Sound, apply-complete, literal-complete, none-found}
 use Rattle.term_text.proofs.Shape.{one-complete, one-found, term-found, two-complete, two-found}
 use Rattle.term_text.proofs.Steps.{drop-on, read-by, step-is, stops, table-advanced, tag-there, there}
@@ -37,67 +45,132 @@ query-piece κ t =
 abbrev pub Always : Progress → Type 0
 Always w = Unit {0}
 
-module _ (s : List ℕ) where
-  -- A PATH REDUCTION is read by its step
-  path-read : (d : ℕ) (w : Progress) → w .code ≡ 0 → w .at < length s → w .terms < 64 → getD s (w .at) 0 ≡ 0x10
-      → read OfVertex (suc d) s w ≡ path-step s w .progress
-  unfolding literal-tag leaf-step path-step
-  path-read d w z h k tag =
-      let step : term-step OfVertex (suc d) s w ≡ path-step s w = step-is s OfVertex d w h k ∙ rw tag refl in
-      go (eqb (path-code s (w .at + 1)) 0) refl step
+-- what the reader sees of a path reduction behind its byte
+abbrev chain-piece : ℕ → (PathReduction → List ℕ) → (PathReduction → Type 0) → PathReduction → Piece
+chain-piece tag text Fits c = record { bytes = tag ∷ text c; size = 1; deep = 1; paths = c ∷ []; count = 0; fine = Fits c }
+
+-- A PATH REDUCTION is read by its step, which judges its fields, goes on behind them and keeps it: of each byte by that byte's own fields
+module _ (s : List ℕ) (tag : ℕ) (step : Progress → Step) (code end : Progress → ℕ) (number : Progress → PackedPath)
+    (is-leaf : (w : Progress) → leaf-step OfVertex tag s w ≡ step w)
+    (made : (w : Progress) → step w ≡ cond (eqb (code w) 0) (alone (kept-path (advanced w (end w)) (number w))) (refused-step (code w)))
+    (no-literal : eqb tag 0x11 ≡ false) (no-operator : eqb tag 0x12 ≡ false) (text : PathReduction → List ℕ) (Fits : PathReduction → Type 0)
+    (legal : (c : PathReduction) → Fits c → PathFits 256 c)
+    (accepts : (c : PathReduction) (w : Progress) (rest : List ℕ) → Fits c → drop (w .at + 1) s ≡ text c ++ rest
+    → (code w ≡ 0) × (number w ≡ packed c) × (end w ≡ w .at + suc (length (text c)))) where
+  chain-read : (d : ℕ) (w : Progress) → w .code ≡ 0 → w .at < length s → w .terms < 64 → getD s (w .at) 0 ≡ tag
+      → read OfVertex (suc d) s w ≡ cond (eqb (code w) 0) (kept-path (advanced w (end w)) (number w)) (blank (code w))
+  unfolding literal-tag
+  chain-read d w z h k first =
+      go (eqb (code w) 0) (step-is s OfVertex d w h k ∙ rw (first, no-literal, no-operator) (is-leaf w) ∙ made w)
     where
-      go : (b : Bool) → eqb (path-code s (w .at + 1)) 0 ≡ b → term-step OfVertex (suc d) s w ≡ path-step s w
-          → read OfVertex (suc d) s w ≡ path-step s w .progress
-      go true p e = read-by s OfVertex d w z (path-step s w) e ∙ rw p refl
-      go false p e = read-by s OfVertex d w z (path-step s w) e ∙ rw p refl
+      go : (b : Bool) → term-step OfVertex (suc d) s w ≡ cond b (alone (kept-path (advanced w (end w)) (number w))) (refused-step (code w))
+          → read OfVertex (suc d) s w ≡ cond b (kept-path (advanced w (end w)) (number w)) (blank (code w))
+      go true e = read-by s OfVertex d w z (alone (kept-path (advanced w (end w)) (number w))) e
+      go false e = read-by s OfVertex d w z (refused-step (code w)) e
+
+  chain-complete : (c : PathReduction) → Complete s Always OfVertex (chain-piece tag text Fits c)
+  unfolding advanced
+  chain-complete c zero w cs rest z t r e room = absurd (omega (arith, room .shallow))
+  chain-complete c (suc d) w cs rest z t r e room =
+      let i = there s (w .at) tag (text c ++ rest) e in
+      let first = tag-there s (w .at) tag (text c ++ rest) e in
+      let a = accepts c w rest (room .fine) (drop-on s (w .at) 1 (tag ∷ []) (text c ++ rest) e refl) in
+      let w1 : Progress = advanced w (end w) in
+      let reads : read OfVertex (suc d) s w ≡ kept-path w1 (packed c) =
+      chain-read d w z i (omega (arith, room .terms)) first ∙ rw (a .0, a .1) refl in
+      let p = kept-room w1 cs (table-advanced w cs (end w) t) c (legal c (room .fine)) (room .paths) in
+      subst (λ (v : Progress). After w v cs (chain-piece tag text Fits c)) (sym reads)
+      (record { code = p .code ∙ z; at = p .at ∙ a .2; terms = p .terms; reductions = omega (arith, p .reductions); table = p .table })
+
+  chain-sound : ((w : Progress) → code w ≡ 0 → (c : PathReduction) × Fits c × ((rest : List ℕ) × (drop (w .at + 1) s ≡ text c ++ rest)))
+      → (d : ℕ) (w : Progress) (cs : List PathReduction) → w .code ≡ 0 → Table w cs → w .at < length s → w .terms < 64
+      → getD s (w .at) 0 ≡ tag → read OfVertex (suc d) s w .code ≡ 0 → Found s Always PathReduction (chain-piece tag text Fits) (suc d) w cs
+  unfolding blank
+  chain-sound finds d w cs z t h k first e = go (eqb (code w) 0) refl (chain-read d w z h k first)
+    where
+      go : (b : Bool) → eqb (code w) 0 ≡ b
+          → read OfVertex (suc d) s w ≡ cond b (kept-path (advanced w (end w)) (number w)) (blank (code w))
+          → Found s Always PathReduction (chain-piece tag text Fits) (suc d) w cs
+      go false p q = absurd (eqb-false (code w) 0 p (accepted-as q e))
+      go true p q =
+          let f = finds w (eqb-true (code w) 0 p) in
+          let c = f .0 in
+          let a = accepts c w (f .2 .0) (f .1) (f .2 .1) in
+          let reads : read OfVertex (suc d) s w ≡ kept-path (advanced w (end w)) (packed (f .0)) = q ∙ rw (a .1) refl in
+          let few = kept-few (advanced w (end w)) cs (table-advanced w cs (end w) t) c (legal c (f .1)) (accepted-as reads e) in (
+            c,
+            f .2 .0,
+            drop-at s (w .at) h ∙ ap₂ (λ (x : ℕ) (l : List ℕ). x ∷ l) (getD-any s (w .at) 256 0 h ∙ first) (f .2 .1),
+            record { fine = f .1; shallow = omega arith; terms = omega arith; paths = few; reductions = omega (arith, t .few-reductions) },
+          )
+
+module _ (s : List ℕ) where
+  -- with one start or from anywhere
+  path-end : Progress → ℕ
+  path-end w = w .at + 1 + 3 + getD s (w .at + 1) 256
+
+  path-made : (w : Progress)
+      → path-step s w
+      ≡ cond (eqb (path-code s (w .at + 1)) 0) (alone (kept-path (advanced w (path-end w)) (path-at s (w .at + 1)))) (refused-step (path-code s (w .at + 1)))
+  unfolding path-step path-end
+  path-made w = refl
+
+  path-accepts : (c : PathReduction) (w : Progress) (rest : List ℕ) → OneFits c → drop (w .at + 1) s ≡ path-bytes c ++ rest
+      → (path-code s (w .at + 1) ≡ 0) × (path-at s (w .at + 1) ≡ packed c) × (path-end w ≡ w .at + suc (length (path-bytes c)))
+  unfolding path-end
+  path-accepts c w rest f e = (
+    path-accepted s c f (w .at + 1) rest e,
+    path-numbered s c f (w .at + 1) rest e,
+    omega (arith, path-count s c f (w .at + 1) rest e, length-append (c .keys) (le16 (start-of (c .sources)))),
+  )
 
   path-complete : (c : PathReduction) → Complete s Always OfVertex (query-piece vertex (path c))
-  unfolding path-step advanced
-  path-complete c zero w cs rest z t r e room = absurd (omega (arith, room .shallow))
-  path-complete c (suc d) w cs rest z t r e room =
-      let i = there s (w .at) 0x10 (path-bytes c ++ rest) e in
-      let tag = tag-there s (w .at) 0x10 (path-bytes c ++ rest) e in
-      let next = drop-on s (w .at) 1 (0x10 ∷ []) (path-bytes c ++ rest) e refl in
-      let ok = path-accepted s c (room .fine) (w .at + 1) rest next in
-      let n = path-count s c (room .fine) (w .at + 1) rest next in
-      let number = path-numbered s c (room .fine) (w .at + 1) rest next in
-      let w1 : Progress = advanced w (w .at + 1 + 3 + length (c .keys)) in
-      let reads : read OfVertex (suc d) s w ≡ kept-path w1 (path-number c) = path-read d w z i (omega (arith, room .terms)) tag ∙ rw (ok, n, number) refl in
-      let p = kept-room w1 cs (table-advanced w cs (w .at + 1 + 3 + length (c .keys)) t) c (room .fine) (room .paths) in
-      let len = length-append (c .keys) (le16 (c .source)) in
-      subst (λ (v : Progress). After w v cs (query-piece vertex (path c))) (sym reads)
-      (record {
-        code = p .code ∙ z;
-        at = omega (arith, p .at, len);
-        terms = p .terms;
-        reductions = omega (arith, p .reductions);
-        table = p .table;
-      })
+  unfolding leaf-step
+  path-complete = chain-complete s 0x10 (path-step s) (λ w. path-code s (w .at + 1)) path-end (λ w. path-at s (w .at + 1)) (λ w. refl) path-made refl refl
+      path-bytes OneFits (λ c f. f .0) path-accepts
 
   path-sound : Bytes s → (d : ℕ) (w : Progress) (cs : List PathReduction) → w .code ≡ 0 → Table w cs → w .at < length s → w .terms < 64
       → getD s (w .at) 0 ≡ 0x10 → read OfVertex (suc d) s w .code ≡ 0 → Found s Always VertexTerm (query-piece vertex) (suc d) w cs
-  unfolding path-step advanced blank
-  path-sound bytes d w cs z t h k tag e = go (eqb (path-code s (w .at + 1)) 0) refl (path-read d w z h k tag)
-    where
-      go : (b : Bool) → eqb (path-code s (w .at + 1)) 0 ≡ b → read OfVertex (suc d) s w ≡ path-step s w .progress
-          → Found s Always VertexTerm (query-piece vertex) (suc d) w cs
-      go false p q =
-          let reads : read OfVertex (suc d) s w ≡ blank (path-code s (w .at + 1)) = q ∙ rw p refl in
-          absurd (eqb-false (path-code s (w .at + 1)) 0 p (accepted-as reads e))
-      go true p q =
-          let ok = eqb-true (path-code s (w .at + 1)) 0 p in
-          let f = path-found s bytes (w .at + 1) ok in
-          let c = f .0 in
-          let n = path-count s c (f .1) (w .at + 1) _ (f .3) in
-          let number = path-numbered s c (f .1) (w .at + 1) _ (f .3) in
-          let w1 : Progress = advanced w (w .at + 1 + 3 + length (f .0 .keys)) in
-          let reads : read OfVertex (suc d) s w ≡ kept-path w1 (path-number (f .0)) = q ∙ rw (p, n, number) refl in
-          let few = kept-few w1 cs (table-advanced w cs (w .at + 1 + 3 + length (f .0 .keys)) t) c (f .1) (accepted-as reads e) in (
-            path c,
-            drop (w .at + 1 + 3 + getD s (w .at + 1) 256) s,
-            drop-at s (w .at) h ∙ ap₂ (λ (x : ℕ) (l : List ℕ). x ∷ l) (getD-any s (w .at) 256 0 h ∙ tag) (f .3),
-            record { fine = f .1; shallow = omega arith; terms = omega arith; paths = few; reductions = omega (arith, t .few-reductions) },
-          )
+  unfolding leaf-step
+  path-sound bytes d w cs z t h k tag e =
+      let f = chain-sound s 0x10 (path-step s) (λ w. path-code s (w .at + 1)) path-end (λ w. path-at s (w .at + 1)) (λ w. refl) path-made refl refl
+      path-bytes OneFits (λ c f. f .0) path-accepts
+      (λ w e. let f = path-found s bytes (w .at + 1) e in (f .0, f .1, (_, f .2))) d w cs z t h k tag e in
+      (path (f .0), f .1, f .2, f .3)
+
+  -- with a set
+  set-end : Progress → ℕ
+  set-end w = let count = w .at + 1 + 1 + getD s (w .at + 1) 256 in count + 1 + 2 * getD s count 256
+
+  set-made : (w : Progress)
+      → set-step s w
+      ≡ cond (eqb (set-code s (w .at + 1)) 0) (alone (kept-path (advanced w (set-end w)) (set-at s (w .at + 1)))) (refused-step (set-code s (w .at + 1)))
+  unfolding set-step set-end
+  set-made w = refl
+
+  set-accepts : (c : PathReduction) (w : Progress) (rest : List ℕ) → SetFits c → drop (w .at + 1) s ≡ set-bytes c ++ rest
+      → (set-code s (w .at + 1) ≡ 0) × (set-at s (w .at + 1) ≡ packed c) × (set-end w ≡ w .at + suc (length (set-bytes c)))
+  unfolding set-end
+  set-accepts c w rest f e = (
+    set-accepted s c f (w .at + 1) rest e,
+    set-numbered s c f (w .at + 1) rest e,
+    rw (set-keys s c f (w .at + 1) rest e, set-count s c f (w .at + 1) rest e)
+        (omega (arith, length-append (c .keys) (length (c .sources) ∷ starts-bytes (c .sources)), starts-size (c .sources))),
+  )
+
+  set-complete : (c : PathReduction) → Complete s Always OfVertex (query-piece vertex (path-set c))
+  unfolding leaf-step
+  set-complete = chain-complete s 0x13 (set-step s) (λ w. set-code s (w .at + 1)) set-end (λ w. set-at s (w .at + 1)) (λ w. refl) set-made refl refl
+      set-bytes SetFits (λ c f. f .0) set-accepts
+
+  set-sound : Bytes s → (d : ℕ) (w : Progress) (cs : List PathReduction) → w .code ≡ 0 → Table w cs → w .at < length s → w .terms < 64
+      → getD s (w .at) 0 ≡ 0x13 → read OfVertex (suc d) s w .code ≡ 0 → Found s Always VertexTerm (query-piece vertex) (suc d) w cs
+  unfolding leaf-step
+  set-sound bytes d w cs z t h k tag e =
+      let f = chain-sound s 0x13 (set-step s) (λ w. set-code s (w .at + 1)) set-end (λ w. set-at s (w .at + 1)) (λ w. refl) set-made refl refl
+      set-bytes SetFits (λ c f. f .0) set-accepts
+      (λ w e. let f = set-found s bytes (w .at + 1) e in (f .0, f .1, (_, f .2))) d w cs z t h k tag e in
+      (path-set (f .0), f .1, f .2, f .3)
 
   -- A REDUCTION: the state behind its own two bytes
   unfoldable under : Progress → Progress
@@ -188,6 +261,7 @@ module _ (s : List ℕ) where
   -- THE BYTES OF A LEGAL TERM OF A QUERY ARE READ AS IT
   pub query-complete : (κ : Kind) (t : QueryTerm κ) → Complete s Always (of-kind κ) (query-piece κ t)
   query-complete κ (path c) = path-complete c
+  query-complete κ (path-set c) = set-complete c
   query-complete κ (over o t) = over-complete o t (query-complete vertex t)
   query-complete κ (over-where o c t) = where-complete o c t (query-complete vertex c) (query-complete vertex t)
   query-complete κ (number x) = literal-complete s (of-kind κ) Always (λ w n r. tt) x
@@ -195,16 +269,18 @@ module _ (s : List ℕ) where
       apply-complete s (of-kind κ) Always (λ w n r. tt) o (query-piece κ t) (query-piece κ u) (query-complete κ t) (query-complete κ u)
       (λ w w′ cs r b a. tt)
 
-  -- what stands behind any other byte: a path reduction; a reduction without or with a condition
+  -- what stands behind any other byte: a path reduction with one start or a set; a reduction without or with a condition
   vertex-leaf : Bytes s → (d : ℕ) (w : Progress) (cs : List PathReduction) → w .code ≡ 0 → Table w cs → w .at < length s → w .terms < 64
       → eqb (getD s (w .at) 0) 0x11 ≡ false → eqb (getD s (w .at) 0) 0x12 ≡ false → read OfVertex (suc d) s w .code ≡ 0
       → Found s Always VertexTerm (query-piece vertex) (suc d) w cs
   unfolding leaf-step literal-tag
-  vertex-leaf bytes d w cs z t h k p q e = go (eqb (getD s (w .at) 0) 0x10) refl
+  vertex-leaf bytes d w cs z t h k p q e = go (eqb (getD s (w .at) 0) 0x10) (eqb (getD s (w .at) 0) 0x13) refl refl
     where
-      go : (x : Bool) → eqb (getD s (w .at) 0) 0x10 ≡ x → Found s Always VertexTerm (query-piece vertex) (suc d) w cs
-      go true x = path-sound bytes d w cs z t h k (eqb-true (getD s (w .at) 0) 0x10 x) e
-      go false x = absurd (stops s OfVertex d w z 9 (λ n. omega arith) (step-is s OfVertex d w h k ∙ rw (p, q, x) refl) e)
+      go : (x y : Bool) → eqb (getD s (w .at) 0) 0x10 ≡ x → eqb (getD s (w .at) 0) 0x13 ≡ y
+          → Found s Always VertexTerm (query-piece vertex) (suc d) w cs
+      go true y x v = path-sound bytes d w cs z t h k (eqb-true (getD s (w .at) 0) 0x10 x) e
+      go false true x v = set-sound bytes d w cs z t h k (eqb-true (getD s (w .at) 0) 0x13 v) e
+      go false false x v = absurd (stops s OfVertex d w z 9 (λ n. omega arith) (step-is s OfVertex d w h k ∙ rw (p, q, x, v) refl) e)
 
   result-leaf : Bytes s → (d : ℕ) → Sound s Always OfVertex VertexTerm (query-piece vertex) d → (w : Progress) (cs : List PathReduction) → w .code
       ≡ 0

@@ -1,3 +1,5 @@
+pub mod Fields
+pub mod Sources
 pub mod Paths
 pub mod Table
 pub mod Steps

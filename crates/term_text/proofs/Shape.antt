@@ -18,7 +18,7 @@ use Rattle.terms.specs.declared.TermKind.{TermKind}
 use Rattle.terms.specs.Terms.{advanced, alone, apply-step, literal-step, literal-tag, read, term-step}
 use Rattle.wire.proofs.Past.{getD-any}
 use Rattle.terms.proofs.Laws.{accepted-as, read-accepted}
-use Rattle.term_text.proofs.Paths.{code-range, code-zero, drop-at, nth, present}
+use Rattle.term_text.proofs.Fields.{code-range, code-zero, drop-at, nth, present}
 use Rattle.term_text.proofs.Steps.{drop-on, four-bytes, read-by, read-flat, read-starts, step-is, stops, table-advanced, tag-there, there}
 use Rattle.term_text.proofs.Table.{Further, Table}
 

@@ -16,7 +16,8 @@ use Rattle.progress.specs.declared.Progress.{Progress}
 use Rattle.terms.specs.Terms.{advanced, apply-step, leaf-step, literal-step, literal-tag, read, refused-step, term-step}
 use Rattle.progress.specs.Progress.{blank}
 use Rattle.terms.proofs.Laws.{accepted-as, read-next}
-use Rattle.term_text.proofs.Paths.{digits, nth, two-bytes}
+use Rattle.packed_path.proofs.Keys.{digits}
+use Rattle.term_text.proofs.Fields.{nth, two-bytes}
 use Rattle.term_text.proofs.Table.{Table}
 
 -- a rest that begins with x: there is a byte, and it is x

@@ -5,31 +5,33 @@ use mathlib.Core.Bool.{Bool, true, false, cond, _||_}
 use mathlib.Core.List.{List, [], _∷_, _++_, map}
 use native.Mathlib.Omega.{arith}
 use native.Mathlib.Nat.{zero-add}
-use borrow.Author.Tests.{leb-false, le-leb, lt-leb, eq-eqb, ne-eqb}
-use lib.Dec.{T, leb, eqb}
+use borrow.Author.Tests.{leb-false, le-leb, lt-leb}
+use lib.Dec.{T, leb}
 use lib.ListN.{length, getD, set, length-set, length-append, length-map, List·getD-append}
 use lib.Seq.{set-getD, set-at, append-snoc, getD-append-seam}
 use Rattle.meaning.specs.Limits.{PathFits}
 use Rattle.meaning.specs.Plan.{among, position, put, same-path}
 use Rattle.meaning.specs.Query.{PathReduction}
 use Rattle.meaning.proofs.Lists.{all-append, map-append}
-use Rattle.meaning.proofs.Paths.{path-refl, path-same, position-at, position-below}
+use Rattle.meaning.proofs.Paths.{position-at, position-below}
 use Rattle.walks.specs.Lists.{All}
 use Rattle.walks.proofs.Tests.{T-of}
 use Rattle.progress.specs.declared.Progress.{Progress}
 use Rattle.terms.specs.Terms.{kept-path, slot-of}
 use Rattle.progress.specs.Progress.{blank}
 use Rattle.terms.proofs.Laws.{accepted-as}
-use Rattle.term_text.specs.Text.{path-number}
-use Rattle.term_text.proofs.Paths.{number-same}
+use Rattle.packed_path.specs.declared.PackedPath.{PackedPath}
+use Rattle.packed_path.specs.Packed.{packed}
+use Rattle.packed_path.specs.Steps.{no-path}
+use Rattle.packed_path.proofs.Packed.{same-as}
 
 -- the state w holds the path reductions cs, and has met at most eight reductions
 pub record Table (w : Progress) (cs : List PathReduction) : Type 0 where
   pub legal : All (PathFits 256) cs
   pub count : w .paths ≡ length cs
   pub few : length cs ≤ 8
-  pub rest : List ℕ
-  pub holds : w .table ≡ map path-number cs ++ rest
+  pub rest : List PackedPath
+  pub holds : w .table ≡ map packed cs ++ rest
   pub size : length (w .table) ≡ 8
   pub few-reductions : w .reductions ≤ 8
 
@@ -41,22 +43,13 @@ pub record Further (w w′ : Progress) (cs : List PathReduction) (n z e : ℕ) :
   pub reductions : w′ .reductions ≡ e
   pub table : Table w′ cs
 
--- equal numbers are equal path reductions
-pub same-number : (c d : PathReduction) → PathFits 256 c → PathFits 256 d → eqb (path-number d) (path-number c) ≡ same-path c d
-same-number c d f g = go (same-path c d) refl
-  where
-    go : (b : Bool) → same-path c d ≡ b → eqb (path-number d) (path-number c) ≡ b
-    go true e = eq-eqb (path-number d) (path-number c) (ap path-number (sym (path-same c d (T-of e))))
-    go false e =
-        ne-eqb (path-number d) (path-number c) (λ p. subst T e (subst (λ (x : PathReduction). T (same-path c x)) (number-same c d f g (sym p)) (path-refl c)))
-
-module _ (c : PathReduction) (f : PathFits 256 c) (table : List ℕ) where
+module _ (c : PathReduction) (f : PathFits 256 c) (table : List PackedPath) where
   -- the search from slot i on ends at the position in ds
   abbrev At : ℕ → List PathReduction → ℕ → ℕ → Type 0
-  At k ds p i = slot-of k p table (path-number c) i ≡ i + position c ds
+  At k ds p i = slot-of k p table (packed c) i ≡ i + position c ds
 
   -- the slot found is the position, from `pre` on
-  slot-position : (ds : List PathReduction) → All (PathFits 256) ds → (pre rest : List ℕ) → table ≡ pre ++ (map path-number ds ++ rest)
+  slot-position : (ds : List PathReduction) → All (PathFits 256) ds → (pre rest : List PackedPath) → table ≡ pre ++ (map packed ds ++ rest)
       → length pre + length ds ≤ 8 → (k : ℕ) → k + length pre ≡ 8
       → At k ds (length pre + length ds) (length pre)
   unfolding slot-of
@@ -64,24 +57,24 @@ module _ (c : PathReduction) (f : PathFits 256 c) (table : List ℕ) where
   slot-position [] a pre rest e l (suc k) h = rw (le-leb (length pre + 0) (length pre) (omega arith)) (omega arith)
   slot-position (d ∷ ds) a pre rest e l zero h = absurd (omega arith)
   slot-position (d ∷ ds) a pre rest e l (suc k) h =
-      rw (lt-leb (length pre + suc (length ds)) (length pre) (omega arith), here, same-number c d f (a .0))
-      (go (same-path c d) (next (slot-position ds (a .1) (pre ++ (path-number d ∷ [])) rest
-      (e ∙ sym (append-snoc pre (path-number d) (map path-number ds ++ rest)))
+      rw (lt-leb (length pre + suc (length ds)) (length pre) (omega arith), here, same-as c d f (a .0))
+      (go (same-path c d) (next (slot-position ds (a .1) (pre ++ (packed d ∷ [])) rest
+      (e ∙ sym (append-snoc pre (packed d) (map packed ds ++ rest)))
       (omega (arith, longer)) k (omega (arith, longer)))))
     where
-      longer : length (pre ++ (path-number d ∷ [])) ≡ length pre + 1
-      longer = length-append pre (path-number d ∷ [])
+      longer : length (pre ++ (packed d ∷ [])) ≡ length pre + 1
+      longer = length-append pre (packed d ∷ [])
 
-      here : getD table (length pre) 0 ≡ path-number d
-      here = rw e (getD-append-seam pre (path-number d) (map path-number ds ++ rest) 0)
+      here : getD table (length pre) no-path ≡ packed d
+      here = rw e (getD-append-seam pre (packed d) (map packed ds ++ rest) no-path)
 
-      next : At k ds (length (pre ++ (path-number d ∷ [])) + length ds) (length (pre ++ (path-number d ∷ [])))
+      next : At k ds (length (pre ++ (packed d ∷ [])) + length ds) (length (pre ++ (packed d ∷ [])))
           → At k ds (length pre + suc (length ds)) (length pre + 1)
-      next h = subst₂ (At k ds) (let q : length (pre ++ (path-number d ∷ [])) + length ds ≡ length pre + suc (length ds) = omega (arith, longer) in q)
+      next h = subst₂ (At k ds) (let q : length (pre ++ (packed d ∷ [])) + length ds ≡ length pre + suc (length ds) = omega (arith, longer) in q)
           longer h
 
       go : (b : Bool) → At k ds (length pre + suc (length ds)) (length pre + 1)
-          → cond b (length pre) (slot-of k (length pre + suc (length ds)) table (path-number c) (length pre + 1)) ≡ length pre + cond b zero
+          → cond b (length pre) (slot-of k (length pre + suc (length ds)) table (packed c) (length pre + 1)) ≡ length pre + cond b zero
           (suc (position c ds))
       go true n = omega arith
       go false n = omega arith
@@ -105,9 +98,9 @@ pub record Put (w w′ : Progress) (cs : List PathReduction) : Type 0 where
   pub table : Table w′ cs
 
 module _ (w : Progress) (cs : List PathReduction) (t : Table w cs) (c : PathReduction) (f : PathFits 256 c) where
-  slot-is : slot-of 8 (w .paths) (w .table) (path-number c) 0 ≡ position c cs
+  slot-is : slot-of 8 (w .paths) (w .table) (packed c) 0 ≡ position c cs
   slot-is =
-      subst (λ (p : ℕ). slot-of 8 p (w .table) (path-number c) 0 ≡ 0 + position c cs) (zero-add (length cs) ∙ sym (t .count))
+      subst (λ (p : ℕ). slot-of 8 p (w .table) (packed c) 0 ≡ 0 + position c cs) (zero-add (length cs) ∙ sym (t .count))
       (slot-position c f (w .table) cs (t .legal) [] (t .rest) (t .holds) (omega (arith, t .few)) 8 refl)
       ∙ zero-add (position c cs)
 
@@ -120,10 +113,10 @@ module _ (w : Progress) (cs : List PathReduction) (t : Table w cs) (c : PathRedu
         terms = w .terms;
         paths = max (w .paths) (i + 1);
         reductions = w .reductions;
-        table = set (w .table) i (path-number c);
+        table = set (w .table) i (packed c);
       }
 
-  kept-is : kept-path w (path-number c) ≡ cond (leb 8 (position c cs)) (blank 14) (stored (position c cs))
+  kept-is : kept-path w (packed c) ≡ cond (leb 8 (position c cs)) (blank 14) (stored (position c cs))
   unfolding kept-path
   kept-is = rw slot-is refl
 
@@ -134,17 +127,17 @@ module _ (w : Progress) (cs : List PathReduction) (t : Table w cs) (c : PathRedu
     count = omega (arith, t .count, below);
     few = t .few;
     rest = t .rest;
-    holds = ap (set (w .table) (position c cs)) (sym there) ∙ set-getD (w .table) (position c cs) 0 ∙ t .holds;
-    size = length-set (w .table) (position c cs) (path-number c) ∙ t .size;
+    holds = ap (set (w .table) (position c cs)) (sym there) ∙ set-getD (w .table) (position c cs) no-path ∙ t .holds;
+    size = length-set (w .table) (position c cs) (packed c) ∙ t .size;
     few-reductions = t .few-reductions;
   }
     where
       below : position c cs < length cs
       below = position-below c cs (T-of e)
 
-      there : getD (w .table) (position c cs) 0 ≡ path-number c
-      there = rw (t .holds) (List·getD-append (map path-number cs) (t .rest) 0 (position c cs) (omega (arith, length-map cs path-number, below))
-          ∙ position-at path-number 0 c cs (T-of e))
+      there : getD (w .table) (position c cs) no-path ≡ packed c
+      there = rw (t .holds) (List·getD-append (map packed cs) (t .rest) no-path (position c cs) (omega (arith, length-map cs packed, below))
+          ∙ position-at packed no-path c cs (T-of e))
 
   new : among c cs ≡ false → suc (length cs) ≤ 8 → Table (stored (position c cs)) (cs ++ (c ∷ []))
   new e l = go (t .rest) (t .holds)
@@ -152,43 +145,43 @@ module _ (w : Progress) (cs : List PathReduction) (t : Table w cs) (c : PathRedu
       at : position c cs ≡ length cs
       at = position-none c cs e
 
-      go : (rest : List ℕ) → w .table ≡ map path-number cs ++ rest → Table (stored (position c cs)) (cs ++ (c ∷ []))
-      go [] h = absurd (omega (arith, t .size, ap length h, length-append (map path-number cs) [], length-map cs path-number))
+      go : (rest : List PackedPath) → w .table ≡ map packed cs ++ rest → Table (stored (position c cs)) (cs ++ (c ∷ []))
+      go [] h = absurd (omega (arith, t .size, ap length h, length-append (map packed cs) [], length-map cs packed))
       go (x ∷ rest) h = record {
         legal = all-append (PathFits 256) cs (c ∷ []) (t .legal) (f, tt);
         count = omega (arith, t .count, length-append cs (c ∷ []), at);
         few = omega (arith, length-append cs (c ∷ []));
         rest = rest;
         holds =
-            ap (λ (l : List ℕ). set l (position c cs) (path-number c)) h
-            ∙ set-at (map path-number cs) x rest (path-number c) (position c cs) (length-map cs path-number ∙ sym at)
-            ∙ sym (append-snoc (map path-number cs) (path-number c) rest)
-            ∙ ap (λ (l : List ℕ). l ++ rest) (sym (map-append path-number cs (c ∷ [])));
-        size = length-set (w .table) (position c cs) (path-number c) ∙ t .size;
+            ap (λ (l : List PackedPath). set l (position c cs) (packed c)) h
+            ∙ set-at (map packed cs) x rest (packed c) (position c cs) (length-map cs packed ∙ sym at)
+            ∙ sym (append-snoc (map packed cs) (packed c) rest)
+            ∙ ap (λ (l : List PackedPath). l ++ rest) (sym (map-append packed cs (c ∷ [])));
+        size = length-set (w .table) (position c cs) (packed c) ∙ t .size;
         few-reductions = t .few-reductions;
       }
 
   -- A LEGAL PATH REDUCTION IS PUT WHERE `put` PUTS IT, while there is room
-  pub kept-room : length (put cs c) ≤ 8 → Put w (kept-path w (path-number c)) (put cs c)
+  pub kept-room : length (put cs c) ≤ 8 → Put w (kept-path w (packed c)) (put cs c)
   kept-room l = go (among c cs) refl l
     where
-      made : (ds : List PathReduction) → position c cs < 8 → Table (stored (position c cs)) ds → Put w (kept-path w (path-number c)) ds
+      made : (ds : List PathReduction) → position c cs < 8 → Table (stored (position c cs)) ds → Put w (kept-path w (packed c)) ds
       made ds h s =
           subst (λ (v : Progress). Put w v ds) (sym (kept-is ∙ rw (lt-leb 8 (position c cs) h) refl))
           (record { code = refl; at = refl; terms = refl; reductions = refl; table = s })
 
       go : (b : Bool) → among c cs ≡ b → length (cond b cs (cs ++ (c ∷ []))) ≤ 8
-          → Put w (kept-path w (path-number c)) (cond b cs (cs ++ (c ∷ [])))
+          → Put w (kept-path w (packed c)) (cond b cs (cs ++ (c ∷ [])))
       go true e l = made cs (omega (arith, position-below c cs (T-of e))) (old e)
       go false e l =
           let n = length-append cs (c ∷ []) in
           made (cs ++ (c ∷ [])) (omega (arith, position-none c cs e)) (new e (omega arith))
 
-  full : leb 8 (position c cs) ≡ true → kept-path w (path-number c) ≡ blank 14
+  full : leb 8 (position c cs) ≡ true → kept-path w (packed c) ≡ blank 14
   full p = kept-is ∙ rw p refl
 
   -- and a ninth is refused
-  pub kept-few : kept-path w (path-number c) .code ≡ 0 → length (put cs c) ≤ 8
+  pub kept-few : kept-path w (packed c) .code ≡ 0 → length (put cs c) ≤ 8
   unfolding blank
   kept-few z = go (among c cs) refl
     where

@@ -1,24 +1,27 @@
 -- THE BYTES OF A LEGAL TERM GIVE BACK THE TERM AND WHERE IT ENDS: a query's (`term-back`), a plan's expression (`expression-back`). Assumes nothing.
-use Prim.Native.Nat.{ℕ, zero, suc, _+_, _^_, _≤_, _<_}
+use Prim.Native.Nat.{ℕ, zero, suc, _+_, _*_, _^_, _≤_, _<_}
 use mathlib.Core.Path.{_≡_, refl, sym, ap, _∙_, subst}
 use mathlib.Core.Bool.{Bool, true, false, cond}
 use mathlib.Core.List.{List, [], _∷_, _++_, append-assoc}
 use native.Mathlib.Omega.{arith}
 use borrow.Author.Tests.{eq-eqb, ne-eqb}
 use lib.Dec.{eqb}
-use lib.ListN.{length, getD, drop, length-append}
+use lib.ListN.{length, getD, take, drop, length-append}
 use lib.Seq.{take-at}
-use Rattle.meaning.specs.Limits.{Every, PathFits, TermFits, depth, depth-of}
+use Rattle.meaning.specs.Limits.{Every, TermFits, depth, depth-of}
 use Rattle.meaning.specs.Plan.{Term, apply, leaf, literal}
-use Rattle.meaning.specs.Query.{Kind, PathReduction, QueryTerm, VertexTerm, number, operator, over, over-where, path, result, vertex}
+use Rattle.meaning.specs.Query.{Kind, PathReduction, QueryTerm, VertexTerm, number, operator, over, over-where, path, path-set}
+use Rattle.meaning.specs.Query.{result, vertex}
 use Rattle.terms.specs.declared.TermKind.{TermKind}
 use Rattle.terms.specs.Terms.{literal-tag}
 use Rattle.walks.specs.Lists.{All}
 use Rattle.wire.specs.Wire.{at16, at32, le16, le32}
-use Rattle.term_text.specs.Text.{expression-bytes, index-tag, of-kind, path-bytes, query-bytes}
+use Rattle.term_text.specs.Text.{expression-bytes, index-tag, of-kind, path-bytes, query-bytes, set-bytes, start-of, starts-bytes}
 use Rattle.term_text.specs.Tree.{Read, Reader, by-tag, expression-of, expression-to, one-of, query-term-of, several-of, two-of, written-index}
-use Rattle.term_text.specs.Tree.{written-path, written-reduction}
-use Rattle.term_text.proofs.Paths.{nth, source-small}
+use Rattle.term_text.specs.Tree.{one-start, starts-of, written-path, written-reduction}
+use Rattle.term_text.proofs.Fields.{nth}
+use Rattle.term_text.proofs.Paths.{OneFits, SetFits}
+use Rattle.term_text.proofs.Sources.{start-back, start-small, starts-back, starts-size}
 use Rattle.term_text.proofs.Steps.{byte-there, drop-on, tag-there, word-there}
 
 -- read, and ending behind its n bytes
@@ -75,18 +78,63 @@ module _ {A : Type 0} (make : ℕ → A) (join : ℕ → A → A → A) (tag : �
       → Gives (by-tag make join tag read other) s (first ∷ l) a
   other-back first l a p q gives at rest e = by-byte at ∙ rw (tag-there s at first (l ++ rest) e, p, q) (gives at rest e)
 
--- a path reduction
-path-back : (s : List ℕ) (c : PathReduction) → PathFits 256 c → Gives written-path s (0x10 ∷ path-bytes c) (path c)
+-- a path reduction, by its first byte: with one start or from anywhere, and with a set
+path-by : (s : List ℕ) (i : ℕ)
+    → written-path s i
+    ≡ (let n = getD s (i + 1) 0 in
+    let k = getD s (i + 2 + n) 0 in
+    cond (eqb (getD s i 0) 0x13)
+    (whole (path-set (record { keys = take n (drop (i + 2) s); sources = starts-of k s (i + 3 + n) })) (i + 3 + n + 2 * k))
+    (whole (path (record { keys = take n (drop (i + 2) s); sources = one-start (at16 s (i + 2 + n)) })) (i + 4 + n)))
 unfolding written-path
+path-by s i = go _ _ (eqb (getD s i 0) 0x13)
+  where
+    go : (a b : Read VertexTerm) (t : Bool) → elim t [ true ↦ a | false ↦ b ] ≡ cond t a b
+    go a b true = refl
+    go a b false = refl
+
+path-back : (s : List ℕ) (c : PathReduction) → OneFits c → Gives written-path s (0x10 ∷ path-bytes c) (path c)
 path-back s c f at rest e =
     let n = length (c .keys) in
-    let d1 : drop (at + 2) s ≡ c .keys ++ (le16 (c .source) ++ rest) =
-    drop-on s at 2 (0x10 ∷ n ∷ []) ((c .keys ++ le16 (c .source)) ++ rest) e refl ∙ append-assoc (c .keys) (le16 (c .source)) rest in
-    let d2 = drop-on s (at + 2) n (c .keys) (le16 (c .source) ++ rest) d1 refl in
-    let source : at16 s (at + 2 + n) ≡ c .source =
-    rw (nth s (at + 2 + n) 0 (at + 2 + n) 0 (omega arith), nth s (at + 2 + n) 1 (at + 2 + n + 1) 0 refl, d2) (omega (arith, source-small c f)) in
-    let end : at + 4 + n ≡ at + length (0x10 ∷ path-bytes c) = omega (arith, length-append (c .keys) (le16 (c .source))) in
-    rw (byte-there s at 0x10 n ((c .keys ++ le16 (c .source)) ++ rest) e, source, d1, take-at (c .keys) (le16 (c .source) ++ rest) n refl, end) refl
+    let l = le16 (start-of (c .sources)) in
+    let d1 : drop (at + 2) s ≡ c .keys ++ (l ++ rest) = drop-on s at 2 (0x10 ∷ n ∷ []) ((c .keys ++ l) ++ rest) e refl ∙ append-assoc (c .keys) l rest in
+    let d2 = drop-on s (at + 2) n (c .keys) (l ++ rest) d1 refl in
+    let source : at16 s (at + 2 + n) ≡ start-of (c .sources) =
+    rw (nth s (at + 2 + n) 0 (at + 2 + n) 0 (omega arith), nth s (at + 2 + n) 1 (at + 2 + n + 1) 0 refl, d2)
+    (omega (arith, start-small (c .sources) (f .0 .1, f .1))) in
+    let end : at + 4 + n ≡ at + length (0x10 ∷ path-bytes c) = omega (arith, length-append (c .keys) l) in
+    path-by s at
+    ∙ rw (
+      tag-there s at 0x10 (path-bytes c ++ rest) e,
+      byte-there s at 0x10 n ((c .keys ++ l) ++ rest) e,
+      source,
+      start-back (c .sources) (f .0 .1, f .1),
+      d1,
+      take-at (c .keys) (l ++ rest) n refl,
+      end,
+    ) refl
+
+set-back : (s : List ℕ) (c : PathReduction) → SetFits c → Gives written-path s (0x13 ∷ set-bytes c) (path-set c)
+set-back s c f at rest e =
+    let n = length (c .keys) in
+    let k = length (c .sources) in
+    let l = k ∷ starts-bytes (c .sources) in
+    let d1 : drop (at + 2) s ≡ c .keys ++ (l ++ rest) = drop-on s at 2 (0x13 ∷ n ∷ []) ((c .keys ++ l) ++ rest) e refl ∙ append-assoc (c .keys) l rest in
+    let d2 : drop (at + 2 + n) s ≡ l ++ rest = drop-on s (at + 2) n (c .keys) (l ++ rest) d1 refl in
+    let d3 : drop (at + 3 + n) s ≡ starts-bytes (c .sources) ++ rest =
+    ap (λ (j : ℕ). drop j s) (let z : at + 3 + n ≡ at + 2 + n + 1 = omega arith in z)
+    ∙ drop-on s (at + 2 + n) 1 (k ∷ []) (starts-bytes (c .sources) ++ rest) d2 refl in
+    let end : at + 3 + n + 2 * k ≡ at + length (0x13 ∷ set-bytes c) = omega (arith, length-append (c .keys) l, starts-size (c .sources)) in
+    path-by s at
+    ∙ rw (
+      tag-there s at 0x13 (set-bytes c ++ rest) e,
+      byte-there s at 0x13 n ((c .keys ++ l) ++ rest) e,
+      tag-there s (at + 2 + n) k (starts-bytes (c .sources) ++ rest) d2,
+      starts-back s (c .sources) (at + 3 + n) rest d3 (f .0 .1 .0),
+      d1,
+      take-at (c .keys) (l ++ rest) n refl,
+      end,
+    ) refl
 
 -- a reduction, by its first byte
 module _ (read : Reader VertexTerm) (s : List ℕ) where
@@ -121,6 +169,7 @@ by-kind result d s i = refl
 
 no-depth : {κ : Kind} (t : QueryTerm κ) → depth-of t ≤ 0 → ⊥
 no-depth (path c) h = omega arith
+no-depth (path-set c) h = omega arith
 no-depth (over o t) h = omega arith
 no-depth (over-where o c t) h = omega arith
 no-depth (number x) h = omega arith
@@ -134,6 +183,9 @@ term-back s κ t f zero h at rest e = absurd (no-depth t h)
 term-back s κ (path c) f (suc d) h at rest e =
     by-kind vertex d s at
     ∙ other-back number operator 0x11 (query-term-of d vertex) written-path s 0x10 (path-bytes c) (path c) refl refl (path-back s c f) at rest e
+term-back s κ (path-set c) f (suc d) h at rest e =
+    by-kind vertex d s at
+    ∙ other-back number operator 0x11 (query-term-of d vertex) written-path s 0x13 (set-bytes c) (path-set c) refl refl (set-back s c f) at rest e
 term-back s κ (over o t) f (suc d) h at rest e =
     by-kind result d s at
     ∙ other-back number operator 0x21 (query-term-of d result) (other result d) s 0x20 (o ∷ query-bytes vertex t) (over o t) refl refl

@@ -8,19 +8,22 @@ use native.Mathlib.Nat.{not-suc-le-zero}
 use borrow.Author.Tests.{eqb-true, eqb-false, ne-eqb}
 use lib.Dec.{leb, eqb}
 use lib.ListN.{getD}
+use Rattle.packed_path.specs.declared.PackedPath.{PackedPath}
+use Rattle.packed_path.specs.Steps.{no-path, same-packed}
 use Rattle.terms.specs.declared.Step.{Step}
 use Rattle.terms.specs.declared.TermKind.{TermKind}
 use Rattle.progress.specs.declared.Progress.{Progress}
 use Rattle.terms.specs.Terms.{read, slot-of, term-step}
 
 -- one index of the table
-pub slot-next : (k paths : ℕ) (table : List ℕ) (word i : ℕ) → 0 < k
-    → slot-of k paths table word i ≡ cond (leb paths i) i (cond (eqb (getD table i 0) word) i (slot-of (k - 1) paths table word (i + 1)))
+pub slot-next : (k paths : ℕ) (table : List PackedPath) (path : PackedPath) (i : ℕ) → 0 < k
+    → slot-of k paths table path i
+    ≡ cond (leb paths i) i (cond (same-packed (getD table i no-path) path) i (slot-of (k - 1) paths table path (i + 1)))
 unfolding slot-of
-slot-next zero paths table word i h = absurd (not-suc-le-zero h)
-slot-next (suc k) paths table word i h =
-    ap (λ (m : ℕ). cond (leb paths i) i (cond (eqb (getD table i 0) word) i (slot-of m paths table word (i + 1)))) (let e : k ≡ suc k - 1 = omega arith
-    in e)
+slot-next zero paths table path i h = absurd (not-suc-le-zero h)
+slot-next (suc k) paths table path i h =
+    ap (λ (m : ℕ). cond (leb paths i) i (cond (same-packed (getD table i no-path) path) i (slot-of m paths table path (i + 1))))
+    (let e : k ≡ suc k - 1 = omega arith in e)
 
 -- no depth left: the term alone
 pub read-none : (kind : TermKind) (left : ℕ) (s : List ℕ) (w : Progress) → left ≡ 0

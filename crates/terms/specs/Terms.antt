@@ -84,8 +84,8 @@ apply-step kind s w =
     let c = code-of (getD s (w .at + 1) 256) 11 in
     cond (eqb c 0) (record { progress = advanced w (w .at + 1 + 1); follow = 2; inner = kind }) (refused-step c)
 
--- what each kind has instead of literals and operators, by its first byte: in place terms a chain, with one start or a set of them, in result terms a reduction, without or with a condition, in
--- an entry's expression a chain's index, in a final expression an entry's; "9 | code | an illegal .. term .. byte"
+-- what each kind has instead of literals and operators, by its first byte: in place terms a chain, with one start or a set of them, in result terms a
+-- reduction, without or with a condition, in an entry's expression a chain's index, in a final expression an entry's; "9 | code | an illegal .. term .. byte"
 unfoldable pub leaf-step : TermKind → ℕ → List ℕ → Progress → Step
 leaf-step OfVertex tag s w = cond (eqb tag 0x10) (path-step s w) (cond (eqb tag 0x13) (set-step s w) (refused-step 9))
 leaf-step OfResult tag s w = cond (eqb tag 0x20) (reduce-step 1 s w) (cond (eqb tag 0x23) (reduce-step 2 s w) (refused-step 9))

@@ -16,11 +16,11 @@ returns : tie.Need-returns
 unfolding kept-path
 returns c = rw (← c .before .before .slot .ensures .0, le-leb _ _ (c .before .if1 .taken)) (c .blank-of .ensures)
 
-mul-r : tie.Need-mul-r
-mul-r c = search needs
+mul-path : tie.Need-mul-path
+mul-path c = search needs
 
-element-write-r : tie.Need-element-write-r
-element-write-r c = search needs
+element-set-from-path : tie.Need-element-set-from-path
+element-set-from-path c = search needs
 
 add-greater : tie.Need-add-greater
 add-greater c = search needs
@@ -39,8 +39,8 @@ keep-path-spec =
     slot-requires
     blank-of-requires
     returns
-    mul-r
-    element-write-r
+    mul-path
+    element-set-from-path
     add-greater
     greater-requires
     returns-2)

@@ -21,8 +21,8 @@ returns c = rw (← c .before .before .path-code .ensures, ne-eqb _ _ (c .before
 byte-requires : tie.Need-byte-requires
 byte-requires c κs = search needs
 
-path-word-requires : tie.Need-path-word-requires
-path-word-requires c κs = search needs
+path-at-requires : tie.Need-path-at-requires
+path-at-requires c κs = search needs
 
 add-advance : tie.Need-add-advance
 add-advance c = search needs
@@ -48,7 +48,7 @@ returns-2 c = rw (
   ← c .before .before .before .before .before .before .path-code .ensures,
   eq-eqb _ _ (c .before .before .before .before .before .if1 .left),
   ← c .before .before .before .before .byte .ensures .0,
-  ← c .before .before .before .path-word .ensures,
+  ← c .before .before .before .path-at .ensures,
   ← c .before .before .advance .ensures,
   ← c .before .keep-path .ensures,
 ) (c .alone-of .ensures)
@@ -62,7 +62,7 @@ path-step-of-spec =
     refuse-requires
     returns
     byte-requires
-    path-word-requires
+    path-at-requires
     add-advance
     cast-advance
     add-advance-2

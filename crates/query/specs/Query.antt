@@ -21,7 +21,7 @@ body-bytes (single t) = 1 ∷ query-bytes result t
 
 -- with the header of an `LPQ` file
 abbrev pub encode : Query → List ℕ
-encode q = header-bytes 0x51 ++ body-bytes q
+encode q = header-bytes 0x51 1 ++ body-bytes q
 
 -- "A question of kind 0 is a place term, of kind 1 a result term.": the kind of its term, by its kind byte
 abbrev pub term-kind : ℕ → TermKind
@@ -30,7 +30,7 @@ term-kind b = cond (eqb b 0) OfVertex OfResult
 -- the reading: header, kind, the term to a depth of 16, left-over bytes
 unfoldable pub query-scan : List ℕ → Progress
 query-scan s =
-    cond (eqb (opening-code 0x51 s) 0) (ended s (read (term-kind (getD s 5 256)) 16 s (started 6))) (blank (opening-code 0x51 s))
+    cond (eqb (opening-code 0x51 1 s) 0) (ended s (read (term-kind (getD s 5 256)) 16 s (started 6))) (blank (opening-code 0x51 1 s))
 
 -- the number of the first refusal, 0 where the bytes are accepted
 abbrev pub query-code : List ℕ → ℕ

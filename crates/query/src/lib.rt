@@ -18,7 +18,7 @@ fn term_kind(b: u16) -> TermKind
 pub fn scan(s: &[u8]) -> Progress
     ensures { λ r. ⌜ r ≡ query-scan (now (s .entry)) ⌝ }
 {
-    let c = fields::opening_code(s, 0x51);
+    let c = fields::opening_code(s, 0x51, 1);
     if c != 0 {
         return progress::blank_of(c);
     }

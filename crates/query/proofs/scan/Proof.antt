@@ -7,7 +7,7 @@ use Rattle.query.specs.Query.{query-scan}
 use Rattle.query.proofs.scan.Statement.{statement}
 use Rattle.query.proofs.scan.Tie as tie
 
-opening-is : (c : tie.After-opening-code) → c .opening-code .result ≡ opening-code 0x51 (c .before .before .args .s .now)
+opening-is : (c : tie.After-opening-code) → c .opening-code .result ≡ opening-code 0x51 1 (c .before .before .args .s .now)
 opening-is c = c .opening-code .ensures
 
 returns : tie.Need-returns

@@ -1,10 +1,12 @@
 // Plans (document 01, worksheet `LPW`): judged and read.
+use packed_path::PackedPath;
 use progress::Progress;
 use terms::TermKind;
 ghost use mathlib.Core.Path.{_≡_};
 ghost use Prim.Native.Nat.{_+_, _≤_, _<_};
-ghost use lib.ListN.{length};
-ghost use Rattle.plan.specs.Plan.{filler-code, slot-code, listed-code, listed-word, listed-step, listed-scan};
+ghost use lib.ListN.{length, getD};
+ghost use Rattle.plan.specs.Plan.{filler-code, slot-code, listed-keys-code, set-count-code, listed-starts-code, listed-code, listed-at, listed-end};
+ghost use Rattle.plan.specs.Plan.{listed-step, listed-scan, count-at};
 ghost use Rattle.plan.specs.Plan.{reduction-code, expressions-scan, entry-scan, entries-scan, count-code, final-scan, body-scan, plan-scan, plan-code};
 
 // An unused key byte: 1 missing, 9 other than 0.
@@ -31,10 +33,10 @@ fn slot_code_of(n: u16, j: u16, b: u16) -> u8
     filler_code_of(b)
 }
 
-// The first refusal of the six bytes of a path reduction at `at`, or 0.
-fn listed_code_of(s: &[u8], at: usize) -> u8
+// The first refusal of the key count and the three key bytes of a path reduction at `at`, or 0.
+fn listed_keys_code_of(s: &[u8], at: usize) -> u8
     requires { ⌜ at ≤ length (now s) ⌝ }
-    ensures { λ r. ⌜ r ≡ listed-code (now (s .entry)) at ⌝ }
+    ensures { λ r. ⌜ r ≡ listed-keys-code (now (s .entry)) at ⌝ }
 {
     let n = fields::byte(s, at);
     let c = fields::code_of(n, 3);
@@ -49,41 +51,107 @@ fn listed_code_of(s: &[u8], at: usize) -> u8
     if k2 != 0 {
         return k2;
     }
-    let k3 = slot_code_of(n, 2, fields::byte(s, at + 3));
-    if k3 != 0 {
-        return k3;
-    }
-    fields::source_code(fields::byte(s, at + 4), fields::byte(s, at + 5))
+    slot_code_of(n, 2, fields::byte(s, at + 3))
 }
 
-// The six bytes as one number.
-fn listed_word_of(s: &[u8], at: usize) -> u64
-    requires { ⌜ at ≤ length (now s) ⌝ }
-    ensures { λ r. ⌜ r ≡ listed-word (now (s .entry)) at ⌝ }
+// A set count: 0 for anywhere, at most 16.
+fn set_count_code_of(k: u16) -> u8
+    ensures { λ r. ⌜ r ≡ set-count-code k ⌝ }
 {
-    let first = fields::byte(s, at + 1);
-    let second = fields::byte(s, at + 2);
-    let third = fields::byte(s, at + 3);
-    path_fields::pack(
-        fields::byte(s, at),
-        first,
-        second,
-        third,
-        fields::byte(s, at + 4),
-        fields::byte(s, at + 5),
-    )
+    if 255 < k {
+        return 1;
+    }
+    if 16 < k {
+        return 9;
+    }
+    0
+}
+
+// The first refusal of its starts at `at`, or 0: one start in version 1, a set count and as many starts in version 2.
+fn listed_starts_code_of(s: &[u8], at: usize, version: u8) -> u8
+    requires { ⌜ at ≤ length (now s) + 4 ⌝ }
+    ensures { λ r. ⌜ r ≡ listed-starts-code version (now (s .entry)) at ⌝ }
+{
+    let first = fields::byte(s, at);
+    if version == 1 {
+        return fields::source_code(first, fields::byte(s, at + 1));
+    }
+    let c = set_count_code_of(first);
+    if c != 0 {
+        return c;
+    }
+    path_fields::starts_code(s, at + 1, first as usize)
+}
+
+// The first refusal of a path reduction at `at`, or 0.
+fn listed_code_of(s: &[u8], at: usize, version: u8) -> u8
+    requires { ⌜ at ≤ length (now s) ⌝ }
+    ensures { λ r. ⌜ r ≡ listed-code version (now (s .entry)) at ⌝ }
+{
+    let c = listed_keys_code_of(s, at);
+    if c != 0 {
+        return c;
+    }
+    listed_starts_code_of(s, at + 4, version)
+}
+
+// The path reduction at `at`.
+fn listed_at_of(s: &[u8], at: usize, version: u8) -> PackedPath
+    requires { ⌜ at ≤ length (now s) ⌝ }
+    ensures { λ r. ⌜ r ≡ listed-at version (now (s .entry)) at ⌝ }
+{
+    let first = wire::byte(s, at + 1);
+    let second = wire::byte(s, at + 2);
+    let third = wire::byte(s, at + 3);
+    let keys = path_fields::pack_keys(wire::byte(s, at), first, second, third);
+    if version == 1 {
+        return path_fields::one_source(keys, wire::half(s, at + 4));
+    }
+    path_fields::counted_sources(keys, s, at + 4)
+}
+
+// A byte as an index.
+fn index_at(s: &[u8], at: usize) -> usize
+    ensures { λ r. ⌜ (r ≡ getD (now (s .entry)) at 0) × (r ≤ 255) ⌝ }
+{
+    wire::byte(s, at) as usize
+}
+
+// Where it ends.
+fn listed_end_of(s: &[u8], at: usize, version: u8) -> usize
+    requires { ⌜ at ≤ length (now s) + 150000 ⌝ }
+    ensures { λ r. ⌜ (r ≡ listed-end version (now (s .entry)) at) × (r ≤ at + 515) ⌝ }
+{
+    if version == 1 {
+        return at + 6;
+    }
+    at + 5 + 2 * index_at(s, at + 4)
+}
+
+// Where the entry count of a worksheet stands, behind its path reductions.
+pub fn count_at(s: &[u8]) -> usize
+    ensures { λ r. ⌜ (r ≡ count-at (now (s .entry))) × (r ≤ 140000) ⌝ }
+{
+    let version = wire::byte(s, 3);
+    let mut at: usize = 7;
+    let mut left = index_at(s, 6);
+    while 0 < left {
+        at = listed_end_of(s, at, version);
+        left -= 1;
+    }
+    at
 }
 
 // One path reduction more.
-fn listed_step_of(s: &[u8], w: Progress) -> Progress
-    ensures { λ r. ⌜ r ≡ listed-step (now (s .entry)) w ⌝ }
+fn listed_step_of(s: &[u8], w: Progress, version: u8) -> Progress
+    ensures { λ r. ⌜ r ≡ listed-step version (now (s .entry)) w ⌝ }
 {
     let at = w.at;
     let i = w.paths;
     if s.len() <= at {
         return progress::blank_of(1);
     }
-    let c = listed_code_of(s, at);
+    let c = listed_code_of(s, at, version);
     if c != 0 {
         return progress::blank_of(c);
     }
@@ -91,15 +159,15 @@ fn listed_step_of(s: &[u8], w: Progress) -> Progress
         return progress::blank_of(14);
     }
     let mut r = w;
-    r.at = at + 6;
+    r.at = listed_end_of(s, at, version);
     r.paths = i + 1;
-    r.table[i] = listed_word_of(s, at);
+    r.table[i] = listed_at_of(s, at, version);
     r
 }
 
 // The path reductions, k of them. A refusal is handed on.
-fn listed(s: &[u8], w: Progress, k: usize) -> Progress
-    ensures { λ r. ⌜ r ≡ listed-scan k (now (s .entry)) w ⌝ }
+fn listed(s: &[u8], w: Progress, k: usize, version: u8) -> Progress
+    ensures { λ r. ⌜ r ≡ listed-scan k version (now (s .entry)) w ⌝ }
 {
     let mut state = w;
     let mut left = k;
@@ -107,7 +175,7 @@ fn listed(s: &[u8], w: Progress, k: usize) -> Progress
         if state.code != 0 {
             return state;
         }
-        state = listed_step_of(s, state);
+        state = listed_step_of(s, state, version);
         left -= 1;
     }
     state
@@ -230,7 +298,7 @@ fn body(s: &[u8], w: Progress, kind: u16) -> Progress
 pub fn scan(s: &[u8]) -> Progress
     ensures { λ r. ⌜ r ≡ plan-scan (now (s .entry)) ⌝ }
 {
-    let c = fields::opening_code(s, 0x57);
+    let c = fields::opening_code(s, 0x57, 2);
     if c != 0 {
         return progress::blank_of(c);
     }
@@ -242,7 +310,8 @@ pub fn scan(s: &[u8]) -> Progress
     if 8 < count {
         return progress::blank_of(14);
     }
-    let paths = listed(s, progress::start(7), count as usize);
+    let version = wire::byte(s, 3);
+    let paths = listed(s, progress::start(7), count as usize, version);
     progress::finish(s, body(s, paths, kind))
 }
 

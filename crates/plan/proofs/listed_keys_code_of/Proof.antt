@@ -1,4 +1,4 @@
--- `plan::listed_code_of` meets its contract. Assumes nothing.
+-- `plan::listed_keys_code_of` meets its contract. Assumes nothing.
 use Prim.Native.Nat.{_+_}
 use mathlib.Core.Path.{_≡_, refl, _∙_}
 use borrow.Author.Needs.{needs}
@@ -6,8 +6,8 @@ use borrow.Author.Tests.{eq-eqb, ne-eqb}
 use lib.ListN.{getD}
 use Rattle.fields.specs.Fields.{code-of}
 use Rattle.plan.specs.Plan.{listed-code, slot-code}
-use Rattle.plan.proofs.listed_code_of.Statement.{statement}
-use Rattle.plan.proofs.listed_code_of.Tie as tie
+use Rattle.plan.proofs.listed_keys_code_of.Statement.{statement}
+use Rattle.plan.proofs.listed_keys_code_of.Tie as tie
 
 byte-requires : tie.Need-byte-requires
 byte-requires c κs = search needs
@@ -137,8 +137,8 @@ returns-5 c =
     )
     (c .source-code .ensures ∙ rw (c .before .byte6 .ensures .0, c .before .before .byte5 .ensures .0) refl)
 
-pub listed-code-of-spec : {M : Type 1} → statement M
-listed-code-of-spec =
+pub listed-keys-code-of-spec : {M : Type 1} → statement M
+listed-keys-code-of-spec =
     tie.close
     (tie.spec
     byte-requires

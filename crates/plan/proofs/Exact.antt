@@ -1,4 +1,4 @@
--- THE READER OF PLANS ACCEPTS WHAT DOCUMENT 01 LAYS DOWN, WITH REQUEST A OF DOCUMENT 02, AND THAT ONLY. Assumes nothing.
+-- THE READER OF PLANS ACCEPTS WHAT DOCUMENT 01 LAYS DOWN, WITH REQUESTS A AND B OF DOCUMENT 02, AND THAT ONLY. Assumes nothing.
 use Prim.Native.Nat.{ℕ, zero, suc, _+_, _≤_, _<_}
 use mathlib.Core.Path.{_≡_, refl, sym, ap, ap₂, _∙_, subst}
 use mathlib.Core.Bool.{Bool, true, false, cond}
@@ -10,6 +10,7 @@ use lib.ListN.{length, getD, drop, length-append, length-drop}
 use Rattle.meaning.specs.Limits.{BodyLegal, Expression, PlanLegal, entry-terms, plan-terms, terms}
 use Rattle.meaning.specs.Plan.{Body, Plan, each-vertex, one-result}
 use Rattle.meaning.specs.Query.{PathReduction}
+use Rattle.meaning.proofs.Lists.{all-weaken}
 use Rattle.fields.specs.Fields.{opening-code}
 use Rattle.fields.proofs.Opening.{opening-found}
 use Rattle.progress.specs.declared.Progress.{Progress}
@@ -19,17 +20,17 @@ use Rattle.progress.specs.Progress.{blank, ended, started}
 use Rattle.term_text.specs.Text.{expression-bytes}
 use Rattle.term_text.proofs.Ends.{ended-code, ended-whole, no-rest, started-table}
 use Rattle.terms.proofs.Laws.{accepted-as, read-accepted}
-use Rattle.term_text.proofs.Paths.{drop-at, nth, present}
+use Rattle.term_text.proofs.Fields.{drop-at, nth, present}
 use Rattle.term_text.proofs.Steps.{drop-on, there}
 use Rattle.term_text.proofs.Table.{Further, Table}
 use Rattle.wire.specs.Header.{header-bytes, header-code}
 use Rattle.wire.specs.Wire.{Bytes}
-use Rattle.wire.proofs.Header.{header-accepted, header-found}
+use Rattle.wire.proofs.Header.{header-accepted, header-found, header-version}
 use Rattle.plan.specs.Plan.{body-scan, count-code, entries-scan, entry-scan, final-scan, moved, plan-code, plan-scan, listed-scan}
 use Rattle.plan.specs.Text.{all-listed-bytes, body-bytes, encode, entries-bytes, entry-count, kind-of, reduction-byte}
 use Rattle.plan.proofs.ListedEntries.{Passed, entries-complete, entries-sound, entry-complete, entry-sound, expr-complete, expr-sound, moved-table}
 use Rattle.plan.proofs.ListedEntries.{plain-bytes, plain-entry}
-use Rattle.plan.proofs.ListedPaths.{ListedHeld, filler-zero, listed-complete, listed-sound}
+use Rattle.plan.proofs.ListedPaths.{ListedHeld, all-listed, filler-zero, listed-complete, listed-sound}
 
 -- what the reader knows of an accepted plan: its path reductions in the table, its terms and its entries
 pub record Scanned (w : Progress) (p : Plan) : Type 0 where
@@ -96,9 +97,9 @@ module _ (s : List ℕ) where
       })
 
 -- the whole
-plan-scanned : (s : List ℕ) (kind count : ℕ) → header-code 0x57 5 s ≡ 0 → getD s 5 256 ≡ kind → kind ≤ 1 → getD s 6 256 ≡ count
+plan-scanned : (s : List ℕ) (kind count : ℕ) → header-code 0x57 2 5 s ≡ 0 → getD s 5 256 ≡ kind → kind ≤ 1 → getD s 6 256 ≡ count
     → count ≤ 8
-    → plan-scan s ≡ ended s (body-scan kind s (listed-scan count s (started 7)))
+    → plan-scan s ≡ ended s (body-scan kind s (listed-scan count (getD s 3 0) s (started 7)))
 unfolding plan-scan
 plan-scanned s kind count h k l c m = rw (h, k, le-ltb 255 kind (omega arith), le-ltb 1 kind l, c, le-ltb 255 count (omega arith), le-ltb 8 count m) refl
 
@@ -112,36 +113,38 @@ unfolding started
 read-complete p l =
     let s : List ℕ = encode p in
     let n = length (p .paths) in
-    let a = listed-complete s (p .paths) (started 7) [] (body-bytes (p .body)) refl (started-table 7) (l .paths-legal) refl (omega (arith, l .few-paths)) in
-    let w1 : Progress = listed-scan n s (started 7) in
+    let v = p .version in
+    let a = listed-complete s v (p .paths) (started 7) [] (body-bytes (p .body)) refl (started-table 7) (all-listed p l) refl (omega (arith, l .few-paths)) in
+    let w1 : Progress = listed-scan n v s (started 7) in
     let e1 : drop (w1 .at) s ≡ body-bytes (p .body) ++ [] =
-    ap (λ (i : ℕ). drop i s) (a .at) ∙ drop-on s 7 (length (all-listed-bytes (p .paths))) (all-listed-bytes (p .paths)) (body-bytes (p .body)) refl refl
+    ap (λ (i : ℕ). drop i s) (a .at) ∙ drop-on s 7 (length (all-listed-bytes v (p .paths))) (all-listed-bytes v (p .paths)) (body-bytes (p .body)) refl refl
     ∙ sym (append-nil (body-bytes (p .body))) in
     let b = body-complete s (p .body) w1 (p .paths) [] (a .code) (a .table) (a .terms) (a .reductions) e1 (l .body-legal) (l .few-terms) in
-    let len = length-append (all-listed-bytes (p .paths)) (body-bytes (p .body)) in
+    let len = length-append (all-listed-bytes v (p .paths)) (body-bytes (p .body)) in
     let whole =
     plan-scanned s (kind-of (p .body)) n
-    (header-accepted 0x57 5 (kind-of (p .body) ∷ n ∷ (all-listed-bytes (p .paths) ++ body-bytes (p .body))) (omega arith)) refl (kind-small (p .body)) refl
-    (l .few-paths)
+    (header-accepted 0x57 2 5 v (kind-of (p .body) ∷ n ∷ (all-listed-bytes v (p .paths) ++ body-bytes (p .body))) (l .known-version .0) (l .known-version .1)
+    (omega arith))
+    refl (kind-small (p .body)) refl (l .few-paths)
     ∙ ended-whole s (body-scan (kind-of (p .body)) s w1) (omega (arith, b .at, a .at)) in
     subst (λ (w : Progress). Scanned w p) (sym whole) (record { accepted = b .code; terms = b .terms; reductions = b .reductions; table = b .table })
 
 -- what an accepted text is: header, kind, count, and the rest read to its end
 accepted-parts : (s : List ℕ) → plan-code s ≡ 0
-    → (header-code 0x57 5 s ≡ 0) × (getD s 5 256 ≤ 1) × (getD s 6 256 ≤ 8)
-    × (ended s (body-scan (getD s 5 256) s (listed-scan (getD s 6 256) s (started 7))) .code ≡ 0)
+    → (header-code 0x57 2 5 s ≡ 0) × (getD s 5 256 ≤ 1) × (getD s 6 256 ≤ 8)
+    × (ended s (body-scan (getD s 5 256) s (listed-scan (getD s 6 256) (getD s 3 0) s (started 7))) .code ≡ 0)
 unfolding plan-scan blank
-accepted-parts s e = go (eqb (opening-code 0x57 s) 0) (ltb 255 (getD s 6 256)) (ltb 8 (getD s 6 256)) refl refl refl e
+accepted-parts s e = go (eqb (opening-code 0x57 2 s) 0) (ltb 255 (getD s 6 256)) (ltb 8 (getD s 6 256)) refl refl refl e
   where
-    go : (a b c : Bool) → eqb (opening-code 0x57 s) 0 ≡ a → ltb 255 (getD s 6 256) ≡ b → ltb 8 (getD s 6 256) ≡ c
-        → cond a (cond b (blank 1) (cond c (blank 14) (ended s (body-scan (getD s 5 256) s (listed-scan (getD s 6 256) s (started 7))))))
-        (blank (opening-code 0x57 s)) .code ≡ 0
-        → (header-code 0x57 5 s ≡ 0) × (getD s 5 256 ≤ 1) × (getD s 6 256 ≤ 8)
-        × (ended s (body-scan (getD s 5 256) s (listed-scan (getD s 6 256) s (started 7))) .code ≡ 0)
-    go false b c p q r z = absurd (eqb-false (opening-code 0x57 s) 0 p z)
+    go : (a b c : Bool) → eqb (opening-code 0x57 2 s) 0 ≡ a → ltb 255 (getD s 6 256) ≡ b → ltb 8 (getD s 6 256) ≡ c
+        → cond a (cond b (blank 1) (cond c (blank 14) (ended s (body-scan (getD s 5 256) s (listed-scan (getD s 6 256) (getD s 3 0) s (started 7))))))
+        (blank (opening-code 0x57 2 s)) .code ≡ 0
+        → (header-code 0x57 2 5 s ≡ 0) × (getD s 5 256 ≤ 1) × (getD s 6 256 ≤ 8)
+        × (ended s (body-scan (getD s 5 256) s (listed-scan (getD s 6 256) (getD s 3 0) s (started 7))) .code ≡ 0)
+    go false b c p q r z = absurd (eqb-false (opening-code 0x57 2 s) 0 p z)
     go true true c p q r z = absurd (omega arith)
     go true false true p q r z = absurd (omega arith)
-    go true false false p q r z = let f = opening-found 0x57 s (eqb-true (opening-code 0x57 s) 0 p) in (f .0, f .1, ltb-false 8 (getD s 6 256) r, z)
+    go true false false p q r z = let f = opening-found 0x57 2 s (eqb-true (opening-code 0x57 2 s) 0 p) in (f .0, f .1, ltb-false 8 (getD s 6 256) r, z)
 
 -- a refused state is handed on
 body-handed : (kind : ℕ) (s : List ℕ) (w : Progress) → (w .code ≡ 0 → ⊥) → body-scan kind s w ≡ w
@@ -250,27 +253,36 @@ read-sound s bytes e =
     let p = accepted-parts s e in
     let kind = getD s 5 256 in
     let count = getD s 6 256 in
-    let w1 : Progress = listed-scan (getD s 6 256) s (started 7) in
+    let w1 : Progress = listed-scan (getD s 6 256) (getD s 3 0) s (started 7) in
     let z = ended-code s (body-scan kind s w1) (p .3) in
     let ok = body-accepted kind s w1 (z .0) in
-    let f = listed-sound s bytes count (started 7) [] refl (started-table 7) (omega (arith, p .2)) ok in
-    let reads : listed-scan (length (f .0)) s (started 7) ≡ w1 = ap (λ (m : ℕ). listed-scan m s (started 7)) (f .2) in
-    let a = subst (λ (v : Progress). ListedHeld (started 7) v (f .0) (length (all-listed-bytes (f .0)))) reads
-    (listed-complete s (f .0) (started 7) [] (f .1) refl (started-table 7) (f .3) (f .4) (omega (arith, p .2, f .2))) in
+    let v = getD s 3 0 in
+    let known = header-version 0x57 2 5 s (p .0) (omega arith) in
+    let f = listed-sound s v bytes (known .0) count (started 7) [] refl (started-table 7) (omega (arith, p .2)) ok in
+    let reads : listed-scan (length (f .0)) v s (started 7) ≡ w1 = ap (λ (m : ℕ). listed-scan m v s (started 7)) (f .2) in
+    let a = subst (λ (w : Progress). ListedHeld (started 7) w (f .0) (length (all-listed-bytes v (f .0)))) reads
+    (listed-complete s v (f .0) (started 7) [] (f .1) refl (started-table 7) (f .3) (f .4) (omega (arith, p .2, f .2))) in
     let b = body-sound s bytes kind w1 (f .0) (p .1) ok (a .table) (a .terms) (a .reductions) (z .0) in
     let c = subst (λ (k : ℕ). Further w1 (body-scan k s w1) (f .0) (length (body-bytes (b .0))) (plan-terms (b .0)) (entry-count (b .0))) (b .2)
     (body-complete s (b .0) w1 (f .0) (b .1) ok (a .table) (a .terms) (a .reductions) (b .3) (b .4) (b .5)) in
     let rest : f .1 ≡ body-bytes (b .0) ++ b .1 =
-    sym (ap (λ (i : ℕ). drop i s) (a .at) ∙ drop-on s 7 (length (all-listed-bytes (f .0))) (all-listed-bytes (f .0)) (f .1) (f .4) refl) ∙ b .3 in
-    let len = length-append (all-listed-bytes (f .0)) (f .1) in
+    sym (ap (λ (i : ℕ). drop i s) (a .at) ∙ drop-on s 7 (length (all-listed-bytes v (f .0))) (all-listed-bytes v (f .0)) (f .1) (f .4) refl) ∙ b .3 in
+    let len = length-append (all-listed-bytes v (f .0)) (f .1) in
     let len2 = length-append (body-bytes (b .0)) (b .1) in
     let none : b .1 ≡ [] = no-rest (b .1) (omega (arith, length-drop 7 s, ap length (f .4), ap length rest, z .1, c .at, a .at)) in (
-      record { paths = f .0; body = b .0 },
-      record { few-paths = omega (arith, f .2, p .2); paths-legal = f .3; body-legal = b .4; few-terms = b .5 },
-      sym (header-found 0x57 5 s (p .0)
-          ∙ ap (λ (t : List ℕ). header-bytes 0x57 ++ t) (drop-at s 5 (present s 5 (omega (arith, p .1)))
+      record { version = v; paths = f .0; body = b .0 },
+      record {
+        known-version = known;
+        paths-held = all-weaken (f .0) (λ c l. l .1) (f .3);
+        few-paths = omega (arith, f .2, p .2);
+        paths-legal = all-weaken (f .0) (λ c l. l .0) (f .3);
+        body-legal = b .4;
+        few-terms = b .5;
+      },
+      sym (header-found 0x57 2 5 s (p .0) (omega arith)
+          ∙ ap (λ (t : List ℕ). header-bytes 0x57 v ++ t) (drop-at s 5 (present s 5 (omega (arith, p .1)))
           ∙ ap₂ (λ (x : ℕ) (t : List ℕ). x ∷ t) (sym (b .2)) (drop-at s 6 (present s 6 (omega (arith, p .2)))
           ∙ ap₂ (λ (x : ℕ) (t : List ℕ). x ∷ t) (sym (f .2)) (f .4
-          ∙ ap (λ (t : List ℕ). all-listed-bytes (f .0) ++ t) (rest ∙ ap (λ (t : List ℕ). body-bytes (b .0) ++ t) none
+          ∙ ap (λ (t : List ℕ). all-listed-bytes v (f .0) ++ t) (rest ∙ ap (λ (t : List ℕ). body-bytes (b .0) ++ t) none
           ∙ append-nil (body-bytes (b .0))))))),
     )

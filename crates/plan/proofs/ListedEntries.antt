@@ -20,7 +20,7 @@ use Rattle.progress.specs.Progress.{blank}
 use Rattle.terms.proofs.Laws.{accepted-as, read-accepted}
 use Rattle.term_text.specs.Text.{expression-bytes, index-tag}
 use Rattle.term_text.proofs.Exact.{expression-complete, expression-sound}
-use Rattle.term_text.proofs.Paths.{code-range, code-zero, drop-at, nth}
+use Rattle.term_text.proofs.Fields.{code-range, code-zero, drop-at, nth}
 use Rattle.term_text.proofs.Steps.{drop-on, there}
 use Rattle.term_text.proofs.Table.{Further, Table}
 use Rattle.walks.specs.Lists.{All}

@@ -1,47 +1,81 @@
 -- THE ENCODING OF A LEGAL PLAN GIVES BACK THE PLAN, AND ACCEPTED BYTES ARE THE ENCODING OF THE PLAN THAT THEY GIVE. Assumes nothing.
-use Prim.Native.Nat.{ℕ, suc, _+_, _-_, _≤_, _<_}
+use Prim.Native.Nat.{ℕ, suc, _+_, _-_, _*_, _≤_, _<_}
 use mathlib.Core.Path.{_≡_, refl, sym, ap, _∙_}
 use mathlib.Core.Bool.{Bool, true, false, cond}
 use mathlib.Core.List.{List, [], _∷_, _++_, append-assoc, append-nil}
 use mathlib.Core.Option.{Option, none, some}
 use native.Mathlib.Omega.{arith}
-use borrow.Author.Tests.{le-leb, lt-leb}
-use lib.Dec.{leb, leb→le}
+use borrow.Author.Tests.{eqb-true, le-leb, lt-leb}
+use lib.Dec.{leb, eqb, leb→le}
 use lib.ListN.{length, getD, take, drop, length-append}
-use Rattle.meaning.specs.Limits.{BodyLegal, EntryLegal, Expression, Optional, PathFits, PlanLegal}
+use Rattle.meaning.specs.Limits.{BodyLegal, EntryLegal, Expression, Optional, PlanLegal}
 use Rattle.meaning.specs.Plan.{Body, Plan, Term, VertexReduction, each-vertex, one-result}
 use Rattle.meaning.specs.Query.{PathReduction}
+use Rattle.packed_path.proofs.Keys.{legal-parts}
 use Rattle.terms.specs.Terms.{literal-tag}
 use Rattle.terms.specs.declared.TermKind.the-variants.{OfEntry, OfFinal}
-use Rattle.term_text.specs.Text.{expression-bytes}
-use Rattle.term_text.specs.Tree.{Read, expression-of}
-use Rattle.term_text.proofs.Paths.{legal-parts, nth, source-small}
+use Rattle.term_text.specs.Text.{expression-bytes, start-of, starts-bytes}
+use Rattle.term_text.specs.Tree.{Read, expression-of, one-start, starts-of}
+use Rattle.term_text.proofs.Fields.{nth}
+use Rattle.term_text.proofs.Sources.{Single, start-back, start-small, starts-back, starts-size}
 use Rattle.term_text.proofs.Steps.{drop-on, tag-there}
 use Rattle.term_text.proofs.Tree.{Back, expression-back, given, seen, several-back, whole}
 use Rattle.wire.specs.Wire.{Bytes, at16, le16}
-use Rattle.plan.specs.Plan.{plan-code}
-use Rattle.plan.specs.Text.{all-listed-bytes, body-bytes, encode, entries-bytes, entry-bytes, kind-of, listed-bytes}
+use Rattle.plan.specs.Plan.{count-at, plan-code}
+use Rattle.plan.specs.Text.{all-listed-bytes, body-bytes, encode, entries-bytes, entry-bytes, kind-of, listed-bytes, listed-starts}
 use Rattle.plan.specs.Tree.{body-of, entry-of, listed-path, plan-of}
 use Rattle.plan.proofs.Exact.{read-complete, read-sound}
+use Rattle.plan.proofs.ListedPaths.{Listed, all-listed, chains-there}
 
--- a path reduction: of its three key bytes as many are keys as it has
-path-back : (s : List ℕ) (c : PathReduction) → PathFits 256 c → Back listed-path listed-bytes s c
-unfolding listed-path
-path-back s c f at rest e =
-    let p = legal-parts (c .keys) (f .0) in
-    let ks = getD (c .keys) 0 0 ∷ getD (c .keys) 1 0 ∷ getD (c .keys) 2 0 ∷ [] in
-    let d = drop-on s at 1 (length (c .keys) ∷ []) (ks ++ (le16 (c .source) ++ rest)) e refl in
-    let source : at16 s (at + 4) ≡ c .source =
-    rw (nth s at 4 (at + 4) 0 refl, nth s at 5 (at + 4 + 1) 0 (omega arith), e) (omega (arith, source-small c f)) in
-    let same = keys (c .keys) (leb→le (length (c .keys)) 3 (p .1)) (le16 (c .source) ++ rest) in
-    rw (tag-there s at (length (c .keys)) (ks ++ (le16 (c .source) ++ rest)) e, d, same, source) refl
-  where
-    keys : (ks : List ℕ) → length ks ≤ 3 → (l : List ℕ) → take (length ks) (getD ks 0 0 ∷ getD ks 1 0 ∷ getD ks 2 0 ∷ l) ≡ ks
-    keys [] h l = refl
-    keys (x ∷ []) h l = refl
-    keys (x ∷ (y ∷ [])) h l = refl
-    keys (x ∷ (y ∷ (z ∷ []))) h l = refl
-    keys (x ∷ (y ∷ (z ∷ (w ∷ ks)))) h l = absurd (omega arith)
+-- a path reduction: of its three key bytes as many are keys as it has, and its starts are read as its version has them
+module _ (version : ℕ) (s : List ℕ) where
+  path-by : (i : ℕ)
+      → let keys = take (getD s i 0) (drop (i + 1) s) in
+      let k = getD s (i + 4) 0 in
+      listed-path version s i
+      ≡ cond (eqb version 1) (whole (record { keys = keys; sources = one-start (at16 s (i + 4)) }) (i + 6))
+      (whole (record { keys = keys; sources = starts-of k s (i + 5) }) (i + 5 + 2 * k))
+  unfolding listed-path
+  path-by i = go _ _ (eqb version 1)
+    where
+      go : (a b : Read PathReduction) (t : Bool) → elim t [ true ↦ a | false ↦ b ] ≡ cond t a b
+      go a b true = refl
+      go a b false = refl
+
+  keys : (ks : List ℕ) → length ks ≤ 3 → (l : List ℕ) → take (length ks) (getD ks 0 0 ∷ getD ks 1 0 ∷ getD ks 2 0 ∷ l) ≡ ks
+  keys [] h l = refl
+  keys (x ∷ []) h l = refl
+  keys (x ∷ (y ∷ [])) h l = refl
+  keys (x ∷ (y ∷ (z ∷ []))) h l = refl
+  keys (x ∷ (y ∷ (z ∷ (w ∷ ks)))) h l = absurd (omega arith)
+
+  path-back : (c : PathReduction) → Listed version c → Back (listed-path version) (listed-bytes version) s c
+  path-back c f at rest e =
+      let p = legal-parts (c .keys) (f .0 .0) in
+      let ks = getD (c .keys) 0 0 ∷ getD (c .keys) 1 0 ∷ getD (c .keys) 2 0 ∷ [] in
+      let l = listed-starts version (c .sources) in
+      let d = drop-on s at 1 (length (c .keys) ∷ []) (ks ++ (l ++ rest)) e refl in
+      let same = keys (c .keys) (leb→le (length (c .keys)) 3 (p .1)) (l ++ rest) in
+      let behind = drop-on s at 4 (length (c .keys) ∷ ks) (l ++ rest) e refl in
+      path-by at ∙ rw (tag-there s at (length (c .keys)) (ks ++ (l ++ rest)) e, d, same) (starts (eqb version 1) refl behind)
+    where
+      starts : (b : Bool) → eqb version 1 ≡ b → drop (at + 4) s ≡ cond b (le16 (start-of (c .sources))) (length (c .sources) ∷ starts-bytes (c .sources)) ++ rest
+          → cond b (whole (record { keys = c .keys; sources = one-start (at16 s (at + 4)) }) (at + 6))
+          (whole (record { keys = c .keys; sources = starts-of (getD s (at + 4) 0) s (at + 5) }) (at + 5 + 2 * getD s (at + 4) 0))
+          ≡ whole c
+          (at + suc (suc (suc (suc (length (cond b (le16 (start-of (c .sources))) (length (c .sources) ∷ starts-bytes (c .sources))))))))
+      starts true p d =
+          let one : Single (c .sources) = (f .0 .1, f .1 (let v = eqb-true version 1 p in omega arith)) in
+          let source : at16 s (at + 4) ≡ start-of (c .sources) =
+          rw (nth s (at + 4) 0 (at + 4) 0 (omega arith), nth s (at + 4) 1 (at + 4 + 1) 0 refl, d) (omega (arith, start-small (c .sources) one)) in
+          rw (source, start-back (c .sources) one) refl
+      starts false p d =
+          let k = length (c .sources) in
+          let d1 : drop (at + 5) s ≡ starts-bytes (c .sources) ++ rest =
+          ap (λ (j : ℕ). drop j s) (let z : at + 5 ≡ at + 4 + 1 = omega arith in z)
+          ∙ drop-on s (at + 4) 1 (k ∷ []) (starts-bytes (c .sources) ++ rest) d refl in
+          let end : at + 5 + 2 * k ≡ at + suc (suc (suc (suc (suc (length (starts-bytes (c .sources))))))) = omega (arith, starts-size (c .sources)) in
+          rw (tag-there s (at + 4) k (starts-bytes (c .sources) ++ rest) d, starts-back s (c .sources) (at + 5) rest d1 (f .0 .1 .0), end) refl
 
 module _ (count : ℕ) (s : List ℕ) where
   -- the expression of an entry, and the final one
@@ -117,11 +151,18 @@ pub plan-back : (p : Plan) → PlanLegal 256 p → plan-of (encode p) ≡ p
 unfolding plan-of
 plan-back p l =
     let s = encode p in
-    let n = length (all-listed-bytes (p .paths)) in
-    let a = several-back listed-path listed-bytes (PathFits 256) all-listed-bytes refl (λ c cs. refl) s
-    (path-back s) (p .paths) (l .paths-legal) 7 (body-bytes (p .body)) refl in
-    let d = drop-on s 7 n (all-listed-bytes (p .paths)) (body-bytes (p .body)) refl refl in
+    let v = p .version in
+    let n = length (all-listed-bytes v (p .paths)) in
+    let a = several-back (listed-path v) (listed-bytes v) (Listed v) (all-listed-bytes v) refl (λ c cs. refl) s
+    (path-back v s) (p .paths) (all-listed p l) 7 (body-bytes (p .body)) refl in
+    let d = drop-on s 7 n (all-listed-bytes v (p .paths)) (body-bytes (p .body)) refl refl in
     rw (a, body-back (length (p .paths)) s (p .body) (l .body-legal) (7 + n) d) refl
+
+-- where its body stands
+pub body-there : (p : Plan) → PlanLegal 256 p → count-at (encode p) ≡ 7 + length (all-listed-bytes (p .version) (p .paths))
+unfolding count-at
+body-there p l =
+    chains-there (encode p) (p .version) (p .paths) (all-listed p l) 7 (body-bytes (p .body)) refl
 
 -- so a plan is seen from its bytes: accepted bytes are read as one plan
 pub encode-unique : (p q : Plan) → PlanLegal 256 p → PlanLegal 256 q → encode p ≡ encode q → p ≡ q

@@ -2,6 +2,6 @@ pub mod Order
 pub mod Tripled
 pub mod Cells
 pub mod Edges
-pub mod Words
+pub mod Keys
 pub mod Path
 pub mod Initial

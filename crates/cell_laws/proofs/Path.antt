@@ -30,12 +30,14 @@ use Rattle.graph.proofs.Exact.{read-sound}
 use Rattle.graph.proofs.Rows.{edge-there, edges-count}
 use Rattle.cells.proofs.Rows.{ends}
 use Rattle.cells.specs.Steps.{key1, key2, key3, keys-of, relaxed-upto, taken-upto}
-use Rattle.cells.specs.Table.{Below, any-vertex, triple, tripled, path-of}
+use Rattle.packed_path.specs.declared.PackedPath.{PackedPath}
+use Rattle.packed_path.specs.Packed.{path-of}
+use Rattle.cells.specs.Table.{Below, any-vertex, triple, tripled}
 use Rattle.cell_laws.specs.Steps.{figures-at, numbers-at, stamp-at}
 use Rattle.cell_laws.proofs.Cells.{absent, present, rows3}
 use Rattle.cell_laws.proofs.Edges.{Gathered, Live, Mark, Setting, holds, long-upto, marks, moved, still}
 use Rattle.cell_laws.proofs.Tripled.{Few, Sized, gather-tripled, gather-sized, tripled-same}
-use Rattle.cell_laws.proofs.Words.{few-keys, word-keys, word-rows}
+use Rattle.cell_laws.proofs.Keys.{few-keys, key-rows, three-keys}
 
 -- ---- tests
 
@@ -151,11 +153,11 @@ gather-reached N ks live S v (suc i) f =
 
 -- ---- a path reduction on an accepted graph
 
--- the graph's bytes are accepted, and the path reduction of the number w is legal on it
-pub record Given (s : List ℕ) (w : ℕ) : Type 0 where
+-- the graph's bytes are accepted, and the path reduction is legal on it
+pub record Given (s : List ℕ) (path : PackedPath) : Type 0 where
   pub bytes : Bytes s
   pub accepted : graph-code s ≡ 0
-  pub fits : PathFits (at16 s 5) (path-of w)
+  pub fits : PathFits (at16 s 5) (path-of path)
 
 -- A PART OF THE TABLE THAT SHOWS THE STATE S after r rounds, with room for more
 pub record Shows (s : List ℕ) (S : State) (r : ℕ) (l : List ℕ) : Type 0 where
@@ -170,12 +172,12 @@ pub record Stepped (s : List ℕ) (S next : State) (r : ℕ) (l : List ℕ) (sai
   pub marks : (v : ℕ) → v < at16 s 5 → eqb (stamp-at l v) (suc (suc r)) ≡ not (same (next v) (S v))
   pub says : said ≡ any-vertex (at16 s 5) (λ v. eqb (stamp-at l v) (suc (suc r)))
 
-module _ (s : List ℕ) (w : ℕ) where
+module _ (s : List ℕ) (path : PackedPath) where
   abbrev N : Network
-  N = network-of (graph-of s) (path-of w)
+  N = network-of (graph-of s) (path-of path)
 
   abbrev ks : List ℕ
-  ks = path-of w .keys
+  ks = path-of path .keys
 
   abbrev n : ℕ
   n = at16 s 5
@@ -183,19 +185,19 @@ module _ (s : List ℕ) (w : ℕ) where
   abbrev m : ℕ
   m = at16 s 7
 
-  module _ (g : Given s w) where
+  module _ (g : Given s path) where
     legal : GraphLegal (graph-of s)
     legal = read-sound s (g .bytes) (g .accepted) .0
 
     -- its network is one of the theory, its keys are in order, one to three
-    pub path-network : Fits (network-of (graph-of s) (path-of w))
-    path-network = network-fits (graph-of s) (legal .fits) (path-of w) (g .fits)
+    pub path-network : Fits (network-of (graph-of s) (path-of path))
+    path-network = network-fits (graph-of s) (legal .fits) (path-of path) (g .fits)
 
-    pub path-ordered : T (in-order (path-of w .keys))
-    path-ordered = path-in-order (at16 s 5) (path-of w) (g .fits)
+    pub path-ordered : T (in-order (path-of path .keys))
+    path-ordered = path-in-order (at16 s 5) (path-of path) (g .fits)
 
-    pub path-few : Few (path-of w .keys)
-    path-few = few-keys (path-of w .keys) (g .fits .0)
+    pub path-few : Few (path-of path .keys)
+    path-few = few-keys (path-of path .keys) (g .fits .0)
 
     edge-is : (i : ℕ) → i < m → N .edge i ≡ edge-in s i
     edge-is i h = edge-there s i h
@@ -208,7 +210,7 @@ module _ (s : List ℕ) (w : ℕ) where
 
     -- ---- a round from any state S
 
-    module _ (S : State) (sized : (u : ℕ) → Sized (path-of w .keys) (S u)) (r : ℕ) (h : r < 65535) (l : List ℕ) (x : Shows s S r l) where
+    module _ (S : State) (sized : (u : ℕ) → Sized (path-of path .keys) (S u)) (r : ℕ) (h : r < 65535) (l : List ℕ) (x : Shows s S r l) where
       -- the figures leave room for another edge
       room : (u : ℕ) → u < n → 1 ≤ stamp-at l u → All (λ y. y ≤ 4294901760) (numbers-at l u)
       room u k p = go (S u) refl (x .small u k)
@@ -228,13 +230,13 @@ module _ (s : List ℕ) (w : ℕ) where
       -- by the edges from vertices stamped since a round
       module _ (since : ℕ) (b : 1 ≤ since) where
         abbrev k1 : ℕ
-        k1 = key1 w
+        k1 = key1 (path .keys)
 
         abbrev k2 : ℕ
-        k2 = key2 w
+        k2 = key2 (path .keys)
 
         abbrev k3 : ℕ
-        k3 = key3 w
+        k3 = key3 (path .keys)
 
         abbrev live : ℕ → Bool
         live = Live N s n m since (r + 2) l k1 k2 k3
@@ -255,7 +257,7 @@ module _ (s : List ℕ) (w : ℕ) where
 
         next : (v : ℕ) → v < n → Gathered N s n m since (r + 2) l k1 k2 k3 v m ≡ tripled (Next v)
         next v k =
-            ap (λ (js : List ℕ). gather N js live (figures-at l) v m) (word-keys w (g .fits .0))
+            ap (λ (js : List ℕ). gather N js live (figures-at l) v m) (three-keys path (g .fits .0))
             ∙ gather-same N (triple ks) live (figures-at l) (λ u. tripled (S u)) (x .figures) v k m (λ i j t. from-there i j)
             ∙ sym (gather-tripled N ks path-few live S sized v m)
 
@@ -320,9 +322,11 @@ module _ (s : List ℕ) (w : ℕ) where
         }
 
       -- BY PULL: over all usable edges
-      pub pull-steps-to : Stepped s S (λ v. gather (network-of (graph-of s) (path-of w)) (path-of w .keys) (network-of (graph-of s) (path-of w) .usable) S v
-          (network-of (graph-of s) (path-of w) .edges)) r (relaxed-upto (keys-of w) s 1 (r + 2) l (at16 s 7)) (taken-upto (keys-of w) s 1 (r + 2) l (at16 s 7))
-      pull-steps-to = rw (word-rows w) (steps-as 1 (omega arith) (λ v. gather N ks (N .usable) S v (N .edges)) theory)
+      pub pull-steps-to : Stepped s S
+          (λ v. gather (network-of (graph-of s) (path-of path)) (path-of path .keys) (network-of (graph-of s) (path-of path) .usable) S v
+          (network-of (graph-of s) (path-of path) .edges))
+          r (relaxed-upto (keys-of (path .keys)) s 1 (r + 2) l (at16 s 7)) (taken-upto (keys-of (path .keys)) s 1 (r + 2) l (at16 s 7))
+      pull-steps-to = rw (key-rows (path .keys)) (steps-as 1 (omega arith) (λ v. gather N ks (N .usable) S v (N .edges)) theory)
         where
           there : (u : ℕ) → u < n → (t : Bool) → leb 1 (stamp-at l u) ≡ t → t ≡ reached (S u)
           there u k true p = sym (sym (reached-tripled (S u)) ∙ ap reached (sym (x .figures u k) ∙ present l u (leb-true 1 (stamp-at l u) p)))
@@ -339,10 +343,10 @@ module _ (s : List ℕ) (w : ℕ) where
 
       -- BY PUSH: over those from marked vertices, where these are the vertices that round r changed
       pub push-steps-to : (changed : ℕ → Bool) → ((u : ℕ) → u < at16 s 5 → changed u ≡ eqb (stamp-at l u) (suc r))
-          → Stepped s S (push-round (network-of (graph-of s) (path-of w)) (path-of w .keys) (record { holds = S; changed = changed }))
-          r (relaxed-upto (keys-of w) s (r + 1) (r + 2) l (at16 s 7)) (taken-upto (keys-of w) s (r + 1) (r + 2) l (at16 s 7))
+          → Stepped s S (push-round (network-of (graph-of s) (path-of path)) (path-of path .keys) (record { holds = S; changed = changed }))
+          r (relaxed-upto (keys-of (path .keys)) s (r + 1) (r + 2) l (at16 s 7)) (taken-upto (keys-of (path .keys)) s (r + 1) (r + 2) l (at16 s 7))
       push-steps-to changed agrees =
-          rw (word-rows w) (steps-as (r + 1) (omega arith) (push-round N ks (record { holds = S; changed = changed })) theory)
+          rw (key-rows (path .keys)) (steps-as (r + 1) (omega arith) (push-round N ks (record { holds = S; changed = changed })) theory)
         where
           recent : (u : ℕ) → u < n → (t : Bool) → leb (r + 1) (stamp-at l u) ≡ t → t ≡ changed u
           recent u k true p =

@@ -14,6 +14,7 @@ use Rattle.walks.specs.Keys.{key-row}
 use Rattle.walks.specs.Walks.{Edge, base, edge, extend}
 use Rattle.graph.specs.Graph.{edge-in}
 use Rattle.wire.specs.Wire.{at16}
+use Rattle.packed_path.specs.Steps.{begins}
 use Rattle.cells.specs.declared.Cell.{Cell}
 use Rattle.cells.specs.declared.PathKeys.{PathKeys}
 
@@ -26,43 +27,35 @@ ahead Greatest x y = ltb y x
 abbrev pub key-or-before : ℕ → ℕ → ℕ → ℕ → ℕ
 key-or-before count at key before = cond (ltb count at) before key
 
--- the three keys in the number of a path reduction (`path-number`), the last one again where there are fewer
+-- the three keys in their number (`keys-number`), the last one again where there are fewer
 abbrev pub key1 : ℕ → ℕ
-key1 word = word / 256 % 256
+key1 keys = keys / 256 % 256
 
 abbrev pub key2 : ℕ → ℕ
-key2 word = key-or-before (word % 256) 2 (word / 65536 % 256) (key1 word)
+key2 keys = key-or-before (keys % 256) 2 (keys / 65536 % 256) (key1 keys)
 
 abbrev pub key3 : ℕ → ℕ
-key3 word = key-or-before (word % 256) 3 (word / 16777216 % 256) (key2 word)
+key3 keys = key-or-before (keys % 256) 3 (keys / 16777216 % 256) (key2 keys)
 
 -- their rows in the table of keys
 unfoldable pub keys-of : ℕ → PathKeys
-keys-of word = record { first = key-row (key1 word); second = key-row (key2 word); third = key-row (key3 word) }
-
--- the source in the number, above the keys
-abbrev pub source-of : ℕ → ℕ
-source-of word = word / 4294967296
+keys-of keys = record { first = key-row (key1 keys); second = key-row (key2 keys); third = key-row (key3 keys) }
 
 -- the four numbers of a cell
 abbrev pub numbers : Cell → List ℕ
 numbers c = c .first ∷ c .second ∷ c .third ∷ c .stamp ∷ []
 
--- "(or from anywhere)": 65,535
-abbrev pub starts-here : ℕ → ℕ → Bool
-starts-here source v = cond (eqb source 65535) true (eqb source v)
-
 -- the initial value of a vertex: "start values are round 0"
-unfoldable pub initial-cell : PathKeys → ℕ → ℕ → Cell
-initial-cell ks source v =
-    cond (starts-here source v)
+unfoldable pub initial-cell : PathKeys → List ℕ → ℕ → Cell
+initial-cell ks sources v =
+    cond (begins sources v)
     (record { first = base (ks .first .measure) v; second = base (ks .second .measure) v; third = base (ks .third .measure) v; stamp = 1 })
     (record { first = 0; second = 0; third = 0; stamp = 0 })
 
 -- the first v vertices have their initial values
-unfoldable pub initialized : PathKeys → ℕ → List ℕ → ℕ → List ℕ
-initialized ks source l zero = l
-initialized ks source l (suc v) = sets (initialized ks source l v) (4 * v) (numbers (initial-cell ks source v))
+unfoldable pub initialized : PathKeys → List ℕ → List ℕ → ℕ → List ℕ
+initialized ks sources l zero = l
+initialized ks sources l (suc v) = sets (initialized ks sources l v) (4 * v) (numbers (initial-cell ks sources v))
 
 -- a figure with one more edge after the walk
 abbrev pub onward : KeyRow → ℕ → ℕ → ℕ → ℕ

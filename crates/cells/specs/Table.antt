@@ -1,6 +1,6 @@
 -- WHAT THE TABLE OF FIGURES SHOWS at each vertex for each path reduction (document 01: chain). These definitions know how the table is laid out; contracts and
 -- theorems use their names alone.
-use Prim.Native.Nat.{ℕ, zero, suc, _+_, _*_, _/_, _%_, _≤_, _<_}
+use Prim.Native.Nat.{ℕ, zero, suc, _+_, _*_, _≤_, _<_}
 use mathlib.Core.Path.{_≡_}
 use mathlib.Core.Bool.{Bool, false, cond, _||_}
 use mathlib.Core.List.{List, [], _∷_, map}
@@ -10,18 +10,17 @@ use lib.ListN.{length, getD, take}
 use Rattle.walks.specs.Lists.{All}
 use Rattle.walks.specs.Rounds.{State}
 use Rattle.meaning.specs.Query.{PathReduction}
+use Rattle.packed_path.specs.declared.PackedPath.{PackedPath}
+use Rattle.packed_path.specs.Packed.{path-of}
+use Rattle.packed_path.specs.Steps.{no-path}
 use Rattle.cells.specs.declared.Cell.{Cell}
 
--- a path reduction by its six worksheet bytes as one number ("key count, three key bytes with unused ones 0, 16-bit start")
-unfoldable pub path-of : ℕ → PathReduction
-path-of w = record { keys = take (w % 256) (w / 256 % 256 ∷ w / 65536 % 256 ∷ w / 16777216 % 256 ∷ []); source = w / 4294967296 }
-
--- the first `count` of a table of such numbers; the one with index j
-abbrev pub paths-in : ℕ → List ℕ → List PathReduction
+-- the first `count` path reductions of a table; the one with index j
+abbrev pub paths-in : ℕ → List PackedPath → List PathReduction
 paths-in count table = map path-of (take count table)
 
-abbrev pub path-at : List ℕ → ℕ → PathReduction
-path-at table j = path-of (getD table j 0)
+abbrev pub path-at : List PackedPath → ℕ → PathReduction
+path-at table j = path-of (getD table j no-path)
 
 -- what the table has at vertex v for the path reduction with index j: three figures, and a stamp that is 0 where the vertex is absent, else one
 -- more than the last round that changed it

@@ -3,6 +3,7 @@
 // A vertex has four numbers there, a cell: the figures of three keys, and a stamp. A path reduction of fewer keys has its last key again, so the third figure
 // is its value. The stamp is 0 where the vertex is absent, else one more than the last round that changed it: so one test leaves out the edges that bring
 // nothing, by pull those from absent vertices, by push those from vertices that the round before did not change.
+use packed_path::PackedPath;
 use walks::Extreme;
 use walks::KeyRow;
 use walks::Measure;
@@ -13,7 +14,8 @@ ghost use lib.Seq.{sets};
 ghost use Rattle.walks.specs.Walks.{base};
 ghost use Rattle.wire.specs.Wire.{at16};
 ghost use Rattle.graph.specs.Graph.{graph-code, edge-in};
-ghost use Rattle.cells.specs.Steps.{ahead, key-or-before, keys-of, source-of, starts-here, initial-cell, numbers, initialized};
+ghost use Rattle.packed_path.specs.Packed.{sources-of};
+ghost use Rattle.cells.specs.Steps.{ahead, key-or-before, keys-of, initial-cell, numbers, initialized};
 ghost use Rattle.cells.specs.Steps.{onward, through, displaces, Relaxed, RelaxedAll};
 
 // The keys of a path reduction by their rows.
@@ -77,7 +79,7 @@ fn to_at(graph: &[u8], i: usize) -> usize
 }
 
 // A key, or the one before it where there are fewer keys.
-fn key_or_before(count: u64, at: u64, key: u8, before: u8) -> u8
+fn key_or_before(count: u32, at: u32, key: u8, before: u8) -> u8
     ensures { λ r. ⌜ r ≡ key-or-before count at key before ⌝ }
 {
     if count < at {
@@ -86,14 +88,14 @@ fn key_or_before(count: u64, at: u64, key: u8, before: u8) -> u8
     key
 }
 
-// The keys of a path reduction by its number.
-fn path_keys(word: u64) -> PathKeys
-    ensures { λ r. ⌜ r ≡ keys-of word ⌝ }
+// The keys of a path reduction by their number.
+fn path_keys(keys: u32) -> PathKeys
+    ensures { λ r. ⌜ r ≡ keys-of keys ⌝ }
 {
-    let count = word % 256;
-    let a = (word / 256 % 256) as u8;
-    let b = key_or_before(count, 2, (word / 65536 % 256) as u8, a);
-    let c = key_or_before(count, 3, (word / 16777216 % 256) as u8, b);
+    let count = keys % 256;
+    let a = (keys / 256 % 256) as u8;
+    let b = key_or_before(count, 2, (keys / 65536 % 256) as u8, a);
+    let c = key_or_before(count, 3, (keys / 16777216 % 256) as u8, b);
     PathKeys {
         first: walks::key_row(a),
         second: walks::key_row(b),
@@ -115,21 +117,11 @@ fn base_of(m: Measure, v: u32) -> u32
     }
 }
 
-// Does a walk start at v? 65,535 is anywhere.
-fn starts_here(source: u64, v: u64) -> bool
-    ensures { λ r. ⌜ r ≡ starts-here source v ⌝ }
-{
-    if source == 65535 {
-        return true;
-    }
-    source == v
-}
-
 // The initial value of the vertex v.
-fn initial_cell(keys: PathKeys, source: u64, v: u32) -> Cell
-    ensures { λ r. ⌜ r ≡ initial-cell keys source v ⌝ }
+fn initial_cell(keys: PathKeys, path: PackedPath, v: u32) -> Cell
+    ensures { λ r. ⌜ r ≡ initial-cell keys (sources-of path) v ⌝ }
 {
-    if !starts_here(source, wide(v)) {
+    if !packed_path::starts_at(path, wide(v)) {
         return Cell {
             first: 0,
             second: 0,
@@ -162,16 +154,15 @@ fn put_cell(part: &mut [u32], at: usize, cell: Cell)
     part[at + 3] = cell.stamp;
 }
 
-// The initial values of the path reduction of this number, on n vertices.
-pub fn initialize(word: u64, n: usize, part: &mut [u32])
+// The initial values of a path reduction, on n vertices.
+pub fn initialize(path: PackedPath, n: usize, part: &mut [u32])
     requires { ⌜ (n ≤ 256) × (length (now part) ≡ 4 * n) ⌝ }
-    ensures { λ _. ⌜ now (part .exit) ≡ initialized (keys-of word) (source-of word) (now (part .entry)) n ⌝ }
+    ensures { λ _. ⌜ now (part .exit) ≡ initialized (keys-of (path .keys)) (sources-of path) (now (part .entry)) n ⌝ }
 {
-    let keys = path_keys(word);
-    let source = word / 4294967296;
+    let keys = path_keys(path.keys);
     let mut v: usize = 0;
     while v < n {
-        let cell = initial_cell(keys, source, v as u32);
+        let cell = initial_cell(keys, path, v as u32);
         put_cell(part, 4 * v, cell);
         v += 1;
     }
@@ -351,9 +342,9 @@ fn copy(src: &[u32], dst: &mut [u32])
     }
 }
 
-// A round of the path reduction of this number, in place; the figures of the round before are left in `work`. Whether a vertex changed.
+// A round of the path reduction with these keys, in place; the figures of the round before are left in `work`. Whether a vertex changed.
 pub fn step(
-    word: u64,
+    keys: u32,
     graph: &[u8],
     since: u32,
     stamp: u32,
@@ -364,10 +355,10 @@ pub fn step(
         (graph-code (now graph) ≡ 0) × (length (now part) ≡ 4 * at16 (now graph) 5) × (length (now work) ≡ 4 * at16 (now graph) 5)
         ⌝ }
     ensures { λ r. ⌜
-        RelaxedAll (keys-of word) (now (graph .entry)) since stamp (now (part .entry)) r (now (part .exit)) × (now (work .exit) ≡ now (part .entry))
+        RelaxedAll (keys-of keys) (now (graph .entry)) since stamp (now (part .entry)) r (now (part .exit)) × (now (work .exit) ≡ now (part .entry))
         ⌝ }
 {
-    let keys = path_keys(word);
+    let rows = path_keys(keys);
     copy(part, work);
-    relax_all(keys, graph, since, stamp, work, part)
+    relax_all(rows, graph, since, stamp, work, part)
 }

@@ -17,13 +17,16 @@ use Rattle.walks.proofs.Tests.{T-of}
 use Rattle.meaning.specs.Query.{PathReduction}
 use Rattle.meaning.specs.Run.{pull}
 use Rattle.graph.specs.Graph.{graph-of}
-use Rattle.cells.specs.Table.{path-at, path-of, paths-in}
+use Rattle.packed_path.specs.declared.PackedPath.{PackedPath}
+use Rattle.packed_path.specs.Packed.{path-of}
+use Rattle.packed_path.specs.Steps.{no-path}
+use Rattle.cells.specs.Table.{path-at, paths-in}
 use Rattle.cell_laws.proofs.Path.{Given, T-true}
 use Rattle.rounds.specs.Run.{AllStand, Begun, Ended, Ran, Stands, Turned, quiet-after}
 use Rattle.rounds.proofs.Standing.{begun-stands, not-both, stands-kept}
 
 -- what holds of the first path reductions of a table holds of each
-pub legal-at : (P : PathReduction → Type 0) (table : List ℕ) (paths : ℕ) → All P (paths-in paths table)
+pub legal-at : (P : PathReduction → Type 0) (table : List PackedPath) (paths : ℕ) → All P (paths-in paths table)
     → (j : ℕ) → j < paths → j < length table → P (path-at table j)
 legal-at P [] paths a j h k = absurd (not-suc-le-zero k)
 legal-at P (x ∷ t) zero a j h k = absurd (not-suc-le-zero h)
@@ -39,7 +42,7 @@ and-assoc true b c = refl
 and-assoc false b c = refl
 
 -- one more is quiet where it changes nothing
-quiet-more : (g : Graph) (r n : ℕ) (table : List ℕ) (k : ℕ) → k < length table
+quiet-more : (g : Graph) (r n : ℕ) (table : List PackedPath) (k : ℕ) → k < length table
     → quiet n (map (pull g) (paths-in (suc k) table)) r ≡ quiet n (map (pull g) (paths-in k table)) r && unchanged (pull g (path-at table k)) r n
 quiet-more g r n [] k h = absurd (not-suc-le-zero h)
 quiet-more g r n (x ∷ t) zero h = and-true (unchanged (pull g (path-of x)) r n)
@@ -47,7 +50,7 @@ quiet-more g r n (x ∷ t) (suc k) h =
     ap (λ (b : Bool). unchanged (pull g (path-of x)) r n && b) (quiet-more g r n t k (omega arith))
     ∙ and-assoc (unchanged (pull g (path-of x)) r n) (quiet n (map (pull g) (paths-in k t)) r) (unchanged (pull g (path-at t k)) r n)
 
-module _ (g : Graph) (paths : ℕ) (table : List ℕ) (b : paths ≤ 8) where
+module _ (g : Graph) (paths : ℕ) (table : List PackedPath) (b : paths ≤ 8) where
   -- ---- initial values
 
   -- those of the first k
@@ -144,15 +147,15 @@ module _ (g : Graph) (paths : ℕ) (table : List ℕ) (b : paths ≤ 8) where
   ran-spent limit r rest l e x f = ran-as limit r rest l (omega arith) x (inl (e, λ q h. f q (omega arith)))
 
 -- initial values of one more
-module _ (s : List ℕ) (paths : ℕ) (table : List ℕ) (b : paths ≤ 8) (k : ℕ) (h : k < paths) (given : Given s (getD table k 0)) (l l′ : List ℕ)
-    (x : Started (graph-of s) paths table b k l) (y : Begun (graph-of s) (path-at table k) k l l′) where
+module _ (s : List ℕ) (paths : ℕ) (table : List PackedPath) (b : paths ≤ 8) (k : ℕ) (h : k < paths) (given : Given s (getD table k no-path))
+    (l l′ : List ℕ) (x : Started (graph-of s) paths table b k l) (y : Begun (graph-of s) (path-at table k) k l l′) where
   zero-flag : (j : ℕ) → j < 8 → getD {A = ℕ} (replicate 8 0) j 0 ≡ 1 → ⊥
   zero-flag j i e = omega (arith, getD-replicate {A = ℕ} 8 j 0 0 i)
 
   shown-now : (j : ℕ) → j < suc k → Dec (j ≡ k) → Stands (graph-of s) (path-at table j) 0 j (getD (replicate 8 0) j 0) l′
   shown-now j i (yes e) =
       subst (λ (a : ℕ). Stands (graph-of s) (path-at table a) 0 a (getD (replicate 8 0) a 0) l′) (sym e)
-      (begun-stands s (getD table k 0) given k l l′ (getD (replicate 8 0) k 0) (zero-flag k (omega arith)) y)
+      (begun-stands s (getD table k no-path) given k l l′ (getD (replicate 8 0) k 0) (zero-flag k (omega arith)) y)
   shown-now j i (no n) =
       let m : ¬ (j ≡ k) = n in
       stands-kept (graph-of s) (path-at table j) 0 j (getD (replicate 8 0) j 0) (getD (replicate 8 0) j 0) l l′ refl (y .sound .long)

@@ -7,7 +7,9 @@ use native.Mathlib.Omega.{arith}
 use borrow.Rule.Slice.PartMut.{post-is, putMid}
 use lib.ListN.{take, drop}
 use Rattle.wire.specs.Wire.{at16}
-use Rattle.cells.specs.Steps.{keys-of, relaxed-upto, source-of, initialized, taken-upto}
+use Rattle.packed_path.specs.declared.PackedPath.{PackedPath}
+use Rattle.packed_path.specs.Packed.{sources-of}
+use Rattle.cells.specs.Steps.{keys-of, relaxed-upto, initialized, taken-upto}
 use Rattle.rounds.specs.Steps.{part, initialized-at, step-takes, stepped, with-part}
 
 size : (a w : ℕ) → a + w - a ≡ w
@@ -25,21 +27,22 @@ module _ (s xs ys : List ℕ) (j n : ℕ) (e : n ≡ at16 s 5) where
   mid-part = ap (λ (k : ℕ). take k (drop (1024 * j) xs)) (size (1024 * j) (4 * n)) ∙ ap (λ (k : ℕ). take (4 * k) (drop (1024 * j) xs)) e
 
   -- the initial values in a part lent are the table's
-  pub initialize-put : (word : ℕ) → ys ≡ initialized (keys-of word) (source-of word) (take (1024 * j + 4 * n - 1024 * j) (drop (1024 * j) xs)) n
-      → putMid (1024 * j) (1024 * j + 4 * n - 1024 * j) xs ys ≡ initialized-at s word j xs
+  pub initialize-put : (path : PackedPath)
+      → ys ≡ initialized (keys-of (path .keys)) (sources-of path) (take (1024 * j + 4 * n - 1024 * j) (drop (1024 * j) xs)) n
+      → putMid (1024 * j) (1024 * j + 4 * n - 1024 * j) xs ys ≡ initialized-at s path j xs
   unfolding initialized-at
-  initialize-put word p = put-part ∙ ap (with-part s j xs) (rw (mid-part, e) at p)
+  initialize-put path p = put-part ∙ ap (with-part s j xs) (rw (mid-part, e) at p)
 
   -- a round of a part lent is the table's, by what it leaves
-  pub step-put : (word since stamp : ℕ) → ys ≡ relaxed-upto (keys-of word) s since stamp (take (1024 * j + 4 * n - 1024 * j) (drop (1024 * j) xs))
+  pub step-put : (keys since stamp : ℕ) → ys ≡ relaxed-upto (keys-of keys) s since stamp (take (1024 * j + 4 * n - 1024 * j) (drop (1024 * j) xs))
       (at16 s 7)
-      → putMid (1024 * j) (1024 * j + 4 * n - 1024 * j) xs ys ≡ stepped s word j since stamp xs
+      → putMid (1024 * j) (1024 * j + 4 * n - 1024 * j) xs ys ≡ stepped s keys j since stamp xs
   unfolding stepped
-  step-put word since stamp p = put-part ∙ ap (with-part s j xs) (rw mid-part at p)
+  step-put keys since stamp p = put-part ∙ ap (with-part s j xs) (rw mid-part at p)
 
   -- and by what it says
-  pub step-said : (word since stamp : ℕ) (b : Bool)
-      → b ≡ taken-upto (keys-of word) s since stamp (take (1024 * j + 4 * n - 1024 * j) (drop (1024 * j) xs)) (at16 s 7)
-      → b ≡ step-takes s word j since stamp xs
+  pub step-said : (keys since stamp : ℕ) (b : Bool)
+      → b ≡ taken-upto (keys-of keys) s since stamp (take (1024 * j + 4 * n - 1024 * j) (drop (1024 * j) xs)) (at16 s 7)
+      → b ≡ step-takes s keys j since stamp xs
   unfolding step-takes
-  step-said word since stamp b p = rw mid-part at p
+  step-said keys since stamp b p = rw mid-part at p

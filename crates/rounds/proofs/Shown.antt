@@ -12,7 +12,9 @@ use Rattle.meaning.specs.Query.{PathReduction, network-of}
 use Rattle.wire.specs.Wire.{at16}
 use Rattle.graph.specs.Graph.{graph-of}
 use Rattle.graph.proofs.Accepted.{accepted}
-use Rattle.cells.specs.Table.{Below, Sound, cell-in, changed-in, figures-in, figures-of, tripled, path-of}
+use Rattle.packed_path.specs.declared.PackedPath.{PackedPath}
+use Rattle.packed_path.specs.Packed.{path-of}
+use Rattle.cells.specs.Table.{Below, Sound, cell-in, changed-in, figures-in, figures-of, tripled}
 use Rattle.cell_laws.specs.Steps.{figures-at, stamp-at}
 use Rattle.cell_laws.proofs.Initial.{initial-shows}
 use Rattle.cell_laws.proofs.Tripled.{Sized, cell-cut, cell-sized, cut, cut-tripled, gather-sized, initial-sized}
@@ -21,9 +23,9 @@ use Rattle.rounds.specs.Run.{Begun, Round, pulled, pushed-from}
 use Rattle.rounds.specs.Steps.{initialized-at, part, step-takes, stepped, width, with-part}
 use Rattle.rounds.proofs.Tables.{cells-other, figures-part, part-here, part-length, stamp-part, with-length}
 
-module _ (s : List ℕ) (w : ℕ) (g : Given s w) (j : ℕ) (h : j < 8) where
+module _ (s : List ℕ) (path : PackedPath) (g : Given s path) (j : ℕ) (h : j < 8) where
   abbrev c : PathReduction
-  c = path-of w
+  c = path-of path
 
   abbrev n : ℕ
   n = at16 s 5
@@ -32,9 +34,9 @@ module _ (s : List ℕ) (w : ℕ) (g : Given s w) (j : ℕ) (h : j < 8) where
   few = omega (arith, accepted s (g .accepted) .sizes .few-vertices)
 
   -- what the table shows has a figure for each key
-  pub shown-sized : (l : List ℕ) (v : ℕ) → Sized (path-of w .keys) (figures-in (path-of w) l j v)
+  pub shown-sized : (l : List ℕ) (v : ℕ) → Sized (path-of path .keys) (figures-in (path-of path) l j v)
   unfolding figures-in
-  shown-sized l v = cell-sized (c .keys) (path-few s w g) (cell-in l j v)
+  shown-sized l v = cell-sized (c .keys) (path-few s path g) (cell-in l j v)
 
   -- a sound table's part shows it
   part-shows : (r : ℕ) (l : List ℕ) → Sound n c r l j → Shows s (figures-in c l j) r (part s j l)
@@ -47,7 +49,7 @@ module _ (s : List ℕ) (w : ℕ) (g : Given s w) (j : ℕ) (h : j < 8) where
   }
 
   -- a part that shows S, put into the table
-  module _ (S : State) (sized : (v : ℕ) → Sized (path-of w .keys) (S v)) (r : ℕ) (l : List ℕ) (long : length l ≡ 8192) (p : List ℕ)
+  module _ (S : State) (sized : (v : ℕ) → Sized (path-of path .keys) (S v)) (r : ℕ) (l : List ℕ) (long : length l ≡ 8192) (p : List ℕ)
       (x : Shows s S r p) where
     abbrev new : List ℕ
     new = with-part s j l p
@@ -66,7 +68,7 @@ module _ (s : List ℕ) (w : ℕ) (g : Given s w) (j : ℕ) (h : j < 8) where
     put-shown v k =
         cell-cut (length (c .keys)) (cell-in new j v)
         ∙ ap (cut (length (c .keys))) (three-shown v k)
-        ∙ cut-tripled (c .keys) (path-few s w g) (S v) (sized v)
+        ∙ cut-tripled (c .keys) (path-few s path g) (S v) (sized v)
 
     put-stamp : (v : ℕ) → v < n → cell-in new j v .stamp ≡ stamp-at p v
     put-stamp v k = stamp-part s new j h few new-long v k ∙ ap (λ (q : List ℕ). stamp-at q v) here
@@ -87,10 +89,10 @@ module _ (s : List ℕ) (w : ℕ) (g : Given s w) (j : ℕ) (h : j < 8) where
     }
 
   -- INITIAL VALUES in the table
-  pub begins-at : (l : List ℕ) → length l ≡ 8192 → Begun (graph-of s) (path-of w) j l (initialized-at s w j l)
+  pub begins-at : (l : List ℕ) → length l ≡ 8192 → Begun (graph-of s) (path-of path) j l (initialized-at s path j l)
   unfolding initialized-at
   begins-at l long =
-      let b = initial-shows s w g (part s j l) (part-length s l j h few long) in
+      let b = initial-shows s path g (part s j l) (part-length s l j h few long) in
       let N = network-of (graph-of s) c in
       let S : State = λ v. initial (N .source v) (c .keys) v in
       let z : (v : ℕ) → Sized (c .keys) (S v) = λ v. initial-sized (N .source v) (c .keys) v in
@@ -102,9 +104,10 @@ module _ (s : List ℕ) (w : ℕ) (g : Given s w) (j : ℕ) (h : j < 8) where
       }
 
   -- A ROUND in the table
-  module _ (r : ℕ) (l : List ℕ) (x : Sound (at16 s 5) (path-of w) r l j) where
-    round-at : (T : State) → ((v : ℕ) → Sized (path-of w .keys) (T v)) → (p : List ℕ) (b : Bool) → Stepped s (figures-in (path-of w) l j) T r p b
-        → Round (graph-of s) (path-of w) r j T l (with-part s j l p) b
+  module _ (r : ℕ) (l : List ℕ) (x : Sound (at16 s 5) (path-of path) r l j) where
+    round-at : (T : State) → ((v : ℕ) → Sized (path-of path .keys) (T v)) → (p : List ℕ) (b : Bool)
+        → Stepped s (figures-in (path-of path) l j) T r p b
+        → Round (graph-of s) (path-of path) r j T l (with-part s j l p) b
     round-at T z p b y = record {
       figures = put-shown T z (suc r) l (x .long) p (y .shows);
       marks = λ v k.
@@ -124,26 +127,26 @@ module _ (s : List ℕ) (w : ℕ) (g : Given s w) (j : ℕ) (h : j < 8) where
       S = figures-in c l j
 
       -- BY PULL
-      pub pull-round-at : Round (graph-of s) (path-of w) r j
-          (pulled (network-of (graph-of s) (path-of w)) (path-of w .keys) (figures-in (path-of w) l j)) l
-          (stepped s w j 1 (r + 2) l) (step-takes s w j 1 (r + 2) l)
+      pub pull-round-at : Round (graph-of s) (path-of path) r j
+          (pulled (network-of (graph-of s) (path-of path)) (path-of path .keys) (figures-in (path-of path) l j)) l
+          (stepped s (path .keys) j 1 (r + 2) l) (step-takes s (path .keys) j 1 (r + 2) l)
       unfolding stepped step-takes
       pull-round-at =
           let N = network-of (graph-of s) c in
-          round-at (pulled N (c .keys) S) (λ v. gather-sized N (c .keys) (path-few s w g) (N .usable) S (shown-sized l) v (N .edges)) _ _
-          (pull-steps-to s w g S (shown-sized l) r b (part s j l) (part-shows r l x))
+          round-at (pulled N (c .keys) S) (λ v. gather-sized N (c .keys) (path-few s path g) (N .usable) S (shown-sized l) v (N .edges)) _ _
+          (pull-steps-to s path g S (shown-sized l) r b (part s j l) (part-shows r l x))
 
       marks-part : (u : ℕ) → u < n → changed-in r l j u ≡ eqb (stamp-at (part s j l) u) (suc r)
       unfolding changed-in
       marks-part u k = ap (λ (t : ℕ). eqb t (suc r)) (stamp-part s l j h few (x .long) u k)
 
       -- BY PUSH
-      pub push-round-at : Round (graph-of s) (path-of w) r j
-          (pushed-from (network-of (graph-of s) (path-of w)) (path-of w .keys) (figures-in (path-of w) l j) (changed-in r l j)) l
-          (stepped s w j (r + 1) (r + 2) l) (step-takes s w j (r + 1) (r + 2) l)
+      pub push-round-at : Round (graph-of s) (path-of path) r j
+          (pushed-from (network-of (graph-of s) (path-of path)) (path-of path .keys) (figures-in (path-of path) l j) (changed-in r l j)) l
+          (stepped s (path .keys) j (r + 1) (r + 2) l) (step-takes s (path .keys) j (r + 1) (r + 2) l)
       unfolding stepped step-takes
       push-round-at =
           let N = network-of (graph-of s) c in
           round-at (pushed-from N (c .keys) S (changed-in r l j))
-          (λ v. gather-sized N (c .keys) (path-few s w g) (λ i. changed-in r l j (N .edge i .from)) S (shown-sized l) v (N .edges)) _ _
-          (push-steps-to s w g S (shown-sized l) r b (part s j l) (part-shows r l x) (changed-in r l j) marks-part)
+          (λ v. gather-sized N (c .keys) (path-few s path g) (λ i. changed-in r l j (N .edge i .from)) S (shown-sized l) v (N .edges)) _ _
+          (push-steps-to s path g S (shown-sized l) r b (part s j l) (part-shows r l x) (changed-in r l j) marks-part)

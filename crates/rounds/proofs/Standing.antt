@@ -20,7 +20,9 @@ use Rattle.meaning.specs.Query.{PathReduction, network-of}
 use Rattle.meaning.specs.Run.{pull}
 use Rattle.wire.specs.Wire.{at16}
 use Rattle.graph.specs.Graph.{graph-of}
-use Rattle.cells.specs.Table.{Sound, any-vertex, cell-in, changed-in, figures-in, figures-of, path-of}
+use Rattle.packed_path.specs.declared.PackedPath.{PackedPath}
+use Rattle.packed_path.specs.Packed.{path-of}
+use Rattle.cells.specs.Table.{Sound, any-vertex, cell-in, changed-in, figures-in, figures-of}
 use Rattle.cell_laws.proofs.Path.{Given, T-true, any-same, below-more, path-network, path-ordered}
 use Rattle.rounds.specs.Run.{Advanced, Begun, Others, PullRound, PushRound, Round, Stands, Turned, pulled, pushed-from}
 
@@ -62,9 +64,9 @@ pub stands-awake : (g : Graph) (c : PathReduction) (r j flag flag′ : ℕ) (l :
     → Stands g c r j flag l → Stands g c r j flag′ l
 stands-awake g c r j flag flag′ l n m x = record { figures = x .figures; marks = λ q. x .marks n; rests = λ q. absurd (m q); sound = x .sound }
 
-module _ (s : List ℕ) (w : ℕ) (g : Given s w) (j : ℕ) where
+module _ (s : List ℕ) (path : PackedPath) (g : Given s path) (j : ℕ) where
   abbrev c : PathReduction
-  c = path-of w
+  c = path-of path
 
   abbrev G : Graph
   G = graph-of s
@@ -76,11 +78,11 @@ module _ (s : List ℕ) (w : ℕ) (g : Given s w) (j : ℕ) where
   n = at16 s 5
 
   marked-now : (r v : ℕ) → marked N (c .keys) r .changed v ≡ fresh N (c .keys) r v
-  marked-now r v = ap (λ (p : Marked). p .changed v) (marked-is N (c .keys) (path-ordered s w g) r)
+  marked-now r v = ap (λ (p : Marked). p .changed v) (marked-is N (c .keys) (path-ordered s path g) r)
 
   -- before any round
-  pub begun-stands : (l l′ : List ℕ) (flag : ℕ) → (flag ≡ 1 → ⊥) → Begun (graph-of s) (path-of w) j l l′
-      → Stands (graph-of s) (path-of w) 0 j flag l′
+  pub begun-stands : (l l′ : List ℕ) (flag : ℕ) → (flag ≡ 1 → ⊥) → Begun (graph-of s) (path-of path) j l l′
+      → Stands (graph-of s) (path-of path) 0 j flag l′
   unfolding state marked
   begun-stands l l′ flag m x = record {
     figures = x .figures;
@@ -89,13 +91,13 @@ module _ (s : List ℕ) (w : ℕ) (g : Given s w) (j : ℕ) where
     sound = x .sound;
   }
 
-  module _ (r : ℕ) (l : List ℕ) (x : Stands (graph-of s) (path-of w) r j 0 l) where
+  module _ (r : ℕ) (l : List ℕ) (x : Stands (graph-of s) (path-of path) r j 0 l) where
     zero-one : _≡_ {A = ℕ} 0 1 → ⊥
     zero-one e = omega arith
 
     -- THE NEXT STATE, of a round that leaves it
-    module _ (next : State) (theory : (v : ℕ) → v < at16 s 5 → next v ≡ pull (graph-of s) (path-of w) (suc r) v) (l′ : List ℕ) (b : Bool)
-        (y : Round (graph-of s) (path-of w) r j next l l′ b) where
+    module _ (next : State) (theory : (v : ℕ) → v < at16 s 5 → next v ≡ pull (graph-of s) (path-of path) (suc r) v) (l′ : List ℕ) (b : Bool)
+        (y : Round (graph-of s) (path-of path) r j next l l′ b) where
       shown : (v : ℕ) → v < n → figures-in c l′ j v ≡ pull G c (suc r) v
       shown v k = y .figures v k ∙ theory v k
 
@@ -125,17 +127,17 @@ module _ (s : List ℕ) (w : ℕ) (g : Given s w) (j : ℕ) where
 
     -- BY PULL
     pub pull-stands : (l′ : List ℕ) (b : Bool)
-        → PullRound (graph-of s) (path-of w) r j l l′ b → Advanced (graph-of s) (path-of w) r j l l′ b
+        → PullRound (graph-of s) (path-of path) r j l l′ b → Advanced (graph-of s) (path-of path) r j l l′ b
     pull-stands l′ b y =
-        let t = pull-steps N (c .keys) (path-network s w g) r S (x .figures) in
+        let t = pull-steps N (c .keys) (path-network s path g) r S (x .figures) in
         (next-stands (pulled N (c .keys) S) t l′ b y, next-changed (pulled N (c .keys) S) t l′ b y, y .others)
 
     -- BY PUSH
     pub push-stands : (l′ : List ℕ) (b : Bool)
-        → PushRound (graph-of s) (path-of w) r j l l′ b → Advanced (graph-of s) (path-of w) r j l l′ b
+        → PushRound (graph-of s) (path-of path) r j l l′ b → Advanced (graph-of s) (path-of path) r j l l′ b
     push-stands l′ b y =
         let t =
-        push-steps N (c .keys) (path-network s w g) r S (x .figures) (path-ordered s w g) (changed-in r l j)
+        push-steps N (c .keys) (path-network s path g) r S (x .figures) (path-ordered s path g) (changed-in r l j)
         (λ u k. x .marks zero-one u k ∙ marked-now r u) in (
           next-stands (pushed-from N (c .keys) S (changed-in r l j)) t l′ b y,
           next-changed (pushed-from N (c .keys) S (changed-in r l j)) t l′ b y,
@@ -145,11 +147,11 @@ module _ (s : List ℕ) (w : ℕ) (g : Given s w) (j : ℕ) where
   -- ---- at rest
 
   quiet-on : (r : ℕ) → T (unchanged (pull G c) r n) → T (unchanged (pull G c) (suc r) n)
-  quiet-on r = state-settles N (c .keys) (path-ordered s w g) (path-network s w g) .0 r
+  quiet-on r = state-settles N (c .keys) (path-ordered s path g) (path-network s path g) .0 r
 
   -- one that rests is what a round would make of it
-  pub rests-on : (r flag : ℕ) (l : List ℕ) → flag ≡ 1 → Stands (graph-of s) (path-of w) r j flag l
-      → Stands (graph-of s) (path-of w) (suc r) j flag l × (false ≡ not (unchanged (pull (graph-of s) (path-of w)) r (at16 s 5)))
+  pub rests-on : (r flag : ℕ) (l : List ℕ) → flag ≡ 1 → Stands (graph-of s) (path-of path) r j flag l
+      → Stands (graph-of s) (path-of path) (suc r) j flag l × (false ≡ not (unchanged (pull (graph-of s) (path-of path)) r (at16 s 5)))
   rests-on r flag l e x =
       let u = x .rests e in (
         record {
@@ -162,23 +164,23 @@ module _ (s : List ℕ) (w : ℕ) (g : Given s w) (j : ℕ) where
       )
 
   -- a quiet round puts it to rest
-  pub settles : (r : ℕ) (l : List ℕ) (flag : ℕ) → flag ≡ 1 → false ≡ not (unchanged (pull (graph-of s) (path-of w)) r (at16 s 5))
-      → Stands (graph-of s) (path-of w) (suc r) j 0 l → Stands (graph-of s) (path-of w) (suc r) j flag l
+  pub settles : (r : ℕ) (l : List ℕ) (flag : ℕ) → flag ≡ 1 → false ≡ not (unchanged (pull (graph-of s) (path-of path)) r (at16 s 5))
+      → Stands (graph-of s) (path-of path) (suc r) j 0 l → Stands (graph-of s) (path-of path) (suc r) j flag l
   settles r l flag e q x =
       let u : T (unchanged (pull G c) r n) = T-of (not-false (unchanged (pull G c) r n) (sym q)) in
       record { figures = x .figures; marks = λ m. absurd (m e); rests = λ m. quiet-on r u; sound = x .sound }
 
   -- ---- a turn
 
-  pub turn-rests : (r : ℕ) (rest l : List ℕ) → getD rest j 0 ≡ 1 → Stands (graph-of s) (path-of w) r j (getD rest j 0) l
-      → Turned (graph-of s) (path-of w) r j rest rest l l false
+  pub turn-rests : (r : ℕ) (rest l : List ℕ) → getD rest j 0 ≡ 1 → Stands (graph-of s) (path-of path) r j (getD rest j 0) l
+      → Turned (graph-of s) (path-of path) r j rest rest l l false
   turn-rests r rest l e x =
       let y = rests-on r (getD rest j 0) l e x in
       record { stands = y .0; changes = y .1; other-flags = λ i n. refl; others = λ i h n v k. refl }
 
-  pub turn-moves : (r : ℕ) (rest l l′ : List ℕ) → (getD rest j 0 ≡ 1 → ⊥) → Stands (graph-of s) (path-of w) (suc r) j 0 l′
-      → true ≡ not (unchanged (pull (graph-of s) (path-of w)) r (at16 s 5)) → Others (at16 s 5) j l l′
-      → Turned (graph-of s) (path-of w) r j rest rest l l′ true
+  pub turn-moves : (r : ℕ) (rest l l′ : List ℕ) → (getD rest j 0 ≡ 1 → ⊥) → Stands (graph-of s) (path-of path) (suc r) j 0 l′
+      → true ≡ not (unchanged (pull (graph-of s) (path-of path)) r (at16 s 5)) → Others (at16 s 5) j l l′
+      → Turned (graph-of s) (path-of path) r j rest rest l l′ true
   turn-moves r rest l l′ n x e o = record {
     stands = stands-awake G c (suc r) j 0 (getD rest j 0) l′ (λ q. omega arith) n x;
     changes = e;
@@ -186,9 +188,9 @@ module _ (s : List ℕ) (w : ℕ) (g : Given s w) (j : ℕ) where
     others = o;
   }
 
-  pub turn-settles : (r : ℕ) (rest l l′ : List ℕ) → j < length rest → Stands (graph-of s) (path-of w) (suc r) j 0 l′
-      → false ≡ not (unchanged (pull (graph-of s) (path-of w)) r (at16 s 5)) → Others (at16 s 5) j l l′
-      → Turned (graph-of s) (path-of w) r j rest (set rest j 1) l l′ false
+  pub turn-settles : (r : ℕ) (rest l l′ : List ℕ) → j < length rest → Stands (graph-of s) (path-of path) (suc r) j 0 l′
+      → false ≡ not (unchanged (pull (graph-of s) (path-of path)) r (at16 s 5)) → Others (at16 s 5) j l l′
+      → Turned (graph-of s) (path-of path) r j rest (set rest j 1) l l′ false
   turn-settles r rest l l′ h x e o = record {
     stands = settles r l′ (getD (set rest j 1) j 0) (getD-set-same rest j 1 0 h) e x;
     changes = e;

@@ -15,7 +15,7 @@ use Rattle.meaning.specs.Query.{PathReduction}
 use Rattle.cells.specs.Table.{Sound, cell-in, figures-in, figures-of}
 use Rattle.cells.specs.declared.Cell.{Cell}
 use Rattle.cell_laws.proofs.Tripled.{cell-sized, value-tripled}
-use Rattle.cell_laws.proofs.Words.{few-keys}
+use Rattle.cell_laws.proofs.Keys.{few-keys}
 use Rattle.rounds.specs.Steps.{value-in}
 
 -- the third number, of a cell that is not absent

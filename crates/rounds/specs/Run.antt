@@ -10,6 +10,7 @@ use Rattle.walks.specs.Rounds.{State, gather, initial, marked, push-round, quie
 use Rattle.walks.specs.Walks.{Graph, Network}
 use Rattle.meaning.specs.Query.{PathReduction, network-of}
 use Rattle.meaning.specs.Run.{pull}
+use Rattle.packed_path.specs.declared.PackedPath.{PackedPath}
 use Rattle.cells.specs.Table.{Sound, any-vertex, cell-in, changed-in, figures-in, path-at, paths-in}
 
 -- what each vertex holds after a round, of what it held before. BY PULL: over all edges that may be taken
@@ -70,24 +71,24 @@ pub record Turned (g : Graph) (c : PathReduction) (r j : ℕ) (rest rest′ old 
   pub others : Others (g .vertices) j old new
 
 -- all path reductions of a table after r rounds
-pub record AllStand (g : Graph) (paths : ℕ) (table : List ℕ) (r : ℕ) (rest l : List ℕ) : Type 0 where
+pub record AllStand (g : Graph) (paths : ℕ) (table : List PackedPath) (r : ℕ) (rest l : List ℕ) : Type 0 where
   pub each : (j : ℕ) → j < paths → Stands g (path-at table j) r j (getD rest j 0) l
   pub flags : length rest ≡ 8
   pub long : length l ≡ 8192
 
 -- does the round after r change no vertex for any of them?
-abbrev pub quiet-after : Graph → ℕ → List ℕ → ℕ → Bool
+abbrev pub quiet-after : Graph → ℕ → List PackedPath → ℕ → Bool
 quiet-after g paths table r = quiet (g .vertices) (map (pull g) (paths-in paths table)) r
 
 -- "A run stops after the first round, counted from 1, in which no place changes for any chain"; or it has done the rounds given, none of which was such a one
-abbrev pub Ended : Graph → ℕ → List ℕ → ℕ → ℕ → Type 0
+abbrev pub Ended : Graph → ℕ → List PackedPath → ℕ → ℕ → Type 0
 Ended g paths table limit rounds =
     ((rounds ≡ limit) × ((q : ℕ) → q < limit → T (quiet-after g paths table q) → ⊥))
     ⊎ ((q : ℕ) × (rounds ≡ suc q) × T (quiet-after g paths table q) × ((i : ℕ) → i < q → T (quiet-after g paths table i) → ⊥))
 
 -- WHAT A RUN OF AT MOST `limit` ROUNDS LEAVES: as many rounds as it says, and a table that shows at each vertex for each path reduction what the
 -- theory's state is after that many
-pub record Ran (g : Graph) (paths : ℕ) (table : List ℕ) (limit rounds : ℕ) (figures : List ℕ) : Type 0 where
+pub record Ran (g : Graph) (paths : ℕ) (table : List PackedPath) (limit rounds : ℕ) (figures : List ℕ) : Type 0 where
   pub within : rounds ≤ limit
   pub ended : Ended g paths table limit rounds
   pub shows : (j : ℕ) → j < paths → (v : ℕ) → v < g .vertices → figures-in (path-at table j) figures j v ≡ pull g (path-at table j) rounds v

@@ -8,7 +8,9 @@ use lib.ListN.{length, getD, take, drop}
 use Rattle.value.specs.declared.Value.{Value}
 use Rattle.value.specs.declared.Value.the-variants.{Absent, Number}
 use Rattle.wire.specs.Wire.{at16}
-use Rattle.cells.specs.Steps.{keys-of, relaxed-upto, source-of, initialized, taken-upto}
+use Rattle.packed_path.specs.declared.PackedPath.{PackedPath}
+use Rattle.packed_path.specs.Packed.{sources-of}
+use Rattle.cells.specs.Steps.{keys-of, relaxed-upto, initialized, taken-upto}
 
 -- how many numbers a path reduction has: four for each of the graph's vertices
 abbrev pub width : List ℕ → ℕ
@@ -23,16 +25,16 @@ unfoldable pub with-part : List ℕ → ℕ → List ℕ → List ℕ → List �
 with-part s j l p = take (1024 * j) l ++ (p ++ drop (1024 * j + width s) l)
 
 -- the initial values of path reduction j ("start values are round 0")
-unfoldable pub initialized-at : List ℕ → ℕ → ℕ → List ℕ → List ℕ
-initialized-at s word j l = with-part s j l (initialized (keys-of word) (source-of word) (part s j l) (at16 s 5))
+unfoldable pub initialized-at : List ℕ → PackedPath → ℕ → List ℕ → List ℕ
+initialized-at s path j l = with-part s j l (initialized (keys-of (path .keys)) (sources-of path) (part s j l) (at16 s 5))
 
--- a round of path reduction j alone: does any vertex change?
+-- a round of path reduction j alone, which has these keys: does any vertex change?
 unfoldable pub step-takes : List ℕ → ℕ → ℕ → ℕ → ℕ → List ℕ → Bool
-step-takes s word j since stamp l = taken-upto (keys-of word) s since stamp (part s j l) (at16 s 7)
+step-takes s keys j since stamp l = taken-upto (keys-of keys) s since stamp (part s j l) (at16 s 7)
 
 -- the table after it
 unfoldable pub stepped : List ℕ → ℕ → ℕ → ℕ → ℕ → List ℕ → List ℕ
-stepped s word j since stamp l = with-part s j l (relaxed-upto (keys-of word) s since stamp (part s j l) (at16 s 7))
+stepped s keys j since stamp l = with-part s j l (relaxed-upto (keys-of keys) s since stamp (part s j l) (at16 s 7))
 
 -- the value of path reduction j at vertex v: the last key's figure; absent where the stamp is 0, and outside the table
 unfoldable pub value-in : List ℕ → ℕ → ℕ → Value

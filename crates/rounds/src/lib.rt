@@ -1,5 +1,6 @@
 // Rounds of all path reductions of a plan on one flat table (document 01: pull run, push run). Path reduction j has the numbers from
 // 1,024 * j on (crate cells). `work` is room for the figures of the round before, lent once: what is left in it is free, and it is as long as it was.
+use packed_path::PackedPath;
 ghost use mathlib.Core.Path.{_≡_};
 ghost use mathlib.Core.Bool.{not};
 ghost use Prim.Native.Nat.{suc, _*_, _<_, _≤_};
@@ -8,7 +9,8 @@ ghost use Rattle.walks.specs.Lists.{All};
 ghost use Rattle.meaning.specs.Limits.{PathFits};
 ghost use Rattle.wire.specs.Wire.{at16};
 ghost use Rattle.graph.specs.Graph.{graph-code, graph-of};
-ghost use Rattle.cells.specs.Table.{Sound, path-of, paths-in};
+ghost use Rattle.packed_path.specs.Packed.{path-of};
+ghost use Rattle.cells.specs.Table.{Sound, paths-in};
 ghost use Rattle.rounds.specs.Run.{Advanced, AllStand, Begun, PullRound, PushRound, Ran, Stands, Turned, Waits, quiet-after};
 ghost use Rattle.rounds.specs.Steps.{initialized-at, stepped, step-takes};
 
@@ -23,28 +25,28 @@ fn vertices(graph: &[u8]) -> usize
 // ---- initial values
 
 // Those of path reduction j, in its part of the table.
-fn initialize_part(word: u64, graph: &[u8], j: usize, figures: &mut [u32])
+fn initialize_part(path: PackedPath, graph: &[u8], j: usize, figures: &mut [u32])
     requires { ⌜ (graph-code (now graph) ≡ 0) × (j < 8) × (length (now figures) ≡ 8192) ⌝ }
-    ensures { λ _. ⌜ now (figures .exit) ≡ initialized-at (now (graph .entry)) word j (now (figures .entry)) ⌝ }
+    ensures { λ _. ⌜ now (figures .exit) ≡ initialized-at (now (graph .entry)) path j (now (figures .entry)) ⌝ }
 {
     let n = vertices(graph);
     let first = 1024 * j;
     let end = first + 4 * n;
-    cells::initialize(word, n, &mut figures[first..end])
+    cells::initialize(path, n, &mut figures[first..end])
 }
 
 // What the table shows then.
-fn initialize_at(word: u64, graph: &[u8], j: usize, figures: &mut [u32])
+fn initialize_at(path: PackedPath, graph: &[u8], j: usize, figures: &mut [u32])
     requires { ⌜
-        (graph-code (now graph) ≡ 0) × (j < 8) × PathFits (at16 (now graph) 5) (path-of word) × (length (now figures) ≡ 8192)
+        (graph-code (now graph) ≡ 0) × (j < 8) × PathFits (at16 (now graph) 5) (path-of path) × (length (now figures) ≡ 8192)
         ⌝ }
-    ensures { λ _. ⌜ Begun (graph-of (now (graph .entry))) (path-of word) j (now (figures .entry)) (now (figures .exit)) ⌝ }
+    ensures { λ _. ⌜ Begun (graph-of (now (graph .entry))) (path-of path) j (now (figures .entry)) (now (figures .exit)) ⌝ }
 {
-    initialize_part(word, graph, j, figures)
+    initialize_part(path, graph, j, figures)
 }
 
 // The initial values of all path reductions.
-fn initialize_all(graph: &[u8], paths: usize, table: [u64; 8], figures: &mut [u32])
+fn initialize_all(graph: &[u8], paths: usize, table: [PackedPath; 8], figures: &mut [u32])
     requires { ⌜
         (graph-code (now graph) ≡ 0) × (paths ≤ 8) × All (PathFits (at16 (now graph) 5)) (paths-in paths table) × (length (now figures) ≡ 8192)
         ⌝ }
@@ -52,8 +54,8 @@ fn initialize_all(graph: &[u8], paths: usize, table: [u64; 8], figures: &mut [u3
 {
     let mut j: usize = 0;
     while j < paths {
-        let word = table[j];
-        initialize_at(word, graph, j, figures);
+        let path = table[j];
+        initialize_at(path, graph, j, figures);
         j += 1;
     }
 }
@@ -62,7 +64,7 @@ fn initialize_all(graph: &[u8], paths: usize, table: [u64; 8], figures: &mut [u3
 
 // Over the edges from vertices stamped since a round, in its part of the table. Whether a vertex changed.
 fn step_at(
-    word: u64,
+    keys: u32,
     graph: &[u8],
     j: usize,
     since: u32,
@@ -72,20 +74,20 @@ fn step_at(
 ) -> bool
     requires { ⌜ (graph-code (now graph) ≡ 0) × (j < 8) × (length (now figures) ≡ 8192) × (length (now work) ≡ 4 * at16 (now graph) 5) ⌝ }
     ensures { λ r. ⌜
-        (r ≡ step-takes (now (graph .entry)) word j since stamp (now (figures .entry)))
-        × (now (figures .exit) ≡ stepped (now (graph .entry)) word j since stamp (now (figures .entry)))
+        (r ≡ step-takes (now (graph .entry)) keys j since stamp (now (figures .entry)))
+        × (now (figures .exit) ≡ stepped (now (graph .entry)) keys j since stamp (now (figures .entry)))
         × (length (now (work .exit)) ≡ length (now (work .entry)))
         ⌝ }
 {
     let n = vertices(graph);
     let from = 1024 * j;
     let end = from + 4 * n;
-    cells::step(word, graph, since, stamp, &mut figures[from..end], work)
+    cells::step(keys, graph, since, stamp, &mut figures[from..end], work)
 }
 
 // BY PULL, the round after r: over all edges. (Those from absent vertices, which have stamp 0, bring nothing.)
 fn pull_round(
-    word: u64,
+    path: PackedPath,
     graph: &[u8],
     j: usize,
     r: u16,
@@ -93,20 +95,20 @@ fn pull_round(
     work: &mut [u32],
 ) -> bool
     requires { ⌜
-        (graph-code (now graph) ≡ 0) × (j < 8) × PathFits (at16 (now graph) 5) (path-of word) × (r < 65535)
-        × Sound (at16 (now graph) 5) (path-of word) r (now figures) j × (length (now work) ≡ 4 * at16 (now graph) 5)
+        (graph-code (now graph) ≡ 0) × (j < 8) × PathFits (at16 (now graph) 5) (path-of path) × (r < 65535)
+        × Sound (at16 (now graph) 5) (path-of path) r (now figures) j × (length (now work) ≡ 4 * at16 (now graph) 5)
         ⌝ }
     ensures { λ b. ⌜
-        PullRound (graph-of (now (graph .entry))) (path-of word) r j (now (figures .entry)) (now (figures .exit)) b
+        PullRound (graph-of (now (graph .entry))) (path-of path) r j (now (figures .entry)) (now (figures .exit)) b
         × (length (now (work .exit)) ≡ length (now (work .entry)))
         ⌝ }
 {
-    step_at(word, graph, j, 1, r as u32 + 2, figures, work)
+    step_at(path.keys, graph, j, 1, r as u32 + 2, figures, work)
 }
 
 // BY PUSH: over the edges from vertices that round r changed.
 fn push_round(
-    word: u64,
+    path: PackedPath,
     graph: &[u8],
     j: usize,
     r: u16,
@@ -114,15 +116,23 @@ fn push_round(
     work: &mut [u32],
 ) -> bool
     requires { ⌜
-        (graph-code (now graph) ≡ 0) × (j < 8) × PathFits (at16 (now graph) 5) (path-of word) × (r < 65535)
-        × Sound (at16 (now graph) 5) (path-of word) r (now figures) j × (length (now work) ≡ 4 * at16 (now graph) 5)
+        (graph-code (now graph) ≡ 0) × (j < 8) × PathFits (at16 (now graph) 5) (path-of path) × (r < 65535)
+        × Sound (at16 (now graph) 5) (path-of path) r (now figures) j × (length (now work) ≡ 4 * at16 (now graph) 5)
         ⌝ }
     ensures { λ b. ⌜
-        PushRound (graph-of (now (graph .entry))) (path-of word) r j (now (figures .entry)) (now (figures .exit)) b
+        PushRound (graph-of (now (graph .entry))) (path-of path) r j (now (figures .entry)) (now (figures .exit)) b
         × (length (now (work .exit)) ≡ length (now (work .entry)))
         ⌝ }
 {
-    step_at(word, graph, j, r as u32 + 1, r as u32 + 2, figures, work)
+    step_at(
+        path.keys,
+        graph,
+        j,
+        r as u32 + 1,
+        r as u32 + 2,
+        figures,
+        work,
+    )
 }
 
 // ---- rounds of all
@@ -130,7 +140,7 @@ fn push_round(
 // The next state of a path reduction that does not rest, by push or by pull. Whether a vertex changed.
 fn advance(
     push: bool,
-    word: u64,
+    path: PackedPath,
     graph: &[u8],
     j: usize,
     r: u16,
@@ -138,24 +148,24 @@ fn advance(
     work: &mut [u32],
 ) -> bool
     requires { ⌜
-        (graph-code (now graph) ≡ 0) × (j < 8) × PathFits (at16 (now graph) 5) (path-of word) × (r < 65535)
-        × Stands (graph-of (now graph)) (path-of word) r j 0 (now figures) × (length (now work) ≡ 4 * at16 (now graph) 5)
+        (graph-code (now graph) ≡ 0) × (j < 8) × PathFits (at16 (now graph) 5) (path-of path) × (r < 65535)
+        × Stands (graph-of (now graph)) (path-of path) r j 0 (now figures) × (length (now work) ≡ 4 * at16 (now graph) 5)
         ⌝ }
     ensures { λ b. ⌜
-        Advanced (graph-of (now (graph .entry))) (path-of word) r j (now (figures .entry)) (now (figures .exit)) b
+        Advanced (graph-of (now (graph .entry))) (path-of path) r j (now (figures .entry)) (now (figures .exit)) b
         × (length (now (work .exit)) ≡ length (now (work .entry)))
         ⌝ }
 {
     if push {
-        return push_round(word, graph, j, r, figures, work);
+        return push_round(path, graph, j, r, figures, work);
     }
-    pull_round(word, graph, j, r, figures, work)
+    pull_round(path, graph, j, r, figures, work)
 }
 
 // The turn of path reduction j in the round after r: one that is quiet rests, and stays as it is. Whether a vertex changed.
 fn turn(
     push: bool,
-    word: u64,
+    path: PackedPath,
     graph: &[u8],
     j: usize,
     r: u16,
@@ -164,18 +174,18 @@ fn turn(
     work: &mut [u32],
 ) -> bool
     requires { ⌜
-        (graph-code (now graph) ≡ 0) × (j < 8) × PathFits (at16 (now graph) 5) (path-of word) × (r < 65535)
-        × Waits (graph-of (now graph)) (path-of word) r j (now rest) (now figures) × (length (now work) ≡ 4 * at16 (now graph) 5)
+        (graph-code (now graph) ≡ 0) × (j < 8) × PathFits (at16 (now graph) 5) (path-of path) × (r < 65535)
+        × Waits (graph-of (now graph)) (path-of path) r j (now rest) (now figures) × (length (now work) ≡ 4 * at16 (now graph) 5)
         ⌝ }
     ensures { λ b. ⌜
-        Turned (graph-of (now (graph .entry))) (path-of word) r j (now (rest .entry)) (now (rest .exit)) (now (figures .entry)) (now (figures .exit)) b
+        Turned (graph-of (now (graph .entry))) (path-of path) r j (now (rest .entry)) (now (rest .exit)) (now (figures .entry)) (now (figures .exit)) b
         × (length (now (work .exit)) ≡ length (now (work .entry)))
         ⌝ }
 {
     if rest[j] == 1 {
         return false;
     }
-    if advance(push, word, graph, j, r, figures, work) {
+    if advance(push, path, graph, j, r, figures, work) {
         return true;
     }
     rest[j] = 1;
@@ -187,7 +197,7 @@ fn round(
     push: bool,
     graph: &[u8],
     paths: usize,
-    table: [u64; 8],
+    table: [PackedPath; 8],
     r: u16,
     rest: &mut [u8],
     figures: &mut [u32],
@@ -205,8 +215,8 @@ fn round(
     let mut changed = false;
     let mut j: usize = 0;
     while j < paths {
-        let word = table[j];
-        let moved = turn(push, word, graph, j, r, rest, figures, work);
+        let path = table[j];
+        let moved = turn(push, path, graph, j, r, rest, figures, work);
         changed = changed | moved;
         j += 1;
     }
@@ -218,7 +228,7 @@ fn rounds(
     push: bool,
     graph: &[u8],
     paths: usize,
-    table: [u64; 8],
+    table: [PackedPath; 8],
     limit: u16,
     figures: &mut [u32],
     work: &mut [u32],
@@ -248,7 +258,7 @@ pub fn run(
     push: bool,
     graph: &[u8],
     paths: usize,
-    table: [u64; 8],
+    table: [PackedPath; 8],
     limit: u16,
     figures: &mut [u32],
 ) -> u16

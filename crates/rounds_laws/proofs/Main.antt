@@ -21,6 +21,7 @@ use Rattle.meaning.specs.Query.{PathReduction, network-of}
 use Rattle.meaning.specs.Run.{pull, values-at}
 use Rattle.meaning.proofs.Lists.{all-unmapped}
 use Rattle.meaning.proofs.Rounds.{network-fits, path-in-order, rounds-at-most, rounds-final, rounds-go-on, rounds-smallest, rounds-stop}
+use Rattle.packed_path.specs.declared.PackedPath.{PackedPath}
 use Rattle.cells.specs.Table.{figures-in, path-at, paths-in}
 use Rattle.rounds.specs.Run.{Ended, Ran}
 use Rattle.rounds.specs.Steps.{value-in}
@@ -28,15 +29,15 @@ use Rattle.rounds.proofs.Joint.{legal-at}
 use Rattle.rounds.proofs.Values.{value-shown}
 
 -- what a function gives at the path reduction with index j
-at-index : {B : Type 0} (f : PathReduction → B) (table : List ℕ) (paths j : ℕ) (d : B) → j < paths → j < length table
+at-index : {B : Type 0} (f : PathReduction → B) (table : List PackedPath) (paths j : ℕ) (d : B) → j < paths → j < length table
     → getD (map f (paths-in paths table)) j d ≡ f (path-at table j)
 at-index f [] paths j d h k = absurd (not-suc-le-zero k)
 at-index f (x ∷ t) zero j d h k = absurd (not-suc-le-zero h)
 at-index f (x ∷ t) (suc p) zero d h k = refl
 at-index f (x ∷ t) (suc p) (suc j) d h k = at-index f t p j d (omega arith) (omega arith)
 
--- a run of at most `limit` rounds on a legal graph g, of the path reductions that are the first `paths` of a table of their numbers
-module _ (g : Graph) (legal-graph : GraphLegal g) (paths : ℕ) (table : List ℕ) (few : paths ≤ 8) (eight : length table ≡ 8)
+-- a run of at most `limit` rounds on a legal graph g, of the path reductions that are the first `paths` of a table
+module _ (g : Graph) (legal-graph : GraphLegal g) (paths : ℕ) (table : List PackedPath) (few : paths ≤ 8) (eight : length table ≡ 8)
     (legal : All (PathFits (g .vertices)) (paths-in paths table)) (limit done : ℕ) (figures : List ℕ) (ran : Ran g paths table limit done figures) where
   abbrev cs : List PathReduction
   cs = paths-in paths table

@@ -4,16 +4,17 @@ use mathlib.Core.Path.{_≡_, sym, refl, _∙_, ap}
 use native.Mathlib.Numerals.{add-one}
 use lib.ListN.{length}
 use lib.Seq.{length-sets}
-use Rattle.cells.specs.Steps.{keys-of, numbers, source-of, initialized}
+use Rattle.packed_path.specs.Packed.{sources-of}
+use Rattle.cells.specs.Steps.{keys-of, numbers, initialized}
 use native.Mathlib.Omega.{arith}
 use Rattle.cells.proofs.initialize.Statement.{statement}
 use Rattle.cells.proofs.initialize.Tie as tie
 
 abbrev Inv-loop : tie.InvT-loop
-Inv-loop word n part₀ keys source v₀ part v = (v ≤ n) × (length part ≡ 4 * n) × (part ≡ initialized (keys-of word) (source-of word) part₀ v)
+Inv-loop path n part₀ keys v₀ part v = (v ≤ n) × (length part ≡ 4 * n) × (part ≡ initialized (keys-of (path .keys)) (sources-of path) part₀ v)
 
 abbrev μ-loop : tie.MeasureT-loop
-μ-loop word n part₀ keys source v₀ part v = n - v
+μ-loop path n part₀ keys v₀ part v = n - v
 
 path-keys-requires : tie.Need-path-keys-requires Inv-loop μ-loop
 path-keys-requires c κs = tt

@@ -16,8 +16,11 @@ returns-2 c = rw (eq-eqb _ _ (c .before .before .before .if1 .left), ne-eqb _ _ 
 returns-3 : tie.Need-returns-3
 unfolding same-packed
 returns-3 c =
-    rw (eq-eqb _ _ (c .before .before .before .before .before .before .if1 .left), eq-eqb _ _ (c .before .before .before .if2 .left), ne-eqb _ _ (c .if3 .taken))
-    refl
+    rw (
+      eq-eqb _ _ (c .before .before .before .before .before .before .if1 .left),
+      eq-eqb _ _ (c .before .before .before .if2 .left),
+      ne-eqb _ _ (c .if3 .taken),
+    ) refl
 
 returns-4 : tie.Need-returns-4
 unfolding same-packed

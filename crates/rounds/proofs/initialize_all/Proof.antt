@@ -8,6 +8,7 @@ use lib.ListN.{length}
 use Rattle.meaning.specs.Limits.{PathFits}
 use Rattle.wire.specs.Wire.{at16}
 use Rattle.graph.specs.Graph.{graph-of}
+use Rattle.packed_path.specs.declared.PackedPath.{PackedPath}
 use Rattle.rounds.proofs.Joint.{Started, legal-at, started-all, started-more}
 use Rattle.rounds.proofs.initialize_all.Statement.{statement}
 use Rattle.rounds.proofs.initialize_all.Tie as tie
@@ -24,18 +25,18 @@ loop-holds c =
     let s = c .before .before in
     (s .pre .1, omega arith, record { shown = λ j h. absurd (not-suc-le-zero h); long = s .pre .3 })
 
-mul-word : tie.Need-mul-word Inv-loop μ-loop
-mul-word c = omega (arith, c .before .loop .inv .0)
+mul-path : tie.Need-mul-path Inv-loop μ-loop
+mul-path c = omega (arith, c .before .loop .inv .0)
 
-array-read-word : tie.Need-array-read-word Inv-loop μ-loop
-array-read-word c = omega (arith, c .before .loop .inv .0)
+array-copy-out-path : tie.Need-array-copy-out-path Inv-loop μ-loop
+array-copy-out-path c = omega (arith, c .before .loop .inv .0)
 
 initialize-at-requires : tie.Need-initialize-at-requires Inv-loop μ-loop
 initialize-at-requires c κs =
-    let s = c .before .before .before .before .before in
+    let s = c .before .before .before .before .before .before in
     let a = s .args in
-    let l = c .before .before .loop in
-    let e : length {A = ℕ} (a .t3) ≡ 8 = s .good .1 .1 .0 .1 .0 .1 in
+    let l = c .before .before .before .loop in
+    let e : length {A = PackedPath} (a .t3) ≡ 8 = s .good .1 .1 .0 .1 .0 .1 in
     let h : l .j < a .paths = omega arith in (
       s .pre .0,
       omega (arith, s .pre .1),
@@ -51,11 +52,11 @@ loop-less c = omega arith
 
 loop-again : tie.Need-loop-again Inv-loop μ-loop
 loop-again c =
-    let s = c .before .before .before .before .before .before .before .before in
+    let s = c .before .before .before .before .before .before .before .before .before in
     let a = s .args in
-    let known = c .before .before .before .before .before .before .before .shared-slice-known in
-    let l = c .before .before .before .before .before .loop in
-    let e : length {A = ℕ} (a .t3) ≡ 8 = s .good .1 .1 .0 .1 .0 .1 in
+    let known = c .before .before .before .before .before .before .before .before .shared-slice-known in
+    let l = c .before .before .before .before .before .before .loop in
+    let e : length {A = PackedPath} (a .t3) ≡ 8 = s .good .1 .1 .0 .1 .0 .1 in
     let h : l .j < a .paths = omega arith in
     let fits = legal-at (PathFits (at16 (a .graph .now) 5)) (a .t3) (a .paths) (s .pre .2) (l .j) h (omega (arith, s .pre .1)) in (
       l .inv .0,
@@ -82,8 +83,8 @@ initialize-all-spec =
     Inv-loop
     μ-loop
     loop-holds
-    mul-word
-    array-read-word
+    mul-path
+    array-copy-out-path
     initialize-at-requires
     add-j
     loop-less

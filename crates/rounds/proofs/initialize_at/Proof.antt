@@ -11,7 +11,7 @@ returns c =
     let a = s .args in
     let known = c .before .before .before .before .before .shared-slice-known in
     rw (c .before .before .initialize-part .ensures)
-    (begins-at (a .graph .now) (a .word) (record { bytes = λ i. omega (arith, known .given i); accepted = s .pre .0; fits = s .pre .2 })
+    (begins-at (a .graph .now) (a .path) (record { bytes = λ i. omega (arith, known .given i); accepted = s .pre .0; fits = s .pre .2 })
     (a .j) (s .pre .1) (a .figures .now) (s .pre .3))
 
 pub initialize-at-spec : {M : Type 1} → statement M

@@ -38,7 +38,7 @@ returns : tie.Need-returns
 returns c =
     let a = c .before .before .before .before .before .before .before .args in
     let n = c .before .before .before .before .vertices in
-    initialize-put (a .graph .now) (a .figures .now) _ (a .j) (n .result) (n .ensures .0) (a .word) (c .before .before .initialize .ensures)
+    initialize-put (a .graph .now) (a .figures .now) _ (a .j) (n .result) (n .ensures .0) (a .path) (c .before .before .initialize .ensures)
 
 pub initialize-part-spec : {M : Type 1} → statement M
 initialize-part-spec =

@@ -12,8 +12,8 @@ returns c =
     let a = s .args in
     let known = c .before .before .before .before .before .before .before .before .before .shared-slice-known in
     let t = c .before .before .before .before .step-at in
-    let given : Given (a .graph .now) (a .word) = record { bytes = λ i. omega (arith, known .given i); accepted = s .pre .0; fits = s .pre .2 } in (
-      rw (t .ensures .0, t .ensures .1) (push-round-at (a .graph .now) (a .word) given (a .j) (s .pre .1) (a .r) (a .figures .now) (s .pre .4) (s .pre .3)),
+    let given : Given (a .graph .now) (a .path) = record { bytes = λ i. omega (arith, known .given i); accepted = s .pre .0; fits = s .pre .2 } in (
+      rw (t .ensures .0, t .ensures .1) (push-round-at (a .graph .now) (a .path) given (a .j) (s .pre .1) (a .r) (a .figures .now) (s .pre .4) (s .pre .3)),
       t .ensures .2,
     )
 

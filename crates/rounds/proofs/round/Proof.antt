@@ -7,6 +7,7 @@ use lib.ListN.{length}
 use Rattle.meaning.specs.Limits.{PathFits}
 use Rattle.wire.specs.Wire.{at16}
 use Rattle.graph.specs.Graph.{graph-of}
+use Rattle.packed_path.specs.declared.PackedPath.{PackedPath}
 use Rattle.rounds.proofs.Joint.{Upto, legal-at, upto-all, upto-more, upto-none}
 use Rattle.rounds.proofs.round.Statement.{statement}
 use Rattle.rounds.proofs.round.Tie as tie
@@ -24,18 +25,18 @@ loop-holds c =
     let a = s .args in
     (s .pre .1, omega arith, upto-none (graph-of (a .graph .now)) (a .paths) (a .t4) (s .pre .1) (a .r) (a .rest .now) (a .figures .now) (s .pre .4), refl)
 
-mul-word : tie.Need-mul-word Inv-loop μ-loop
-mul-word c = omega (arith, c .before .loop .inv .0)
+mul-path : tie.Need-mul-path Inv-loop μ-loop
+mul-path c = omega (arith, c .before .loop .inv .0)
 
-array-read-word : tie.Need-array-read-word Inv-loop μ-loop
-array-read-word c = omega (arith, c .before .loop .inv .0)
+array-copy-out-path : tie.Need-array-copy-out-path Inv-loop μ-loop
+array-copy-out-path c = omega (arith, c .before .loop .inv .0)
 
 turn-requires : tie.Need-turn-requires Inv-loop μ-loop
 turn-requires c κs =
-    let s = c .before .before .before .before .before .before .before .before .before in
+    let s = c .before .before .before .before .before .before .before .before .before .before in
     let a = s .args in
-    let l = c .before .before .before .before .loop in
-    let e : length {A = ℕ} (a .t4) ≡ 8 = s .good .1 .1 .1 .0 .1 .0 .1 in
+    let l = c .before .before .before .before .before .loop in
+    let e : length {A = PackedPath} (a .t4) ≡ 8 = s .good .1 .1 .1 .0 .1 .0 .1 in
     let h : l .j < a .paths = omega arith in (
       s .pre .0,
       omega (arith, s .pre .1),
@@ -47,11 +48,11 @@ turn-requires c κs =
 
 loop-again : tie.Need-loop-again Inv-loop μ-loop
 loop-again c =
-    let s = c .before .before .before .before .before .before .before .before .before .before .before .before .before .before .before .before in
+    let s = c .before .before .before .before .before .before .before .before .before .before .before .before .before .before .before .before .before in
     let a = s .args in
-    let l = c .before .before .before .before .before .before .before .before .before .before .before .loop in
+    let l = c .before .before .before .before .before .before .before .before .before .before .before .before .loop in
     let t = c .before .before .before .before .before .before .turn in
-    let e : length {A = ℕ} (a .t4) ≡ 8 = s .good .1 .1 .1 .0 .1 .0 .1 in
+    let e : length {A = PackedPath} (a .t4) ≡ 8 = s .good .1 .1 .1 .0 .1 .0 .1 in
     let h : l .j < a .paths = omega arith in (
       l .inv .0,
       omega arith,
@@ -85,8 +86,8 @@ round-spec =
     Inv-loop
     μ-loop
     loop-holds
-    mul-word
-    array-read-word
+    mul-path
+    array-copy-out-path
     turn-requires
     (λ c. omega arith)
     (λ c. omega arith)

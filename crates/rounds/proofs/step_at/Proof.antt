@@ -9,9 +9,9 @@ returns c =
     let a = c .before .before .before .before .before .before .before .before .before .before .before .args in
     let n = c .before .before .before .before .before .before .before .vertices in
     let t = c .before .before .before .before .step in (
-      step-said (a .graph .now) (a .figures .now) (a .figures .now) (a .j) (n .result) (n .ensures .0) (a .word) (a .since) (a .stamp) (t .result)
+      step-said (a .graph .now) (a .figures .now) (a .figures .now) (a .j) (n .result) (n .ensures .0) (a .keys) (a .since) (a .stamp) (t .result)
           (t .ensures .0 .0),
-      step-put (a .graph .now) (a .figures .now) _ (a .j) (n .result) (n .ensures .0) (a .word) (a .since) (a .stamp) (t .ensures .0 .1),
+      step-put (a .graph .now) (a .figures .now) _ (a .j) (n .result) (n .ensures .0) (a .keys) (a .since) (a .stamp) (t .ensures .0 .1),
       search needs,
     )
 

@@ -12,8 +12,8 @@ returns c =
     let s = c .before .before .before .before .before .before in
     let a = s .args in
     let known = c .before .before .before .before .before .shared-slice-known in
-    let given : Given (a .graph .now) (a .word) = record { bytes = λ i. omega (arith, known .given i); accepted = s .pre .0; fits = s .pre .2 } in
-    (turn-rests (a .graph .now) (a .word) given (a .j) (a .r) (a .rest .now) (a .figures .now) (c .if1 .taken) (s .pre .4 .1), search needs)
+    let given : Given (a .graph .now) (a .path) = record { bytes = λ i. omega (arith, known .given i); accepted = s .pre .0; fits = s .pre .2 } in
+    (turn-rests (a .graph .now) (a .path) given (a .j) (a .r) (a .rest .now) (a .figures .now) (c .if1 .taken) (s .pre .4 .1), search needs)
 
 advance-requires : tie.Need-advance-requires
 advance-requires c κs =
@@ -26,8 +26,8 @@ returns-2 c =
     let a = s .args in
     let known = c .before .before .before .before .before .before .before .before .before .before .before .before .before .shared-slice-known in
     let t = c .before .before .before .before .before .advance .ensures in
-    let given : Given (a .graph .now) (a .word) = record { bytes = λ i. omega (arith, known .given i); accepted = s .pre .0; fits = s .pre .2 } in (
-      turn-moves (a .graph .now) (a .word) given (a .j) (a .r) (a .rest .now) (a .figures .now) _
+    let given : Given (a .graph .now) (a .path) = record { bytes = λ i. omega (arith, known .given i); accepted = s .pre .0; fits = s .pre .2 } in (
+      turn-moves (a .graph .now) (a .path) given (a .j) (a .r) (a .rest .now) (a .figures .now) _
           (c .before .before .before .before .before .before .before .before .if1 .left)
           (t .0 .0) (sym (c .if2 .taken) ∙ t .0 .1) (t .0 .2),
       t .1,
@@ -39,8 +39,8 @@ returns-3 c =
     let a = s .args in
     let known = c .before .before .before .before .before .before .before .before .before .before .before .before .before .shared-slice-known in
     let t = c .before .before .before .before .before .advance .ensures in
-    let given : Given (a .graph .now) (a .word) = record { bytes = λ i. omega (arith, known .given i); accepted = s .pre .0; fits = s .pre .2 } in (
-      turn-settles (a .graph .now) (a .word) given (a .j) (a .r) (a .rest .now) (a .figures .now) _ (omega (arith, s .pre .1, s .pre .4 .0))
+    let given : Given (a .graph .now) (a .path) = record { bytes = λ i. omega (arith, known .given i); accepted = s .pre .0; fits = s .pre .2 } in (
+      turn-settles (a .graph .now) (a .path) given (a .j) (a .r) (a .rest .now) (a .figures .now) _ (omega (arith, s .pre .1, s .pre .4 .0))
           (t .0 .0) (sym (c .if2 .left) ∙ t .0 .1) (t .0 .2),
       t .1,
     )

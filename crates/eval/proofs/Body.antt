@@ -1,5 +1,5 @@
 -- THE ROWS OF A PLAN'S BODY, by the bytes of a legal plan, are the rows of its tree: `body-value`. Assumes nothing.
-use Prim.Native.Nat.{ℕ, zero, suc, _+_, _-_, _*_, _≤_, _<_, min}
+use Prim.Native.Nat.{ℕ, zero, suc, _+_, _-_, _≤_, _<_, min}
 use mathlib.Core.Path.{_≡_, refl, sym, ap, ap₂, _∙_}
 use mathlib.Core.List.{List, [], _∷_, _++_, map, append-assoc, append-nil}
 use mathlib.Core.Option.{Option, none, some}
@@ -13,7 +13,8 @@ use Rattle.meaning.specs.Query.{PathReduction}
 use Rattle.meaning.specs.Run.{at-vertices, body-rows, evaluate, picked, reduced, tabulate}
 use Rattle.meaning.proofs.Lists.{tabulate-at, tabulate-length}
 use Rattle.plan.proofs.ListedEntries.{reduction-read}
-use Rattle.plan.proofs.ListedPaths.{listed-size}
+use Rattle.plan.proofs.ListedPaths.{Listed, all-listed, chains-there}
+use Rattle.plan.specs.Plan.{count-at}
 use Rattle.plan.specs.Text.{all-listed-bytes, body-bytes, condition-bytes, encode, entries-bytes, entry-bytes, reduction-byte}
 use Rattle.terms.specs.declared.TermKind.the-variants.{OfEntry, OfFinal}
 use Rattle.term_text.specs.Text.{expression-bytes}
@@ -180,52 +181,61 @@ module _ (n count : ℕ) (F : ℕ → List Row) (G : ℕ → List Value) (agrees
             omega (arith, length-append l (entries-bytes es)) in z);
       }
 
-module _ (n : ℕ) (F : ℕ → List Row) (G : ℕ → List Value) (cs : List PathReduction) (agrees : Agrees n (length cs) F G) where
+module _ (n : ℕ) (F : ℕ → List Row) (G : ℕ → List Value) (version : ℕ) (cs : List PathReduction) (listed : All (Listed version) cs)
+    (agrees : Agrees n (length cs) F G) where
   abbrev text : Body → List ℕ
-  text b = encode (record { paths = cs; body = b })
+  text b = encode (record { version = version; paths = cs; body = b })
 
-  abbrev at-count : ℕ
-  at-count = 7 + 6 * length cs
+  -- the entry count stands behind the path reductions
+  count-is : (b : Body) → count-at (encode (record { version = version; paths = cs; body = b })) ≡ 7 + length (all-listed-bytes version cs)
+  unfolding count-at
+  count-is b = chains-there (text b) version cs listed 7 (body-bytes b) refl
 
-  body-there : (b : Body) → drop (7 + 6 * length cs) (encode (record { paths = cs; body = b })) ≡ body-bytes b
-  body-there b = drop-on (text b) 7 (6 * length cs) (all-listed-bytes cs) (body-bytes b) refl (listed-size cs)
+  body-there : (b : Body) → drop (count-at (text b)) (encode (record { version = version; paths = cs; body = b })) ≡ body-bytes b
+  body-there b =
+      let l = all-listed-bytes version cs in
+      ap (λ (i : ℕ). drop i (text b)) (count-is b) ∙ drop-on (text b) 7 (length l) l (body-bytes b) refl refl
 
   -- "Kind 0 has e = 1": the rows of the one entry
-  each-value : (t : Term ℕ) → Expression (length cs) t → values (body-found (encode (record { paths = cs; body = each-vertex t })) F n)
-      ≡ at-vertices G n t
+  each-value : (t : Term ℕ) → Expression (length cs) t
+      → values (body-found (encode (record { version = version; paths = cs; body = each-vertex t })) F n) ≡ at-vertices G n t
   unfolding body-found
   each-value t legal =
       let s : List ℕ = text (each-vertex t) in
       let l : List ℕ = entry-text 0 none t in
-      entry-rows-value n (length cs) F G agrees s 0 (omega arith) none t tt legal (at-count + 1) []
-      (drop-on s at-count 1 (1 ∷ []) l (body-there (each-vertex t)) refl ∙ sym (append-nil l))
+      let at = count-at s in
+      entry-rows-value n (length cs) F G agrees s 0 (omega arith) none t tt legal (at + 1) []
+      (drop-on s at 1 (1 ∷ []) l (body-there (each-vertex t)) refl ∙ sym (append-nil l))
 
   -- kind 1: the final expression over the results of the entries; "e from 0 to 8" is not cut
   one-value : (es : List (VertexReduction ℕ)) (t : Term ℕ) → length es ≤ 8 → All (EntryLegal (length cs)) es → Expression (length es) t
-      → values (body-found (encode (record { paths = cs; body = one-result es t })) F n) ≡ evaluate (map (reduced G n) es) t ∷ []
+      → values (body-found (encode (record { version = version; paths = cs; body = one-result es t })) F n)
+      ≡ evaluate (map (reduced G n) es) t ∷ []
   unfolding body-found final-found
   one-value es t few a legal =
       let s : List ℕ = text (one-result es t) in
       let l : List ℕ = expression-bytes OfFinal t in
       let vs : List Value = map (reduced G n) es in
+      let at = count-at s in
       let there = body-there (one-result es t) in
-      let count : min (getD s at-count 0) 8 ≡ length es = omega (arith, tag-there s at-count (length es) (entries-bytes es ++ l) there) in
-      let d1 = drop-on s at-count 1 (length es ∷ []) (entries-bytes es ++ l) there refl in
-      let E = entries-value n (length cs) F G agrees s es a (at-count + 1) l d1 in
-      let d2 = drop-on s (at-count + 1) (length (entries-bytes es)) (entries-bytes es) l d1 refl ∙ sym (append-nil l) in
-      let found = final-value (length es) s (eight vs) t legal (at-count + 1 + length (entries-bytes es)) [] d2 in
+      let count : min (getD s at 0) 8 ≡ length es = omega (arith, tag-there s at (length es) (entries-bytes es ++ l) there) in
+      let d1 = drop-on s at 1 (length es ∷ []) (entries-bytes es ++ l) there refl in
+      let E = entries-value n (length cs) F G agrees s es a (at + 1) l d1 in
+      let d2 = drop-on s (at + 1) (length (entries-bytes es)) (entries-bytes es) l d1 refl ∙ sym (append-nil l) in
+      let found = final-value (length es) s (eight vs) t legal (at + 1 + length (entries-bytes es)) [] d2 in
       let same = evaluate-same (length es) (values (eight vs)) vs (λ i h. eight-holds vs i (omega (arith, length-map es (reduced G n)))) t (legal .0) in
       ap (λ (v : Value). v ∷ [])
-      (ap (λ (e : ℕ). evaluated 16 s (eight (results e s (at-count + 1) F n)) (entries-end e s (at-count + 1)) .value) count
+      (ap (λ (e : ℕ). evaluated 16 s (eight (results e s (at + 1) F n)) (entries-end e s (at + 1)) .value) count
       ∙ ap₂ (λ (ws : List Value) (i : ℕ). evaluated 16 s (eight ws) i .value) (E .worth) (E .end)
       ∙ ap (λ (f : Found). f .value) found
       ∙ same)
 
 -- THE ROWS OF THE BODY: where F gives the values G of the plan's path reductions at each vertex
-pub body-value : (p : Plan) (m : ℕ) → PlanLegal m p → (n : ℕ) (F : ℕ → List Row) (G : ℕ → List Value) → Agrees n (length (p .paths)) F G
+pub body-value : (p : Plan) → PlanLegal 256 p → (n : ℕ) (F : ℕ → List Row) (G : ℕ → List Value) → Agrees n (length (p .paths)) F G
     → values (body-found (encode p) F n) ≡ body-rows (p .body) G n
-body-value p m legal n F G agrees = go (p .body) (legal .body-legal)
+body-value p legal n F G agrees = go (p .body) (legal .body-legal)
   where
-    go : (b : Body) → BodyLegal (length (p .paths)) b → values (body-found (encode (record { paths = p .paths; body = b })) F n) ≡ body-rows b G n
-    go (each-vertex t) l = each-value n F G (p .paths) agrees t l
-    go (one-result es t) l = one-value n F G (p .paths) agrees es t (l .0) (l .1) (l .2)
+    go : (b : Body) → BodyLegal (length (p .paths)) b
+        → values (body-found (encode (record { version = p .version; paths = p .paths; body = b })) F n) ≡ body-rows b G n
+    go (each-vertex t) l = each-value n F G (p .version) (p .paths) (all-listed p legal) agrees t l
+    go (one-result es t) l = one-value n F G (p .version) (p .paths) (all-listed p legal) agrees es t (l .0) (l .1) (l .2)

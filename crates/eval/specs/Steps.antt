@@ -1,7 +1,7 @@
 -- The value of a plan's expression and the rows of its body by its bytes, as the program goes: entries at each vertex, their reductions, the final expression.
 -- Nothing to believe: `expression-value` (proofs/Tree) says that a value is that of the expression's tree, `body-value` (proofs/Body) that the rows are those
 -- of the plan's tree. F gives the values of the path reductions at a vertex, as eight rows.
-use Prim.Native.Nat.{ℕ, zero, suc, _+_, _-_, _*_, _%_, min}
+use Prim.Native.Nat.{ℕ, zero, suc, _+_, _-_, _%_, min}
 use mathlib.Core.Bool.{Bool, cond, _||_}
 use mathlib.Core.List.{List, [], _∷_, _++_, map}
 use lib.Dec.{leb, eqb}
@@ -12,6 +12,7 @@ use Rattle.value.specs.declared.Value.the-variants.{Absent, Number}
 use Rattle.value.specs.declared.Row.{Row}
 use Rattle.value.specs.Steps.{where-counts}
 use Rattle.value.specs.Value.{operate, reduce, values}
+use Rattle.plan.specs.Plan.{count-at}
 use Rattle.wire.specs.Wire.{at32}
 use Rattle.eval.specs.declared.Found.{Found}
 use Rattle.eval.specs.declared.Head.{Head}
@@ -87,10 +88,6 @@ results (suc k) s at F n = reduce (getD s at 0 % 128) (values (entry-rows s at F
 unfoldable pub entries-end : ℕ → List ℕ → ℕ → ℕ
 entries-end zero s at = at
 entries-end (suc k) s at = entries-end k s (entry-end s at)
-
--- where the entry count of a plan stands: behind the kind byte, the "chain count c" and "c chains of 6 bytes"
-abbrev pub count-at : List ℕ → ℕ
-count-at s = 7 + 6 * getD s 6 0
 
 -- the value of the final expression, over the results of k entries that start at `at`
 unfoldable pub final-found : ℕ → List ℕ → ℕ → (ℕ → List Row) → ℕ → Value

@@ -1,4 +1,4 @@
--- What the loops of `listed` and `entries` cite: one path reduction or entry and those after it, and none left. Assumes nothing.
+-- What the loops of `listed`, `count_at` and `entries` cite: one path reduction or entry and those after it, and none left. Assumes nothing.
 use Prim.Native.Nat.{ℕ, zero, suc, _-_, _<_}
 use mathlib.Core.Path.{_≡_, refl, ap}
 use mathlib.Core.Bool.{cond}
@@ -7,17 +7,29 @@ use native.Mathlib.Omega.{arith}
 use native.Mathlib.Nat.{not-suc-le-zero}
 use lib.Dec.{eqb}
 use Rattle.progress.specs.declared.Progress.{Progress}
-use Rattle.plan.specs.Plan.{entries-scan, entry-scan, listed-step, listed-scan}
+use Rattle.plan.specs.Plan.{chains-end, entries-scan, entry-scan, listed-end, listed-scan, listed-step}
 
-pub listed-next : (k : ℕ) (s : List ℕ) (w : Progress) → 0 < k → listed-scan k s w ≡ cond (eqb (w .code) 0) (listed-scan (k - 1) s (listed-step s w)) w
+pub listed-next : (k version : ℕ) (s : List ℕ) (w : Progress) → 0 < k
+    → listed-scan k version s w ≡ cond (eqb (w .code) 0) (listed-scan (k - 1) version s (listed-step version s w)) w
 unfolding listed-scan
-listed-next zero s w h = absurd (not-suc-le-zero h)
-listed-next (suc k) s w h = ap (λ (n : ℕ). cond (eqb (w .code) 0) (listed-scan n s (listed-step s w)) w) (let e : k ≡ suc k - 1 = omega arith in e)
+listed-next zero version s w h = absurd (not-suc-le-zero h)
+listed-next (suc k) version s w h =
+    ap (λ (n : ℕ). cond (eqb (w .code) 0) (listed-scan n version s (listed-step version s w)) w) (let e : k ≡ suc k - 1 = omega arith in e)
 
-pub listed-none : (k : ℕ) (s : List ℕ) (w : Progress) → k ≡ 0 → listed-scan k s w ≡ w
+pub listed-none : (k version : ℕ) (s : List ℕ) (w : Progress) → k ≡ 0 → listed-scan k version s w ≡ w
 unfolding listed-scan
-listed-none zero s w e = refl
-listed-none (suc k) s w e = absurd (omega arith)
+listed-none zero version s w e = refl
+listed-none (suc k) version s w e = absurd (omega arith)
+
+pub chains-next : (k version : ℕ) (s : List ℕ) (i : ℕ) → 0 < k → chains-end k version s i ≡ chains-end (k - 1) version s (listed-end version s i)
+unfolding chains-end
+chains-next zero version s i h = absurd (not-suc-le-zero h)
+chains-next (suc k) version s i h = ap (λ (n : ℕ). chains-end n version s (listed-end version s i)) (let e : k ≡ suc k - 1 = omega arith in e)
+
+pub chains-none : (k version : ℕ) (s : List ℕ) (i : ℕ) → k ≡ 0 → chains-end k version s i ≡ i
+unfolding chains-end
+chains-none zero version s i e = refl
+chains-none (suc k) version s i e = absurd (omega arith)
 
 pub entries-next : (k kind : ℕ) (s : List ℕ) (w : Progress) → 0 < k
     → entries-scan k kind s w ≡ cond (eqb (w .code) 0) (entries-scan (k - 1) kind s (entry-scan kind s w)) w

@@ -35,11 +35,11 @@ rows-agree n count l G few holds v h i k =
     ∙ holds v h i k
 
 -- their values are those of the plan's tree
-answer-values : (p : Plan) (m : ℕ) → PlanLegal m p → (l : List ℕ) (n : ℕ) (G : ℕ → List Value) → Holds n (length (p .paths)) l G
+answer-values : (p : Plan) → PlanLegal 256 p → (l : List ℕ) (n : ℕ) (G : ℕ → List Value) → Holds n (length (p .paths)) l G
     → values (body-found (encode p) (rows-at l (length (p .paths))) n) ≡ body-rows (p .body) G n
 answer-values p m legal l n G holds =
     let F : ℕ → List Row = rows-at l (length (p .paths)) in
-    body-value p m legal n F G (rows-agree n (length (p .paths)) l G (legal .few-paths) holds)
+    body-value p legal n F G (rows-agree n (length (p .paths)) l G (legal .few-paths) holds)
 
 -- ---- how many rows
 
@@ -59,7 +59,7 @@ front l k h =
     ∙ take-at (values l) (values (replicate (256 - length l) (row Absent))) k h
 
 -- THE ROWS OF THE ANSWER: what `body_rows` gives, on a graph of n vertices
-pub answer-rows : (p : Plan) (m : ℕ) → PlanLegal m p → (l : List ℕ) (n : ℕ) → n ≤ 256 → (G : ℕ → List Value)
+pub answer-rows : (p : Plan) → PlanLegal 256 p → (l : List ℕ) (n : ℕ) → n ≤ 256 → (G : ℕ → List Value)
     → Holds n (length (p .paths)) l G
     → take (body-count (encode p) n) (values (many (body-found (encode p) (rows-at l (length (p .paths))) (min n 256)))) ≡ body-rows (p .body) G n
 answer-rows p m legal l n few G holds =

@@ -10,7 +10,8 @@ use Rattle.value.specs.declared.Row.{Row}
 use Rattle.value.specs.declared.Value.{Value}
 use Rattle.value.specs.declared.Value.the-variants.{Absent}
 use Rattle.value.specs.Value.{reduce, values}
-use Rattle.eval.specs.Steps.{body-found, count-at, eight, entries-end, entry-end, entry-found, entry-rows, final-found, results, row}
+use Rattle.plan.specs.Plan.{count-at}
+use Rattle.eval.specs.Steps.{body-found, eight, entries-end, entry-end, entry-found, entry-rows, final-found, results, row}
 use Rattle.eval.proofs.Fill.{filled, fill-front}
 use Rattle.rounds.specs.Steps.{value-in}
 use Rattle.rows.specs.Steps.{many, rows-at}

@@ -7,7 +7,7 @@ ghost use mathlib.Core.List.{_∷_, []};
 ghost use Prim.Native.Nat.{_+_, _%_, _≤_, min};
 ghost use lib.ListN.{getD};
 ghost use Rattle.value.specs.Value.{reduce, values};
-ghost use Rattle.eval.specs.Steps.{body-found, count-at, eight, entries-end, entry-found, entry-rows, final-found, results, row};
+ghost use Rattle.eval.specs.Steps.{body-found, eight, entries-end, entry-found, entry-rows, final-found, results, row};
 ghost use Rattle.rounds.specs.Steps.{value-in};
 ghost use Rattle.rows.specs.Steps.{many, rows-at};
 
@@ -22,13 +22,6 @@ fn wide(b: u8) -> usize
     ensures { λ r. ⌜ (r ≡ b) × (r ≤ 255) ⌝ }
 {
     b as usize
-}
-
-// Where the entry count stands.
-fn count_at(plan: &[u8]) -> usize
-    ensures { λ r. ⌜ (r ≡ count-at (now (plan .entry))) × (r ≤ 1537) ⌝ }
-{
-    7 + 6 * wide(wire::byte(plan, 6))
 }
 
 // A figure as a value's number.
@@ -172,7 +165,7 @@ pub fn body_rows(plan: &[u8], figures: &[u32], paths: usize, n: usize) -> [Row; 
     ensures { λ r. ⌜ r ≡ many (body-found (now (plan .entry)) (rows-at (now (figures .entry)) paths) (min n 256)) ⌝ }
 {
     let count = wire::lesser(n, 256);
-    let at = count_at(plan);
+    let at = plan::count_at(plan);
     if wire::byte(plan, 5) == 0 {
         return entry_rows(plan, at + 1, figures, paths, count);
     }

@@ -1,5 +1,4 @@
 -- `plan::scan` meets its contract. Assumes nothing.
-use mathlib.Core.Path.{refl, _∙_}
 use borrow.Author.Needs.{needs}
 use borrow.Author.Tests.{eq-eqb, le-ltb, lt-ltb, ne-eqb}
 use Rattle.plan.specs.Plan.{plan-scan}
@@ -49,6 +48,9 @@ returns-3 c = rw (
   lt-ltb 8 _ (c .before .if3 .taken),
 ) (c .blank-of3 .ensures)
 
+byte-requires-3 : tie.Need-byte-requires-3
+byte-requires-3 c κs = search needs
+
 start-requires : tie.Need-start-requires
 start-requires c κs = search needs
 
@@ -67,7 +69,8 @@ finish-requires c κs = search needs
 returns-4 : tie.Need-returns-4
 unfolding plan-scan
 returns-4 c =
-    let e = c .before .before .before .before in
+    let b = c .before .before .before .before in
+    let e = b .before in
     rw (
       ← e .before .before .before .before .before .opening-code .ensures,
       eq-eqb _ _ (e .before .before .before .before .if1 .left),
@@ -75,8 +78,12 @@ returns-4 c =
       ← e .before .before .byte2 .ensures .0,
       le-ltb _ _ (e .before .if2 .left),
       le-ltb _ _ (e .if3 .left),
+      ← b .byte3 .ensures,
+      ← c .before .before .before .start .ensures,
+      ← c .before .before .listed .ensures,
+      ← c .before .body .ensures,
     )
-    (c .finish .ensures ∙ rw (c .before .body .ensures, c .before .before .listed .ensures, c .before .before .before .start .ensures) refl)
+    (c .finish .ensures)
 
 pub scan-spec : {M : Type 1} → statement M
 scan-spec =
@@ -91,6 +98,7 @@ scan-spec =
     returns-2
     blank-of-requires-3
     returns-3
+    byte-requires-3
     start-requires
     cast-listed
     listed-requires

@@ -6,7 +6,8 @@ use borrow.Author.Needs.{needs}
 use lib.ListN.{getD}
 use Rattle.value.specs.declared.Row.{Row}
 use Rattle.value.specs.declared.Value.{Value}
-use Rattle.eval.specs.Steps.{count-at, entry-rows, final-found, row}
+use Rattle.plan.specs.Plan.{count-at}
+use Rattle.eval.specs.Steps.{entry-rows, final-found, row}
 use Rattle.rows.specs.Steps.{many, rows-at}
 use Rattle.rows.proofs.Laws.{body-each, body-one}
 use Rattle.rows.proofs.body_rows.Statement.{statement}

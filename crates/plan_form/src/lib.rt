@@ -1,20 +1,21 @@
 // Plans in their typed form (document 01, worksheet `LPW`): read from bytes as a run needs them, and written to a lent buffer.
-use draft::Draft;
 use nodes::Node;
 use nodes::Term;
+use packed_path::PackedPath;
 ghost use mathlib.Core.Path.{_≡_};
 ghost use Prim.Native.Nat.{_≤_};
 ghost use lib.ListN.{length, take};
-ghost use Rattle.draft.specs.Steps.{put-list};
+ghost use Rattle.draft.specs.Steps.{draft, put-list};
 ghost use Rattle.wire.specs.Wire.{Returned};
-ghost use Rattle.plan_form.specs.Form.{listed-text, all-listed-text, form-bytes, write-reply, blank-reading, plan-reading};
+ghost use Rattle.plan_form.specs.Form.{listed-text, all-listed-text, any-set, held-code, form-bytes, write-reply, blank-reading, plan-reading};
 
-// A plan: its kind; the first `paths` of its path reductions, each as its six bytes in one number; how many entries it has; and the first `count` of its nodes:
-// for each entry its reduction byte, the terms of its condition where that byte has 128 added, and those of its value; then the terms of the final expression.
+// A plan: its version and its kind; the first `paths` of its path reductions; how many entries it has; and the first `count` of its nodes: for each entry its
+// reduction byte, the terms of its condition where that byte has 128 added, and those of its value; then the terms of the final expression.
 pub struct Form {
+    pub version: u8,
     pub kind: u8,
     pub paths: u8,
-    pub table: [u64; 8],
+    pub table: [PackedPath; 8],
     pub entries: u8,
     pub count: usize,
     pub nodes: [Node; 72],
@@ -32,10 +33,12 @@ fn blank(code: u8) -> Reading
 {
     let empty = Node { term: Term::Empty };
     let list = [empty; 72];
-    let table = [0u64; 8];
+    let none = packed_path::none();
+    let table = [none; 8];
     Reading {
         code,
         form: Form {
+            version: 0,
             kind: 0,
             paths: 0,
             table,
@@ -58,12 +61,14 @@ pub fn read(s: &[u8]) -> Reading
     let paths = wire::lesser(w.paths, 8);
     let entries = wire::lesser(w.reductions, 8);
     let count = wire::lesser(w.terms, 64) + entries;
-    let list = nodes::read_nodes(s, 8 + 6 * paths, count);
+    let list = nodes::read_nodes(s, plan::count_at(s) + 1, count);
+    let version = wire::byte(s, 3);
     let kind = wire::byte(s, 5);
     let table = w.table;
     Reading {
         code: 0,
         form: Form {
+            version,
             kind,
             paths: paths as u8,
             table,
@@ -74,46 +79,92 @@ pub fn read(s: &[u8]) -> Reading
     }
 }
 
-// The six bytes of a path reduction.
-fn put_row(d: Draft, w: u64) -> Draft
-    ensures { λ r. ⌜ r ≡ put-list d (listed-text w) ⌝ }
+// A path reduction in a plan of this version.
+fn put_row(d: &mut [u8], at: usize, version: u8, p: PackedPath) -> usize
+    ensures { λ r. ⌜ draft (now (d .exit)) r ≡ put-list (draft (now (d .entry)) at) (listed-text version p) ⌝ }
 {
-    draft::put16(draft::put16(draft::put16(d, w), w / 65536), w / 4294967296)
+    let keys = p.keys as u64;
+    let low = draft::put16(d, at, keys);
+    let high = draft::put16(d, low, keys / 65536);
+    if version == 1 {
+        return nodes::put_start(d, high, p);
+    }
+    nodes::put_set(d, high, p)
 }
 
 // The first `paths` path reductions, at most 8.
-fn put_rows(d: Draft, table: [u64; 8], paths: u8) -> Draft
-    ensures { λ r. ⌜ (r ≡ put-list d (all-listed-text (take paths table))) × (length (all-listed-text (take paths table)) ≤ 48) ⌝ }
+fn put_rows(d: &mut [u8], at: usize, version: u8, table: [PackedPath; 8], paths: u8) -> usize
+    ensures { λ r. ⌜
+        (draft (now (d .exit)) r ≡ put-list (draft (now (d .entry)) at) (all-listed-text version (take paths table)))
+        × (length (all-listed-text version (take paths table)) ≤ 296)
+        ⌝ }
 {
     let n = wire::lesser(paths as usize, 8);
-    let mut r = d;
+    let mut next = at;
     let mut i: usize = 0;
     while i < n {
-        let w = table[i];
-        r = put_row(r, w);
+        let p = table[i];
+        next = put_row(d, next, version, p);
         i += 1;
     }
-    r
+    next
 }
 
-// The bytes of the form: 8, at most 6 for each of 8 path reductions, and at most 7 for each of 72 nodes.
-fn draft_of(form: Form) -> Draft
-    ensures { λ r. ⌜ take (r .len) (r .bytes) ≡ form-bytes form ⌝ }
+// The bytes of the form, put into the buffer: 8, at most 37 for each of 8 path reductions, and at most 38 for each of 72 nodes. How many they are.
+fn put_form(form: Form, d: &mut [u8]) -> usize
+    requires { ⌜ length (now d) ≡ 3072 ⌝ }
+    ensures { λ r. ⌜ (take r (now (d .exit)) ≡ form-bytes form) × (length (form-bytes form) ≤ 3040) ⌝ }
 {
     let table = form.table;
     let list = form.nodes;
-    let start = draft::put_two(draft::header(0x57), form.kind, form.paths);
-    let rows = put_rows(start, table, form.paths);
-    nodes::put_nodes(draft::put(rows, form.entries), list, form.count)
+    let fifth = draft::header(d, 0x57, form.version);
+    let seventh = draft::put_two(d, fifth, form.kind, form.paths);
+    let behind = put_rows(d, seventh, form.version, table, form.paths);
+    let first = draft::put(d, behind, form.entries);
+    nodes::put_nodes(d, first, list, form.count)
 }
 
-// The writer of plans: what it is handed is judged by the reader of its bytes, then 15.
+// Has any of the first `paths` path reductions, at most 8, two sources or more?
+pub fn has_set(table: [PackedPath; 8], paths: usize) -> bool
+    ensures { λ r. ⌜ r ≡ any-set (take paths table) ⌝ }
+{
+    let n = wire::lesser(paths, 8);
+    let mut i: usize = 0;
+    while i < n {
+        let p = table[i];
+        if 2 <= p.count {
+            return true;
+        }
+        i += 1;
+    }
+    false
+}
+
+// 3 where the version has no bytes for one of the path reductions: version 1 for a set.
+fn held_code_of(version: u8, table: [PackedPath; 8], paths: u8) -> u8
+    ensures { λ r. ⌜ r ≡ held-code version (take paths table) ⌝ }
+{
+    if version != 1 {
+        return 0;
+    }
+    if has_set(table, paths as usize) {
+        return 3;
+    }
+    0
+}
+
+// The writer of plans: what the version has no bytes for is refused; then what it is handed is judged by the reader of its bytes, then 15.
 pub fn write(form: Form, out: &mut [u8]) -> u32
     ensures { λ r. ⌜ Returned (write-reply form (length (now (out .entry)))) r (now (out .entry)) (now (out .exit)) ⌝ }
 {
-    let d = draft_of(form);
-    let bytes = d.bytes;
-    let n = d.len;
-    let code = plan::judge(draft::front(&bytes, n));
-    draft::deliver(bytes, n, code, out)
+    let table = form.table;
+    let held = held_code_of(form.version, table, form.paths);
+    if held != 0 {
+        return 65536 + held as u32;
+    }
+    let mut bytes = [0u8; 3072];
+    let n = put_form(form, &mut bytes);
+    let text = draft::front(&bytes, n);
+    let code = plan::judge(text);
+    draft::deliver(text, code, out)
 }

@@ -37,7 +37,7 @@ rows-agree n count l G few holds v h i k =
 -- their values are those of the plan's tree
 answer-values : (p : Plan) → PlanLegal 256 p → (l : List ℕ) (n : ℕ) (G : ℕ → List Value) → Holds n (length (p .paths)) l G
     → values (body-found (encode p) (rows-at l (length (p .paths))) n) ≡ body-rows (p .body) G n
-answer-values p m legal l n G holds =
+answer-values p legal l n G holds =
     let F : ℕ → List Row = rows-at l (length (p .paths)) in
     body-value p legal n F G (rows-agree n (length (p .paths)) l G (legal .few-paths) holds)
 
@@ -62,10 +62,10 @@ front l k h =
 pub answer-rows : (p : Plan) → PlanLegal 256 p → (l : List ℕ) (n : ℕ) → n ≤ 256 → (G : ℕ → List Value)
     → Holds n (length (p .paths)) l G
     → take (body-count (encode p) n) (values (many (body-found (encode p) (rows-at l (length (p .paths))) (min n 256)))) ≡ body-rows (p .body) G n
-answer-rows p m legal l n few G holds =
+answer-rows p legal l n few G holds =
     let F : ℕ → List Row = rows-at l (length (p .paths)) in
     let e : min n 256 ≡ n = omega arith in
-    let same = answer-values p m legal l n G holds in
+    let same = answer-values p legal l n G holds in
     ap (λ (k : ℕ). take (body-count (encode p) n) (values (many (body-found (encode p) F k)))) e
     ∙ front (body-found (encode p) F n) (body-count (encode p) n) (ap length same ∙ rows-length p G n)
     ∙ same

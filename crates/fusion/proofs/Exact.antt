@@ -1,33 +1,33 @@
 -- THE REPLY TO A LEGAL QUERY IS THE ENCODING OF ITS FUSED TREE. Assumes nothing.
-use Prim.Native.Nat.{ℕ, _-_, _≤_, _<_, min}
-use mathlib.Core.Path.{_≡_, refl, ap, _∙_, subst}
-use mathlib.Core.Bool.{Bool, true, false}
+use Prim.Native.Nat.{ℕ, _≤_, _<_, min}
+use mathlib.Core.Path.{_≡_, refl, sym, ap, _∙_, subst}
+use mathlib.Core.Bool.{Bool, true, false, cond}
 use mathlib.Core.List.{List, [], _∷_, _++_, map, append-nil}
 use native.Mathlib.Omega.{arith}
 use borrow.Author.Tests.{eqb-true, le-ltb, ne-eqb}
 use lib.Dec.{eqb, ltb}
-use lib.ListN.{length, take, replicate, length-append, length-map, length-replicate}
+use lib.ListN.{length, take, length-append, length-map}
+use lib.Seq.{take-at}
 use Rattle.meaning.specs.Limits.{PlanLegal, QueryLegal, query-reductions, query-terms}
 use Rattle.meaning.specs.Plan.{Plan, entries, expression, final, fuse}
 use Rattle.meaning.specs.Query.{Query, each, paths, result, single, vertex}
 use Rattle.meaning.proofs.Limits.{entries-length, fuse-legal}
 use Rattle.meaning.proofs.Paths.{put-all-has}
 use Rattle.nodes.specs.declared.Node.{Node}
-use Rattle.nodes.specs.declared.Term.the-variants.{Empty, Entry}
+use Rattle.nodes.specs.declared.Term.the-variants.{Entry}
 use Rattle.nodes.specs.Nodes.{node}
-use Rattle.nodes.specs.Text.{nodes-text}
 use Rattle.nodes.specs.Tree.{entry-nodes, final-nodes, query-nodes}
 use Rattle.nodes.proofs.Exact.{query-size}
 use Rattle.nodes.proofs.Held.{first-nodes}
-use Rattle.nodes.proofs.Text.{nodes-short}
 use Rattle.plan.specs.Plan.{plan-code}
 use Rattle.plan.specs.Text as plan
 use Rattle.plan.proofs.Exact as reader
+use Rattle.plan.proofs.Longest.{plan-short}
 use Rattle.plan_form.specs.declared.Form.{Form}
-use Rattle.plan_form.specs.Form.{body-nodes, entries-nodes, form-bytes, all-listed-text, write-reply}
+use Rattle.plan_form.specs.Form.{any-set, body-nodes, entries-nodes, form-bytes, held-code, write-reply}
 use Rattle.plan_form.specs.Form as plan-form
-use Rattle.plan_form.proofs.Exact.{body-size, few-entries, write-form}
-use Rattle.plan_form.proofs.Written.{rows-short}
+use Rattle.plan_form.proofs.Exact.{body-size, few-entries, held-form, write-form}
+use Rattle.plan_form.proofs.Written.{version-is}
 use Rattle.query.specs.Query.{encode, query-code}
 use Rattle.query.specs.Tree.{query-of}
 use Rattle.query.proofs.Exact.{read-complete}
@@ -36,7 +36,8 @@ use Rattle.query_form.specs.declared.Form as query-form
 use Rattle.query_form.specs.declared.Reading.{Reading}
 use Rattle.query_form.specs.Form.{form-of, query-reading}
 use Rattle.query_form.proofs.Exact.{ReadAs, read-form}
-use Rattle.term_text.specs.Text.{path-number}
+use Rattle.packed_path.specs.declared.PackedPath.{PackedPath}
+use Rattle.packed_path.specs.Packed.{packed}
 use Rattle.wire.specs.Wire.{Bytes, done, fitted, refused, reply-number}
 use Rattle.fusion.specs.declared.Written.{Written}
 use Rattle.fusion.specs.Fusion.{fuse-reply}
@@ -49,7 +50,7 @@ body-short : (n : ℕ) (p : Plan) → PlanLegal n p → length (body-nodes (p .b
 body-short n p l = omega (arith, body-size (p .body), l .few-terms, few-entries (length (p .paths)) (p .body) (l .body-legal))
 
 -- the two parts one behind the other
-both-parts : (table : List ℕ) (nodes : List Node) (d : Written) (l a b : List Node) → Holds d l → selected 0 table 0 nodes ≡ a
+both-parts : (table : List PackedPath) (nodes : List Node) (d : Written) (l a b : List Node) → Holds d l → selected 0 table 0 nodes ≡ a
     → selected 1 table 0 nodes ≡ b
     → length (l ++ a ++ b) ≤ 72 → Holds (put-part 1 table 0 (put-part 0 table 0 d nodes) nodes) (l ++ a ++ b)
 both-parts table nodes d l a b h p q r =
@@ -68,14 +69,14 @@ abbrev query-kind : Query → ℕ
 query-kind (each t) = 0
 query-kind (single t) = 1
 
-abbrev table-of : Query → List ℕ → List ℕ
-table-of q rest = map path-number (fuse q .paths) ++ rest
+abbrev table-of : Query → List PackedPath → List PackedPath
+table-of q rest = map packed (fuse q .paths) ++ rest
 
-abbrev both : List ℕ → ℕ → List Node → Written
+abbrev both : List PackedPath → ℕ → List Node → Written
 both table kind nodes = put-part 1 table 0 (put-part 0 table 0 (first-written kind) nodes) nodes
 
 -- which are those of the fused plan
-parts-held : (q : Query) → QueryLegal 256 q → (rest : List ℕ)
+parts-held : (q : Query) → QueryLegal 256 q → (rest : List PackedPath)
     → Holds (both (table-of q rest) (query-kind q) (nodes-of q)) (body-nodes (fuse q .body))
 unfolding first-written
 parts-held (each t) h rest =
@@ -130,7 +131,10 @@ fused-as q h r a =
     let paths : min (r .paths) 8 ≡ length (fuse q .paths) = omega (arith, a .paths, h .few-paths) in
     let entries = ap (λ (k : ℕ). entries-of k (r .reductions)) kind ∙ entries-fused q h (r .reductions) (a .reductions) in
     let count = w .len ∙ body-size (fuse q .body) in
-    λ i. record { kind = same i; paths = paths i; table = a .table i; entries = entries i; count = count i; nodes = w .list i }
+    let first : take (r .paths) (r .table) ≡ map packed (fuse q .paths) =
+    rw (a .table, a .paths) (take-at (map packed (fuse q .paths)) (a .rest) (length (fuse q .paths)) (length-map (fuse q .paths) packed)) in
+    let version : cond (any-set (take (r .paths) (r .table))) 2 1 ≡ fuse q .version = rw first (sym (version-is (fuse q .paths))) in
+    λ i. record { version = version i; kind = same i; paths = paths i; table = a .table i; entries = entries i; count = count i; nodes = w .list i }
 
 -- A FUSED PLAN IS ALWAYS ACCEPTED BY THE READER
 pub fused-accepted : (q : Query) → QueryLegal 256 q → plan-code (plan.encode (fuse q)) ≡ 0
@@ -141,9 +145,11 @@ written : (q : Query) → QueryLegal 256 q → (room : ℕ) → write-reply (fus
 unfolding write-reply
 written q h room =
     let a = read-form q h in
-    let e : form-bytes (fused-form (query-reading (encode q))) ≡ plan.encode (fuse q) =
-    ap form-bytes (fused-as q h (query-reading (encode q)) a) ∙ write-form (fuse q) (fuse-legal 256 q h) (a .rest) in
-    rw (e, fused-accepted q h) refl
+    let l = fuse-legal 256 q h in
+    let f = fused-as q h (query-reading (encode q)) a in
+    let e : form-bytes (fused-form (query-reading (encode q))) ≡ plan.encode (fuse q) = ap form-bytes f ∙ write-form (fuse q) l (a .rest) in
+    let held = ap (λ (f : Form). held-code (f .version) (take (f .paths) (f .table))) f ∙ held-form (fuse q) l (a .rest) in
+    rw (held, e, fused-accepted q h) refl
 
 -- THE PROGRAM FUSES AS IS SAID, all bytes
 pub fuse-steps : (s : List ℕ) → Bytes s → (room : ℕ) → steps-reply s room ≡ fuse-reply s room
@@ -162,33 +168,6 @@ fuse-steps s b room = go (eqb (query-code s) 0) refl
 pub fuse-encodes : (q : Query) → QueryLegal 256 q → (room : ℕ) → fuse-reply (encode q) room ≡ fitted (plan.encode (fuse q)) room
 unfolding fuse-reply
 fuse-encodes q h room = rw (read-complete q h .accepted, query-back q h) refl
-
--- NO LEGAL PLAN IS LONGER THAN 560 BYTES: 8, 6 for each of 8 path reductions, 7 for each of 72 nodes
-pub plan-short : (p : Plan) → PlanLegal 256 p → length (plan.encode p) ≤ 560
-unfolding form-bytes plan-form.form-of
-plan-short p l =
-    let none : List ℕ = replicate (8 - length (p .paths)) 0 in
-    let f : Form = plan-form.form-of p none in
-    let e = ap length (write-form p l none) in
-    let rows = all-listed-text (take (f .paths) (f .table)) in
-    let text = nodes-text (take (f .count) (f .nodes)) in
-    let empty : List Node = replicate (72 - length (body-nodes (p .body))) (node Empty) in
-    let eight : length (f .table) ≡ 8 =
-    omega (
-      arith,
-      length-append (map path-number (p .paths)) none,
-      length-map (p .paths) path-number,
-      length-replicate {A = ℕ} (8 - length (p .paths)) 0,
-      l .few-paths,
-    ) in
-    let all : length (f .nodes) ≡ 72 =
-    omega (
-      arith,
-      length-append (body-nodes (p .body)) empty,
-      length-replicate {A = Node} (72 - length (body-nodes (p .body))) (node Empty),
-      body-short 256 p l,
-    ) in
-    omega (arith, e, length-append rows (f .entries ∷ text), rows-short (f .paths) (f .table) eight, nodes-short (f .count) (f .nodes) all)
 
 -- with room for 560 bytes nothing but the query is refused
 pub fuse-fits : (q : Query) → QueryLegal 256 q → (room : ℕ) → 560 ≤ room → fuse-reply (encode q) room ≡ done (plan.encode (fuse q))

@@ -7,8 +7,8 @@ use native.Mathlib.Omega.{arith}
 use lib.Dec.{T}
 use Rattle.meaning.specs.Limits.{PathFits, TermFits}
 use Rattle.meaning.specs.Plan.{VertexReduction, among, entries, expression, final, position, same-path}
-use Rattle.meaning.specs.Query.{Kind, PathReduction, QueryTerm, ResultTerm, VertexTerm, number, operator, over, over-where, path, paths, reduction-count}
-use Rattle.meaning.specs.Query.{result, vertex}
+use Rattle.meaning.specs.Query.{Kind, PathReduction, QueryTerm, ResultTerm, VertexTerm, number, operator, over, over-where, path, path-set, paths}
+use Rattle.meaning.specs.Query.{reduction-count, result, vertex}
 use Rattle.meaning.proofs.Lists.{all-left, all-right}
 use Rattle.nodes.specs.declared.Node.{Node}
 use Rattle.nodes.specs.declared.Term.the-variants.{Apply, Entry, EntryIndex, PathIndex, Reduce, ReduceWhere, ResultApply}
@@ -17,21 +17,23 @@ use Rattle.nodes.specs.Tree.{apply-node, entry-nodes, final-nodes, literal-node
 use Rattle.plan.specs.Text.{reduction-byte}
 use Rattle.plan_form.specs.Form.{condition-nodes, entries-nodes}
 use Rattle.terms.specs.Terms.{literal-tag}
-use Rattle.term_text.specs.Text.{of-kind, path-number}
-use Rattle.term_text.proofs.Table.{same-number}
+use Rattle.packed_path.specs.declared.PackedPath.{PackedPath}
+use Rattle.packed_path.specs.Packed.{packed}
+use Rattle.packed_path.proofs.Packed.{same-as}
+use Rattle.term_text.specs.Text.{of-kind}
 use Rattle.walks.specs.Lists.{All}
 use Rattle.fusion.specs.Steps.{entry-term, final-term, fused-term, index-of, reduces, size}
 use Rattle.fusion.proofs.Selected.{reduced, reduced-append, selected, selected-append}
 
 -- the number of a path reduction stands in the table where the path reduction stands in the list
-index-position : (c : PathReduction) → PathFits 256 c → (cs : List PathReduction) → All (PathFits 256) cs → (rest : List ℕ) → T (among c cs)
-    → index-of (path-number c) (map path-number cs ++ rest) ≡ position c cs
+index-position : (c : PathReduction) → PathFits 256 c → (cs : List PathReduction) → All (PathFits 256) cs → (rest : List PackedPath) → T (among c cs)
+    → index-of (packed c) (map packed cs ++ rest) ≡ position c cs
 unfolding index-of
 index-position c f [] g rest t = absurd t
-index-position c f (d ∷ ds) g rest t = rw (same-number c d f (g .0)) (go (same-path c d) t (index-position c f ds (g .1) rest))
+index-position c f (d ∷ ds) g rest t = rw (same-as c d f (g .0)) (go (same-path c d) t (index-position c f ds (g .1) rest))
   where
-    go : (b : Bool) → T (b || among c ds) → (T (among c ds) → index-of (path-number c) (map path-number ds ++ rest) ≡ position c ds)
-        → cond b zero (suc (index-of (path-number c) (map path-number ds ++ rest))) ≡ cond b zero (suc (position c ds))
+    go : (b : Bool) → T (b || among c ds) → (T (among c ds) → index-of (packed c) (map packed ds ++ rest) ≡ position c ds)
+        → cond b zero (suc (index-of (packed c) (map packed ds ++ rest))) ≡ cond b zero (suc (position c ds))
     go true t h = refl
     go false t h = ap suc (h t)
 
@@ -49,6 +51,7 @@ operator-reduces result o l = omega arith
 term-reduced : (κ : Kind) (t : QueryTerm κ) → reduced (query-nodes κ t) ≡ reduction-count t
 unfolding reduced reduces
 term-reduced κ (path c) = refl
+term-reduced κ (path-set c) = refl
 term-reduced κ (over o t) = omega (arith, term-reduced vertex t)
 term-reduced κ (over-where o c t) =
     omega (arith, reduced-append (query-nodes vertex c) (query-nodes vertex t), term-reduced vertex c, term-reduced vertex t)
@@ -59,20 +62,21 @@ term-reduced κ (operator o s t) =
     omega (arith, reduced-append (query-nodes κ s) (query-nodes κ t), term-reduced κ s, term-reduced κ t) in e)
 
 -- nothing of a vertex term is in the final expression, and so nothing of two
-vertices-final : (table : List ℕ) (k : ℕ) (s t : VertexTerm) → selected 1 table k (query-nodes vertex s) ≡ []
+vertices-final : (table : List PackedPath) (k : ℕ) (s t : VertexTerm) → selected 1 table k (query-nodes vertex s) ≡ []
     → selected 1 table (k + reduced (query-nodes vertex s)) (query-nodes vertex t) ≡ []
     → selected 1 table k (query-nodes vertex s ++ query-nodes vertex t) ≡ []
 vertices-final table k s t p q = selected-append 1 table k (query-nodes vertex s) (query-nodes vertex t) ∙ ap₂ _++_ p q
 
-pub vertex-final : (table : List ℕ) (k : ℕ) (t : VertexTerm) → selected 1 table k (query-nodes vertex t) ≡ []
+pub vertex-final : (table : List PackedPath) (k : ℕ) (t : VertexTerm) → selected 1 table k (query-nodes vertex t) ≡ []
 unfolding selected fused-term final-term size apply-node literal-node literal-tag
 vertex-final table k (path c) = refl
+vertex-final table k (path-set c) = refl
 vertex-final table k (number x) = refl
 vertex-final table k (operator o s t) = vertices-final table (k + reduces (Apply o)) s t (vertex-final table (k + reduces (Apply o)) s)
     (vertex-final table (k + reduces (Apply o) + reduced (query-nodes vertex s)) t)
 
 -- THE FINAL EXPRESSION: the reductions are numbered as written
-pub result-final : (table : List ℕ) (k : ℕ) (t : ResultTerm) → selected 1 table k (query-nodes result t) ≡ final-nodes (final k t)
+pub result-final : (table : List PackedPath) (k : ℕ) (t : ResultTerm) → selected 1 table k (query-nodes result t) ≡ final-nodes (final k t)
 unfolding selected fused-term final-term size reduces apply-node literal-node literal-tag
 result-final table k (over o t) = ap (λ (l : List Node). node (EntryIndex k) ∷ l) (vertex-final table (k + 1) t)
 result-final table k (over-where o c t) =
@@ -98,9 +102,9 @@ entries-append (e ∷ es) ds =
     ∙ sym (append-assoc a (b ++ entries-nodes es) (entries-nodes ds)))
 
 -- over the different path reductions of the query
-module _ (cs : List PathReduction) (legal : All (PathFits 256) cs) (rest : List ℕ) where
-  abbrev table : List ℕ
-  table = map path-number cs ++ rest
+module _ (cs : List PathReduction) (legal : All (PathFits 256) cs) (rest : List PackedPath) where
+  abbrev table : List PackedPath
+  table = map packed cs ++ rest
 
   -- they are among them
   abbrev Known : List PathReduction → Type 0
@@ -110,7 +114,8 @@ module _ (cs : List PathReduction) (legal : All (PathFits 256) cs) (rest : List 
   pub vertex-entry : (k : ℕ) (t : VertexTerm) → TermFits 256 t → Known (paths t) → selected 0 table k (query-nodes vertex t) ≡ entry-nodes
       (expression cs t)
   unfolding selected fused-term entry-term size apply-node literal-node literal-tag
-  vertex-entry k (path c) f h = ap (λ (i : ℕ). node (PathIndex i) ∷ []) (index-position c f cs legal rest (h .0))
+  vertex-entry k (path c) f h = ap (λ (i : ℕ). node (PathIndex i) ∷ []) (index-position c (f .0) cs legal rest (h .0))
+  vertex-entry k (path-set c) f h = ap (λ (i : ℕ). node (PathIndex i) ∷ []) (index-position c (f .0) cs legal rest (h .0))
   vertex-entry k (number x) f h = refl
   vertex-entry k (operator o s t) f h =
       let j = k + reduces (Apply o) in

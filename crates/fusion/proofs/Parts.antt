@@ -1,34 +1,37 @@
 -- The loops of fusing: the search in a table, and one part of a plan put node by node. Assumes nothing.
 use Prim.Native.Nat.{ℕ, suc, _+_, _-_, _≤_, _<_}
 use mathlib.Core.Path.{_≡_, refl, ap, _∙_}
+use mathlib.Core.Bool.{true, false}
 use mathlib.Core.List.{List, [], _∷_}
 use native.Mathlib.Numerals.{add-one}
 use native.Mathlib.Omega.{arith}
-use borrow.Author.Tests.{eq-eqb, le-leb, lt-leb, ne-eqb}
+use borrow.Author.Tests.{le-leb, lt-leb}
 use lib.ListN.{length, getD, set, drop, take, drop-of-length-le}
 use lib.Seq.{drop-cons}
 use Rattle.nodes.specs.declared.Node.{Node}
 use Rattle.nodes.specs.declared.Term.{Term}
 use Rattle.nodes.specs.Nodes.{node}
+use Rattle.packed_path.specs.declared.PackedPath.{PackedPath}
+use Rattle.packed_path.specs.Steps.{no-path, same-packed}
 use Rattle.fusion.specs.declared.Written.{Written}
 use Rattle.fusion.specs.Steps.{fused-term, index-of, put-part, put-term, reduces, size}
 
 -- the search from index i on: i is added to what it finds there
-module _ (w : ℕ) (table : List ℕ) (i : ℕ) (h : i < length table) where
-  -- the number stands at i
-  pub index-here : getD table i 0 ≡ w → i + index-of w (drop i table) ≡ i
+module _ (p : PackedPath) (table : List PackedPath) (i : ℕ) (h : i < length table) where
+  -- the path reduction stands at i
+  pub index-here : same-packed (getD table i no-path) p ≡ true → i + index-of p (drop i table) ≡ i
   unfolding index-of
-  index-here e = rw (drop-cons table i 0 h, eq-eqb (getD table i 0) w e) (omega arith)
+  index-here e = rw (drop-cons table i no-path h, e) (omega arith)
 
   -- it does not: the search goes on
-  pub index-next : (getD table i 0 ≡ w → ⊥) → i + index-of w (drop i table) ≡ i + 1 + index-of w (drop (i + 1) table)
+  pub index-next : same-packed (getD table i no-path) p ≡ false → i + index-of p (drop i table) ≡ i + 1 + index-of p (drop (i + 1) table)
   unfolding index-of
-  index-next n = rw (drop-cons table i 0 h, ne-eqb (getD table i 0) w n, add-one i) (omega arith)
+  index-next e = rw (drop-cons table i no-path h, e, add-one i) (omega arith)
 
 -- it stands nowhere
-pub index-none : (w : ℕ) (table : List ℕ) (i : ℕ) → length table ≤ i → i + index-of w (drop i table) ≡ i
+pub index-none : (p : PackedPath) (table : List PackedPath) (i : ℕ) → length table ≤ i → i + index-of p (drop i table) ≡ i
 unfolding index-of
-index-none w table i h = rw (drop-of-length-le table h) (omega arith)
+index-none p table i h = rw (drop-of-length-le table h) (omega arith)
 
 -- n of the nodes from the i-th on
 abbrev pub left : List Node → ℕ → ℕ → List Node
@@ -44,7 +47,7 @@ unfolding put-term
 put-room list len t h = rw (lt-leb 72 len h) refl
 
 -- a part goes on behind the node at i, where there is room
-pub part-more : (part : ℕ) (table : List ℕ) (k : ℕ) (list : List Node) (len : ℕ) (l : List Node) (n i : ℕ) (z : Node) → len < 72 → i < n
+pub part-more : (part : ℕ) (table : List PackedPath) (k : ℕ) (list : List Node) (len : ℕ) (l : List Node) (n i : ℕ) (z : Node) → len < 72 → i < n
     → n ≤ length l
     → put-part part table k (written list len) (left l n i)
     ≡ put-part part table (k + reduces (getD l i z .term))
@@ -58,12 +61,12 @@ part-more part table k list len l n i z r h m =
     ∙ ap (λ (d : Written). put-part part table (k + reduces (getD l i z .term)) d (left l n (i + 1))) (put-room list len t r)
 
 -- no node is left
-pub part-done : (part : ℕ) (table : List ℕ) (k : ℕ) (d : Written) (l : List Node) (n i : ℕ) → n ≤ i → put-part part table k d (left l n i) ≡ d
+pub part-done : (part : ℕ) (table : List PackedPath) (k : ℕ) (d : Written) (l : List Node) (n i : ℕ) → n ≤ i → put-part part table k d (left l n i) ≡ d
 unfolding put-part
 part-done part table k d l n i h = let e : n - i ≡ 0 = omega arith in rw e refl
 
 -- nothing is put where there is no room
-pub part-full : (part : ℕ) (table : List ℕ) (k : ℕ) (d : Written) (l : List Node) → 72 ≤ d .len → put-part part table k d l ≡ d
+pub part-full : (part : ℕ) (table : List PackedPath) (k : ℕ) (d : Written) (l : List Node) → 72 ≤ d .len → put-part part table k d l ≡ d
 unfolding put-part put-term
 part-full part table k d [] h = refl
 part-full part table k d (n ∷ l) h = rw (le-leb 72 (d .len) h) (part-full part table (k + reduces (n .term)) d l h)

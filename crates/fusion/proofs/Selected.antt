@@ -11,8 +11,10 @@ use lib.ListN.{length, set, take, replicate, length-append}
 use lib.Seq.{append-snoc, set-at}
 use Rattle.nodes.specs.declared.Node.{Node}
 use Rattle.nodes.specs.declared.Term.{Term}
-use Rattle.nodes.specs.declared.Term.the-variants.{Apply, Empty, Entry, EntryIndex, Literal, Path, PathIndex, Reduce, ReduceWhere, ResultApply, ResultLiteral}
+use Rattle.nodes.specs.declared.Term.the-variants.{Apply, Empty, Entry, EntryIndex, Literal, Path, PathIndex, PathSet, Reduce, ReduceWhere, ResultApply}
+use Rattle.nodes.specs.declared.Term.the-variants.{ResultLiteral}
 use Rattle.nodes.specs.Nodes.{node, padded}
+use Rattle.packed_path.specs.declared.PackedPath.{PackedPath}
 use Rattle.fusion.specs.declared.Written.{Written}
 use Rattle.fusion.specs.Steps.{fused-term, put-part, put-term, reduces, size}
 
@@ -21,7 +23,7 @@ abbrev pub one : Term → List Node
 one t = take (size t) (node t ∷ [])
 
 -- the nodes of a part, from nodes of the query before which k reductions were written
-unfoldable pub selected : ℕ → List ℕ → ℕ → List Node → List Node
+unfoldable pub selected : ℕ → List PackedPath → ℕ → List Node → List Node
 selected part table k [] = []
 selected part table k (n ∷ l) = one (fused-term part table k (n .term)) ++ selected part table (k + reduces (n .term)) l
 
@@ -37,7 +39,7 @@ reduced-append [] m = omega arith
 reduced-append (n ∷ l) m = omega (arith, reduced-append l m)
 
 -- the nodes of two lists are one behind the other; the second stands behind the reductions of the first
-pub selected-append : (part : ℕ) (table : List ℕ) (k : ℕ) (l m : List Node)
+pub selected-append : (part : ℕ) (table : List PackedPath) (k : ℕ) (l m : List Node)
     → selected part table k (l ++ m) ≡ selected part table k l ++ selected part table (k + reduced l) m
 unfolding selected reduced
 selected-append part table k [] m = ap (λ (j : ℕ). selected part table j m) (let e : k ≡ k + 0 = omega arith in e)
@@ -57,7 +59,8 @@ pub record Holds (d : Written) (l : List Node) : Type 0 where
 size-cases : (t : Term) → ((t ≡ Empty) × (size t ≡ 0)) ⊎ (size t ≡ 1)
 unfolding size
 size-cases Empty = inl (refl, refl)
-size-cases (Path w) = inr refl
+size-cases (Path p) = inr refl
+size-cases (PathSet p) = inr refl
 size-cases (Literal x) = inr refl
 size-cases (Apply o) = inr refl
 size-cases (Reduce o) = inr refl
@@ -120,7 +123,7 @@ module _ (d : Written) (l : List Node) (h : Holds d l) where
       go (inr e) = holds-one t e (omega arith)
 
 -- WHAT THE PROGRAM PUTS IS THE PART, behind the nodes written before
-pub holds-part : (part : ℕ) (table : List ℕ) (nodes : List Node) (k : ℕ) (d : Written) (l : List Node) → Holds d l
+pub holds-part : (part : ℕ) (table : List PackedPath) (nodes : List Node) (k : ℕ) (d : Written) (l : List Node) → Holds d l
     → length l + length (selected part table k nodes) ≤ 72
     → Holds (put-part part table k d nodes) (l ++ selected part table k nodes)
 unfolding put-part selected

@@ -7,27 +7,31 @@ use lib.Dec.{leb, eqb}
 use lib.ListN.{set, take}
 use Rattle.nodes.specs.declared.Node.{Node}
 use Rattle.nodes.specs.declared.Term.{Term}
-use Rattle.nodes.specs.declared.Term.the-variants.{Empty, Path, Literal, Apply, Reduce, ReduceWhere, ResultLiteral, ResultApply, PathIndex, EntryIndex, Entry}
+use Rattle.nodes.specs.declared.Term.the-variants.{Empty, Path, PathSet, Literal, Apply, Reduce, ReduceWhere, ResultLiteral, ResultApply, PathIndex}
+use Rattle.nodes.specs.declared.Term.the-variants.{EntryIndex, Entry}
 use Rattle.nodes.specs.Nodes.{node, padded}
 use Rattle.plan_form.specs.declared.Form.{Form}
-use Rattle.plan_form.specs.Form.{write-reply}
+use Rattle.packed_path.specs.declared.PackedPath.{PackedPath}
+use Rattle.packed_path.specs.Steps.{same-packed}
+use Rattle.plan_form.specs.Form.{any-set, write-reply}
 use Rattle.query.specs.Query.{query-code}
 use Rattle.query_form.specs.declared.Reading.{Reading}
 use Rattle.query_form.specs.Form.{query-reading}
 use Rattle.wire.specs.Wire.{Reply, unless}
 use Rattle.fusion.specs.declared.Written.{Written}
 
--- where a number stands in a list (its length, where it does not)
-unfoldable pub index-of : ℕ → List ℕ → ℕ
-index-of w [] = 0
-index-of w (x ∷ l) = cond (eqb x w) 0 (suc (index-of w l))
+-- where a path reduction stands in a list (its length, where it does not)
+unfoldable pub index-of : PackedPath → List PackedPath → ℕ
+index-of p [] = 0
+index-of p (x ∷ l) = cond (same-packed x p) 0 (suc (index-of p l))
 
--- what a node of a query is in the entries of its plan: "0x30 and a chain's index for a chain", "a reduction byte and an expression", with 128
+-- what a node of a query is in the entries of its plan: "0x30 and a chain's index for a chain", whichever of its two bytes it has, "a reduction byte and an expression", with 128
 -- added where there is a condition (o is one of the five: the remainder keeps the byte below 256); "operators and literals keep their bytes"; a literal or
 -- operator of a result term is in none
-unfoldable pub entry-term : List ℕ → Term → Term
+unfoldable pub entry-term : List PackedPath → Term → Term
 entry-term table Empty = Empty
-entry-term table (Path w) = PathIndex (index-of w table)
+entry-term table (Path p) = PathIndex (index-of p table)
+entry-term table (PathSet p) = PathIndex (index-of p table)
 entry-term table (Literal x) = Literal x
 entry-term table (Apply o) = Apply o
 entry-term table (Reduce o) = Entry o
@@ -42,7 +46,8 @@ entry-term table (Entry o) = Empty
 -- nothing there
 unfoldable pub final-term : ℕ → Term → Term
 final-term k Empty = Empty
-final-term k (Path w) = Empty
+final-term k (Path p) = Empty
+final-term k (PathSet p) = Empty
 final-term k (Literal x) = Empty
 final-term k (Apply o) = Empty
 final-term k (Reduce o) = EntryIndex k
@@ -54,13 +59,14 @@ final-term k (EntryIndex i) = Empty
 final-term k (Entry o) = Empty
 
 -- part 0 are the entries, part 1 the final expression
-unfoldable pub fused-term : ℕ → List ℕ → ℕ → Term → Term
+unfoldable pub fused-term : ℕ → List PackedPath → ℕ → Term → Term
 fused-term part table k t = cond (eqb part 0) (entry-term table t) (final-term k t)
 
 -- how many nodes a term takes: an empty one none
 unfoldable pub size : Term → ℕ
 size Empty = 0
-size (Path w) = 1
+size (Path p) = 1
+size (PathSet p) = 1
 size (Literal x) = 1
 size (Apply o) = 1
 size (Reduce o) = 1
@@ -74,7 +80,8 @@ size (Entry o) = 1
 -- how many reductions it is
 unfoldable pub reduces : Term → ℕ
 reduces Empty = 0
-reduces (Path w) = 0
+reduces (Path p) = 0
+reduces (PathSet p) = 0
 reduces (Literal x) = 0
 reduces (Apply o) = 0
 reduces (Reduce o) = 1
@@ -90,7 +97,7 @@ unfoldable pub put-term : Written → Term → Written
 put-term d t = cond (leb 72 (d .len)) d (record { list = set (d .list) (d .len) (node t); len = d .len + size t })
 
 -- one part of the plan, from nodes of the query before which k reductions were written
-unfoldable pub put-part : ℕ → List ℕ → ℕ → Written → List Node → Written
+unfoldable pub put-part : ℕ → List PackedPath → ℕ → Written → List Node → Written
 put-part part table k d [] = d
 put-part part table k d (n ∷ l) = put-part part table (k + reduces (n .term)) (put-term d (fused-term part table k (n .term))) l
 
@@ -108,6 +115,7 @@ fused-form r =
     let l = take (r .form .count) (r .form .nodes) in
     let w = put-part 1 (r .table) 0 (put-part 0 (r .table) 0 (first-written (r .form .kind)) l) l in
     record {
+      version = cond (any-set (take (r .paths) (r .table))) 2 1;
       kind = r .form .kind;
       paths = min (r .paths) 8;
       table = r .table;

@@ -2,11 +2,14 @@
 // question, then 15"). The nodes of the query are gone through twice, for the two parts of the plan, each in written order.
 use nodes::Node;
 use nodes::Term;
+use packed_path::PackedPath;
 use plan_form::Form;
 use query_form::Reading;
 ghost use mathlib.Core.Path.{_≡_};
 ghost use Prim.Native.Nat.{_≤_};
+ghost use mathlib.Core.Bool.{cond};
 ghost use lib.ListN.{length, take};
+ghost use Rattle.plan_form.specs.Form.{any-set};
 ghost use Rattle.wire.specs.Wire.{Returned};
 ghost use Rattle.fusion.specs.Fusion.{fuse-reply};
 ghost use Rattle.fusion.specs.Steps.{entries-of, entry-term, final-term, first-written, fused-form, fused-term, index-of, put-part, reduces, size};
@@ -23,12 +26,13 @@ const ENTRIES: u8 = 0;
 const FINAL: u8 = 1;
 
 // Where the path reduction stands in the table; 8 where it does not.
-fn position_of(table: [u64; 8], w: u64) -> usize
-    ensures { λ r. ⌜ (r ≡ index-of w table) × (r ≤ 8) ⌝ }
+fn position_of(table: [PackedPath; 8], p: PackedPath) -> usize
+    ensures { λ r. ⌜ (r ≡ index-of p table) × (r ≤ 8) ⌝ }
 {
     let mut i: usize = 0;
     while i < 8 {
-        if table[i] == w {
+        let other = table[i];
+        if packed_path::same(other, p) {
             return i;
         }
         i += 1;
@@ -38,11 +42,12 @@ fn position_of(table: [u64; 8], w: u64) -> usize
 
 // What a node of a query is in the entries of its plan: a reduction is the byte of its entry, 128 added with a condition; empty for a literal or an operator of
 // a result term, which is in none.
-fn entry_term_of(t: Term, table: [u64; 8]) -> Term
+fn entry_term_of(t: Term, table: [PackedPath; 8]) -> Term
     ensures { λ r. ⌜ r ≡ entry-term table t ⌝ }
 {
     match t {
-        Term::Path(w) => Term::PathIndex(position_of(table, w) as u8),
+        Term::Path(p) => Term::PathIndex(position_of(table, p) as u8),
+        Term::PathSet(p) => Term::PathIndex(position_of(table, p) as u8),
         Term::Literal(x) => Term::Literal(x),
         Term::Apply(o) => Term::Apply(o),
         Term::Reduce(o) => Term::Entry(o),
@@ -65,7 +70,7 @@ fn final_term_of(t: Term, k: u8) -> Term
 }
 
 // What it is in either part.
-fn fused_term_of(part: u8, t: Term, table: [u64; 8], k: u8) -> Term
+fn fused_term_of(part: u8, t: Term, table: [PackedPath; 8], k: u8) -> Term
     ensures { λ r. ⌜ r ≡ fused-term part table k t ⌝ }
 {
     if part == ENTRIES {
@@ -96,7 +101,13 @@ fn reduces_of(t: Term) -> u8
 }
 
 // The nodes of one part of the plan, made of the first `count` nodes of the query, behind those of `start`.
-fn put_part(start: Written, part: u8, table: [u64; 8], nodes: [Node; 72], count: usize) -> Written
+fn put_part(
+    start: Written,
+    part: u8,
+    table: [PackedPath; 8],
+    nodes: [Node; 72],
+    count: usize,
+) -> Written
     ensures { λ r. ⌜ r ≡ put-part part table 0 start (take count nodes) ⌝ }
 {
     let n = wire::lesser(count, 72);
@@ -144,6 +155,16 @@ fn entries_of_kind(kind: u8, reductions: usize) -> u8
     wire::lesser(reductions, 8) as u8
 }
 
+// The version of the plan: 2 where a path reduction has two sources or more.
+fn version_of(table: [PackedPath; 8], paths: usize) -> u8
+    ensures { λ r. ⌜ r ≡ cond (any-set (take paths table)) 2 1 ⌝ }
+{
+    if plan_form::has_set(table, paths) {
+        return 2;
+    }
+    1
+}
+
 // The typed form of the plan, from what was read of the query.
 fn fused_form_of(r: Reading) -> Form
     ensures { λ w. ⌜ w ≡ fused-form r ⌝ }
@@ -157,6 +178,7 @@ fn fused_form_of(r: Reading) -> Form
     let whole = put_part(entries, FINAL, table, list, count);
     let nodes = whole.list;
     Form {
+        version: version_of(table, r.paths),
         kind,
         paths: wire::lesser(r.paths, 8) as u8,
         table,

@@ -3,3 +3,4 @@ pub mod ListedPaths
 pub mod ListedEntries
 pub mod Exact
 pub mod Tree
+pub mod Longest

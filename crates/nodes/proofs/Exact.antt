@@ -6,7 +6,7 @@ use mathlib.Core.List.{List, [], _∷_, _++_}
 use lib.ListN.{length, length-append}
 use Rattle.meaning.specs.Limits.{Every, TermFits, size-of, terms}
 use Rattle.meaning.specs.Plan.{Term, apply, leaf, literal}
-use Rattle.meaning.specs.Query.{Kind, QueryTerm, number, operator, over, over-where, path, vertex}
+use Rattle.meaning.specs.Query.{Kind, QueryTerm, number, operator, over, over-where, path, path-set, vertex}
 use Rattle.terms.specs.declared.TermKind.{TermKind}
 use Rattle.terms.specs.declared.TermKind.the-variants.{OfEntry, OfFinal}
 use Rattle.term_text.specs.Text.{expression-bytes, index-tag, of-kind, query-bytes}
@@ -15,7 +15,7 @@ use Rattle.nodes.specs.declared.Term.the-variants.{EntryIndex, PathIndex
 use Rattle.nodes.specs.Text.{term-text}
 use Rattle.nodes.specs.Nodes.{node}
 use Rattle.nodes.specs.Tree.{entry-nodes, expression-nodes, final-nodes, query-nodes}
-use Rattle.nodes.proofs.Fields.{One, apply-one, byte-one, literal-one, path-one}
+use Rattle.nodes.proofs.Fields.{One, apply-one, byte-one, literal-one, path-one, set-one}
 use Rattle.nodes.proofs.Shape.{Written, both-written, more-written, one-written}
 
 -- a node, and those of two terms
@@ -28,6 +28,7 @@ two-size l r n m p q = ap suc (length-append l r ∙ ap₂ _+_ p q)
 pub query-written : (κ : Kind) (t : QueryTerm κ) → TermFits 256 t → Written (size-of t) (query-bytes κ t) (query-nodes κ t)
 unfolding term-text
 query-written κ (path c) f = one-written (path-one c f)
+query-written κ (path-set c) f = one-written (set-one c f)
 query-written κ (over o t) f = more-written (byte-one 0x20 o Reduce (λ s i. refl) (λ s i. refl) refl) (query-written vertex t (f .2))
 query-written κ (over-where o c t) f =
     more-written (byte-one 0x23 o ReduceWhere (λ s i. refl) (λ s i. refl) refl)
@@ -39,6 +40,7 @@ query-written κ (operator o s t) f =
 -- a node for each of its terms
 pub query-size : (κ : Kind) (t : QueryTerm κ) → length (query-nodes κ t) ≡ size-of t
 query-size κ (path c) = refl
+query-size κ (path-set c) = refl
 query-size κ (over o t) = ap suc (query-size vertex t)
 query-size κ (over-where o c t) = two-size (query-nodes vertex c) (query-nodes vertex t) (size-of c) (size-of t) (query-size vertex c) (query-size vertex t)
 query-size κ (number x) = refl

@@ -1,29 +1,35 @@
 -- The bytes of one term, and the term read from them. Assumes nothing.
-use Prim.Native.Nat.{ℕ, suc, _+_, _*_, _/_, _%_, _^_, _≤_, _<_}
-use mathlib.Core.Path.{_≡_, refl, sym, ap, _∙_, subst}
+use Prim.Native.Nat.{ℕ, suc, _+_, _*_, _%_, _^_, _≤_, _<_}
+use mathlib.Core.Path.{_≡_, refl, sym, ap, ap₂, _∙_, subst}
 use mathlib.Core.Logic.{_⊎_, inl, inr}
 use mathlib.Core.Bool.{true, false}
-use mathlib.Core.List.{List, [], _∷_, _++_}
+use mathlib.Core.List.{List, [], _∷_, _++_, append-assoc}
 use native.Mathlib.Omega.{arith}
 use borrow.Author.Tests.{lt-leb, ne-eqb}
 use lib.Dec.{T, eqb, leb→le}
-use lib.ListN.{length, getD, drop, length-append}
-use Rattle.meaning.specs.Limits.{PathFits}
-use Rattle.meaning.specs.Query.{PathReduction}
+use lib.ListN.{length, getD, take, drop, length-append}
+use lib.Seq.{take-all}
+use Rattle.walks.specs.Keys.{legal-keys}
+use Rattle.walks.specs.Lists.{All}
+use Rattle.meaning.specs.Limits.{TermFits}
+use Rattle.meaning.specs.Query.{PathReduction, path, path-set}
+use Rattle.packed_path.specs.Packed.{keys-number, packed, with-sources}
+use Rattle.packed_path.proofs.Keys.{keys-digits, legal-parts}
+use Rattle.packed_path.proofs.Sources.{sources-back}
 use Rattle.terms.specs.declared.TermKind.{TermKind}
 use Rattle.terms.specs.declared.TermKind.the-variants.{OfVertex, OfResult, OfEntry, OfFinal}
 use Rattle.terms.specs.Terms.{literal-tag}
-use Rattle.term_text.specs.Text.{path-bytes, path-number}
-use Rattle.term_text.proofs.Paths.{five-digits, key-byte, legal-parts, path-numbered}
+use Rattle.term_text.specs.Text.{path-bytes, set-bytes, start-of, starts-bytes}
+use Rattle.term_text.proofs.Paths.{path-numbered, set-numbered}
 use Rattle.term_text.proofs.Steps.{byte-there, drop-on, tag-there, there, word-there}
-use Rattle.path_fields.specs.Paths.{path-word}
+use Rattle.path_fields.specs.Paths.{path-at, set-at}
 use Rattle.wire.specs.Wire.{at32, le16, le32}
 use Rattle.nodes.specs.declared.Node.{Node}
 use Rattle.nodes.specs.declared.Term.{Term}
-use Rattle.nodes.specs.declared.Term.the-variants.{Apply, Entry, Literal, Path, ResultApply, ResultLiteral}
-use Rattle.nodes.specs.Text.{key-text, node-text, path-text, term-text}
+use Rattle.nodes.specs.declared.Term.the-variants.{Apply, Entry, Literal, Path, PathSet, ResultApply, ResultLiteral}
+use Rattle.nodes.specs.Text.{key-text, keys-text, node-text, set-text, start-field, start-text, term-text}
 use Rattle.nodes.specs.Nodes.{node}
-use Rattle.nodes.specs.Steps.{collected, next-at, passed, reduction-tag, tagged, term-at}
+use Rattle.nodes.specs.Steps.{behind-set, collected, next-at, passed, reduction-tag, tagged, term-at}
 use Rattle.nodes.specs.Tree.{apply-node, literal-node}
 
 -- literals have one of two tags
@@ -34,44 +40,35 @@ literal-tags OfResult = inr refl
 literal-tags OfEntry = inl refl
 literal-tags OfFinal = inr refl
 
--- a number by its bytes, the last one with all that is above
-split : (w : ℕ) → w % 256 + 256 * (w / 256 % 256) + 65536 * (w / 65536 % 256) + 16777216 * (w / 16777216 % 256) + 4294967296 * (w / 4294967296) ≡ w
-split w =
-    let a : w / 65536 ≡ w / 256 / 256 = omega arith in
-    let b : w / 16777216 ≡ w / 65536 / 256 = omega arith in
-    let c : w / 4294967296 ≡ w / 16777216 / 256 = omega arith in
-    omega arith
-
--- the bytes of a path reduction's number are its key count, its keys and its source
-pub path-digits : (c : PathReduction) → PathFits 256 c
-    → (path-number c % 256 ≡ length (c .keys)) × (path-number c / 256 % 256 ≡ getD (c .keys) 0 0) × (path-number c / 65536 % 256 ≡ getD (c .keys) 1 0)
-    × (path-number c / 16777216 % 256 ≡ getD (c .keys) 2 0) × (path-number c / 4294967296 ≡ c .source)
-path-digits c f =
-    let p = legal-parts (c .keys) (f .0) in
-    let w = path-number c in
-    let few = leb→le (length (c .keys)) 3 (p .1) in
-    five-digits (w % 256) (w / 256 % 256) (w / 65536 % 256) (w / 16777216 % 256) (w / 4294967296) (length (c .keys)) (getD (c .keys) 0 0) (getD (c .keys) 1 0)
-    (getD (c .keys) 2 0) (c .source)
-    (omega arith) (omega arith) (omega arith) (key-byte (c .keys) (p .2) 0) (omega arith) (key-byte (c .keys) (p .2) 1) (omega arith)
-    (key-byte (c .keys) (p .2) 2) (split w)
-
--- of a path reduction
-path-written : (c : PathReduction) → PathFits 256 c → path-text (path-number c) ≡ path-bytes c
-unfolding path-text
-path-written c f =
-    let p = legal-parts (c .keys) (f .0) in
-    let d = path-digits c f in
-    rw (d .0, d .1, d .2, d .3, d .4) (go (c .keys) (leb→le (length (c .keys)) 3 (p .1)) (leb→le 1 (length (c .keys)) (p .0)))
+-- the text of legal keys is their count and the keys
+keys-written : (ks : List ℕ) → T (legal-keys ks) → keys-text (keys-number (length ks) (getD ks 0 0) (getD ks 1 0) (getD ks 2 0)) ≡ length ks ∷ ks
+unfolding keys-text
+keys-written ks legal =
+    let p = legal-parts ks legal in
+    let d = keys-digits ks legal in
+    rw (d .0, d .1, d .2, d .3) (go ks (leb→le (length ks) 3 (p .1)) (leb→le 1 (length ks) (p .0)))
   where
     go : (ks : List ℕ) → length ks ≤ 3 → 1 ≤ length ks
-        → length ks ∷ (key-text (length ks) 0 (getD ks 0 0) ++
-        (key-text (length ks) 1 (getD ks 1 0) ++ (key-text (length ks) 2 (getD ks 2 0) ++ le16 (c .source))))
-        ≡ length ks ∷ (ks ++ le16 (c .source))
+        → length ks ∷ (key-text (length ks) 0 (getD ks 0 0) ++ (key-text (length ks) 1 (getD ks 1 0) ++ key-text (length ks) 2 (getD ks 2 0)))
+        ≡ length ks ∷ ks
     go [] h k = absurd (omega arith)
     go (x ∷ []) h k = refl
     go (x ∷ (y ∷ [])) h k = refl
     go (x ∷ (y ∷ (z ∷ []))) h k = refl
     go (x ∷ (y ∷ (z ∷ (t ∷ ks)))) h k = absurd (omega arith)
+
+-- that of at most one source is 16 bits; that of a set its count and the sources
+pub start-written : (keys : ℕ) (ss : List ℕ) → All (λ s. s < 256) ss → length ss ≤ 1 → start-text (with-sources keys ss) ≡ le16 (start-of ss)
+unfolding start-field
+start-written keys [] h l = refl
+start-written keys (s ∷ []) h l =
+    let below : s < 256 = h .0 in
+    ap le16 (let low : (s + 256 * 0) % 18446744073709551616 ≡ s = omega arith in low)
+start-written keys (s ∷ (t ∷ ss)) h l = absurd (omega arith)
+
+pub set-written : (keys : ℕ) (ss : List ℕ) → All (λ s. s < 256) ss → length ss ≤ 16
+    → set-text (with-sources keys ss) ≡ length ss ∷ starts-bytes ss
+set-written keys ss h l = ap (λ (t : List ℕ). length ss ∷ starts-bytes t) (ap (take 16) (sources-back keys ss h) ∙ take-all 16 ss l)
 
 -- the byte at i says which term it is, and where the next one starts
 module _ (s : List ℕ) (i x : ℕ) (l : List ℕ) (e : drop i s ≡ x ∷ l) where
@@ -94,7 +91,7 @@ pub record One (b : List ℕ) (n : Node) : Type 0 where
   pub text : node-text n ≡ b
 
 -- a tag and a field behind it: what the tag is read as, what the field is and where the next term starts
-tagged-one : (tag x : ℕ) (b : List ℕ) (made : ℕ → Term) (field : List ℕ → ℕ → ℕ)
+tagged-one : {X : Type 0} (tag : ℕ) (x : X) (b : List ℕ) (made : X → Term) (field : List ℕ → ℕ → X)
     → ((s : List ℕ) (i : ℕ) → tagged tag s i ≡ made (field s (i + 1)))
     → ((s : List ℕ) (i : ℕ) (rest : List ℕ) → drop i s ≡ tag ∷ (b ++ rest)
     → (field s (i + 1) ≡ x) × (passed tag s i ≡ i + length (tag ∷ b)))
@@ -136,16 +133,48 @@ apply-one kind o = go (literal-tags kind)
     go (inl p) = rw p (byte-one 0x12 o Apply (λ s i. refl) (λ s i. refl) refl)
     go (inr p) = rw p (byte-one 0x22 o ResultApply (λ s i. refl) (λ s i. refl) refl)
 
--- a path reduction
-pub path-one : (c : PathReduction) → PathFits 256 c → One (0x10 ∷ path-bytes c) (node (Path (path-number c)))
+-- a path reduction with at most one source
+pub path-one : (c : PathReduction) → TermFits 256 (path c) → One (0x10 ∷ path-bytes c) (node (Path (packed c)))
 unfolding term-text
 path-one c f =
-    tagged-one 0x10 (path-number c) (path-bytes c) Path path-word (λ s i. refl)
+    let ks = c .keys in
+    let start = le16 (start-of (c .sources)) in
+    tagged-one 0x10 (packed c) (path-bytes c) Path path-at (λ s i. refl)
     (λ s i rest e.
     let next = drop-on s i 1 (0x10 ∷ []) (path-bytes c ++ rest) e refl in
-    let count = byte-there s i 0x10 (length (c .keys)) ((c .keys ++ le16 (c .source)) ++ rest) e in
-    (path-numbered s c f (i + 1) rest next, omega (arith, count, length-append (c .keys) (le16 (c .source)))))
-    (ap (λ (l : List ℕ). 0x10 ∷ l) (path-written c f))
+    let count = byte-there s i 0x10 (length ks) ((ks ++ start) ++ rest) e in
+    (path-numbered s c f (i + 1) rest next, omega (arith, count, length-append ks start)))
+    (ap₂ (λ (k v : List ℕ). 0x10 ∷ (k ++ v)) (keys-written ks (f .0 .0)) (start-written (packed c .keys) (c .sources) (f .0 .1 .0) (f .1)))
+
+-- two bytes for each start
+pub starts-length : (ss : List ℕ) → length (starts-bytes ss) ≡ 2 * length ss
+starts-length [] = refl
+starts-length (s ∷ ss) = omega (arith, starts-length ss)
+
+-- a path reduction with a set of sources
+pub set-one : (c : PathReduction) → TermFits 256 (path-set c) → One (0x13 ∷ set-bytes c) (node (PathSet (packed c)))
+unfolding term-text
+set-one c f =
+    tagged-one 0x13 (packed c) (set-bytes c) PathSet set-at (λ s i. refl)
+    (λ s i rest e. (set-numbered s c f (i + 1) rest (drop-on s i 1 (0x13 ∷ []) (set-bytes c ++ rest) e refl), behind s i rest e))
+    (ap₂ (λ (k v : List ℕ). 0x13 ∷ (k ++ v)) (keys-written ks (f .0 .0)) (set-written (packed c .keys) ss (f .0 .1 .0) (f .0 .1 .2)))
+  where
+    ks : List ℕ
+    ks = c .keys
+
+    ss : List ℕ
+    ss = c .sources
+
+    -- the key count and the set count say where the next term starts
+    behind : (s : List ℕ) (i : ℕ) (rest : List ℕ) → drop i s ≡ 0x13 ∷ (set-bytes c ++ rest) → behind-set s i ≡ i + length (0x13 ∷ set-bytes c)
+    behind s i rest e =
+        let n = length ks in
+        let set = length ss ∷ starts-bytes ss in
+        let there : drop i s ≡ 0x13 ∷ n ∷ (ks ++ (set ++ rest)) = e ∙ ap (λ (l : List ℕ). 0x13 ∷ n ∷ l) (append-assoc ks set rest) in
+        let count = byte-there s i 0x13 n (ks ++ (set ++ rest)) there in
+        let sources = tag-there s (i + suc (suc n)) (length ss) (starts-bytes ss ++ rest) (drop-on s i (suc (suc n)) (0x13 ∷ n ∷ ks) (set ++ rest) there refl) in
+        let at : i + 2 + n ≡ i + suc (suc n) = omega arith in
+        rw (count, at, sources) (omega (arith, length-append ks set, starts-length ss))
 
 -- the reduction byte of an entry
 pub entry-one : (r : ℕ) → reduction-tag r ≡ true → One (r ∷ []) (node (Entry r))
@@ -158,6 +187,7 @@ entry-one r is = record {
         no 0x10 refl,
         no 0x11 refl,
         no 0x12 refl,
+        no 0x13 refl,
         no 0x20 refl,
         no 0x21 refl,
         no 0x22 refl,
@@ -165,7 +195,7 @@ entry-one r is = record {
         no 0x30 refl,
         no 0x31 refl,
       ) refl)
-      (rw (is, no 0x10 refl, no 0x11 refl, no 0x21 refl) refl);
+      (rw (is, no 0x10 refl, no 0x13 refl, no 0x11 refl, no 0x21 refl) refl);
   text = refl;
 }
   where

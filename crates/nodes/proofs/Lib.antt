@@ -1,5 +1,5 @@
 pub mod Held
-pub mod Text
 pub mod Fields
+pub mod Text
 pub mod Shape
 pub mod Exact

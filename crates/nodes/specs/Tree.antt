@@ -4,13 +4,15 @@ use mathlib.Core.Bool.{cond}
 use mathlib.Core.List.{List, [], _∷_, _++_}
 use lib.Dec.{eqb}
 use Rattle.meaning.specs.Plan.{Term, apply, leaf, literal}
-use Rattle.meaning.specs.Query.{Kind, QueryTerm, number, operator, over, over-where, path, vertex}
+use Rattle.meaning.specs.Query.{Kind, QueryTerm, number, operator, over, over-where, path, path-set, vertex}
 use Rattle.terms.specs.declared.TermKind.{TermKind}
 use Rattle.terms.specs.declared.TermKind.the-variants.{OfEntry, OfFinal}
 use Rattle.terms.specs.Terms.{literal-tag}
-use Rattle.term_text.specs.Text.{of-kind, path-number}
+use Rattle.packed_path.specs.Packed.{packed}
+use Rattle.term_text.specs.Text.{of-kind}
 use Rattle.nodes.specs.declared.Node.{Node}
-use Rattle.nodes.specs.declared.Term.the-variants.{Path, Literal, Apply, Reduce, ReduceWhere, ResultLiteral, ResultApply, PathIndex, EntryIndex}
+use Rattle.nodes.specs.declared.Term.the-variants.{Path, PathSet, Literal, Apply, Reduce, ReduceWhere, ResultLiteral, ResultApply, PathIndex}
+use Rattle.nodes.specs.declared.Term.the-variants.{EntryIndex}
 use Rattle.nodes.specs.Nodes.{node}
 
 -- a literal, of vertex terms and entries (0x11), or of result terms and final expressions (0x21)
@@ -23,7 +25,8 @@ apply-node tag o = node (cond (eqb tag 0x11) (Apply o) (ResultApply o))
 
 -- "one term written operator first": a query's, a condition before the value
 abbrev pub query-nodes : (κ : Kind) → QueryTerm κ → List Node
-query-nodes κ (path c) = node (Path (path-number c)) ∷ []
+query-nodes κ (path c) = node (Path (packed c)) ∷ []
+query-nodes κ (path-set c) = node (PathSet (packed c)) ∷ []
 query-nodes κ (over o t) = node (Reduce o) ∷ query-nodes vertex t
 query-nodes κ (over-where o c t) = node (ReduceWhere o) ∷ (query-nodes vertex c ++ query-nodes vertex t)
 query-nodes κ (number x) = literal-node (literal-tag (of-kind κ)) x ∷ []

@@ -7,7 +7,9 @@ use Rattle.nodes.proofs.put_literal.Tie as tie
 
 returns : tie.Need-returns
 unfolding put-list
-returns c = c .put162 .ensures ∙ rw (c .before .put16 .ensures, c .before .before .put .ensures) refl
+returns c =
+    let low = c .before .before .before .before .before .before in
+    c .before .before .put162 .ensures ∙ rw (low .put16 .ensures, low .before .before .before .before .put .ensures) refl
 
 pub put-literal-spec : {M : Type 1} → statement M
-put-literal-spec = tie.close (tie.spec (λ c κs. search needs) (λ c κs. search needs) (λ c κs. search needs) returns)
+put-literal-spec = tie.close (tie.spec (λ c κs. search needs) (λ c κs. search needs) (λ c κs. search needs) (λ c. search needs) returns)

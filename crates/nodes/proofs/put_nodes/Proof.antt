@@ -1,11 +1,11 @@
 -- `nodes::put_nodes` meets its contract. Assumes nothing.
 use Prim.Native.Nat.{_-_, _≤_}
-use mathlib.Core.Path.{_≡_, sym, _∙_}
+use mathlib.Core.Path.{_≡_, refl, sym, _∙_}
 use native.Mathlib.Omega.{arith}
 use native.Mathlib.Nat.{sub-zero}
 use borrow.Author.Needs.{needs}
-use lib.ListN.{take}
-use Rattle.draft.specs.Steps.{put-list}
+use lib.ListN.{length, take}
+use Rattle.draft.specs.Steps.{draft, put-list}
 use Rattle.draft.proofs.Texts.{left, put-more, put-done}
 use Rattle.nodes.specs.declared.Term.the-variants.{Empty}
 use Rattle.nodes.specs.Nodes.{node}
@@ -15,13 +15,16 @@ use Rattle.nodes.proofs.put_nodes.Statement.{statement}
 use Rattle.nodes.proofs.put_nodes.Tie as tie
 
 abbrev Inv-loop : tie.InvT-loop
-Inv-loop count nodes n r₀ k₀ r k = (k ≤ n) × (put-list r (left node-text nodes n k) ≡ put-list r₀ (nodes-text (take n nodes)))
+Inv-loop d₀ at count nodes most next₀ k₀ d next k =
+    (k ≤ most)
+    × (length d ≡ length d₀)
+    × (put-list (draft d next) (left node-text nodes most k) ≡ put-list (draft d₀ at) (nodes-text (take most nodes)))
 
 abbrev μ-loop : tie.MeasureT-loop
-μ-loop count nodes n r₀ k₀ r k = n - k
+μ-loop d₀ at count nodes most next₀ k₀ d next k = most - k
 
 loop-holds : tie.Need-loop-holds Inv-loop μ-loop
-loop-holds c = (omega arith, rw sub-zero)
+loop-holds c = (omega arith, refl, rw sub-zero)
 
 mul-node : tie.Need-mul-node Inv-loop μ-loop
 mul-node c = omega arith
@@ -37,18 +40,24 @@ loop-less c = omega arith
 
 loop-again : tie.Need-loop-again Inv-loop μ-loop
 loop-again c =
-    let l = c .before .before .before .loop in (
+    let l = c .before .before .before .before .before .before .loop in
+    let more = c .before .before .before .before .before .loop-test .taken in (
       omega arith,
-      rw (c .put-term .ensures)
-          (sym (put-more node-text (l .r) _ _ (l .k) (node Empty) (c .before .before .loop-test .taken) (omega arith)) ∙ l .inv .1),
+      omega (arith, l .inv .1),
+      rw (c .before .before .put-term .ensures)
+          (sym (put-more node-text (draft (l .d) (l .next)) _ _ (l .k) (node Empty) more (omega arith)) ∙ l .inv .2),
     )
+
+same-length : tie.Need-same-length Inv-loop μ-loop
+same-length c = c .before .loop .inv .1
 
 returns : tie.Need-returns Inv-loop μ-loop
 returns c =
     let l = c .before .loop in
-    let a = c .before .before .before .args in (
-      put-done node-text (l .r) (a .t2) _ (l .k) (a .count) 72 (a .d) (c .loop-test .left) (omega arith) (c .before .before .lesser .ensures .0) (l .inv .1),
-      nodes-short (a .count) (a .t2) (omega arith),
+    let a = c .before .before .before .before .args in (
+      put-done node-text (draft (l .d) (l .next)) (a .t3) _ (l .k) (a .count) 72 (draft (a .d .now) (a .at)) (c .loop-test .left) (omega arith)
+          (c .before .before .lesser .ensures .0) (l .inv .2),
+      nodes-short (a .count) (a .t3) (omega arith),
     )
 
 pub put-nodes-spec : {M : Type 1} → statement M
@@ -65,4 +74,5 @@ put-nodes-spec =
     add-k
     loop-less
     loop-again
+    same-length
     returns)

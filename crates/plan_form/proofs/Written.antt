@@ -25,7 +25,7 @@ row-short : (version : ℕ) (p : PackedPath) → length (listed-text version p) 
 unfolding listed-text
 row-short version p = go (eqb version 1)
   where
-    go : (b : Bool) → 4 + length (cond b (start-text p) (set-text p)) ≤ 37
+    go : (b : Bool) → suc (suc (suc (suc (length (cond b (start-text p) (set-text p)))))) ≤ 37
     go true = omega arith
     go false = let few = length-take 16 (sources-of p) in omega (arith, starts-size (take 16 (sources-of p)))
 

@@ -36,8 +36,8 @@ lesser-requires-3 c κs = search needs
 add-count : tie.Need-add-count
 add-count c = search needs
 
-mul-read-nodes : tie.Need-mul-read-nodes
-mul-read-nodes c = search needs
+count-at-requires : tie.Need-count-at-requires
+count-at-requires c κs = search needs
 
 add-read-nodes : tie.Need-add-read-nodes
 add-read-nodes c = search needs
@@ -48,25 +48,30 @@ read-nodes-requires c κs = search needs
 byte-requires : tie.Need-byte-requires
 byte-requires c κs = search needs
 
-cast-t13 : tie.Need-cast-t13
-cast-t13 c = search needs
+byte-requires-2 : tie.Need-byte-requires-2
+byte-requires-2 c κs = search needs
 
 cast-t14 : tie.Need-cast-t14
 cast-t14 c = search needs
 
+cast-t15 : tie.Need-cast-t15
+cast-t15 c = search needs
+
 returns-2 : tie.Need-returns-2
 unfolding read-after form-after
 returns-2 c =
-    let least = c .before .before .before .before .before in
+    let least = c .before .before .before .before .before .before .before in
     let known = least .before .before .before in
     rw (
       ← read-steps (known .before .args .s .now) (λ i. omega (arith, known .shared-slice-known .given i)),
       ← least .before .before .scan .ensures,
       eq-eqb _ _ (least .before .if1 .left),
-      c .before .before .read-nodes .ensures,
-      c .before .byte .ensures,
-      c .before .before .before .lesser3 .ensures .0,
-      c .before .before .before .before .lesser2 .ensures .0,
+      c .before .before .before .read-nodes .ensures,
+      c .before .byte2 .ensures,
+      c .before .before .byte .ensures,
+      c .before .before .before .before .count-at .ensures .0,
+      c .before .before .before .before .before .lesser3 .ensures .0,
+      c .before .before .before .before .before .before .lesser2 .ensures .0,
       least .lesser .ensures .0,
     ) refl
 
@@ -81,10 +86,11 @@ read-spec =
     lesser-requires-2
     lesser-requires-3
     add-count
-    mul-read-nodes
+    count-at-requires
     add-read-nodes
     read-nodes-requires
     byte-requires
-    cast-t13
+    byte-requires-2
     cast-t14
+    cast-t15
     returns-2)

@@ -172,7 +172,8 @@ set-one c f =
         let set = length ss ∷ starts-bytes ss in
         let there : drop i s ≡ 0x13 ∷ n ∷ (ks ++ (set ++ rest)) = e ∙ ap (λ (l : List ℕ). 0x13 ∷ n ∷ l) (append-assoc ks set rest) in
         let count = byte-there s i 0x13 n (ks ++ (set ++ rest)) there in
-        let sources = tag-there s (i + suc (suc n)) (length ss) (starts-bytes ss ++ rest) (drop-on s i (suc (suc n)) (0x13 ∷ n ∷ ks) (set ++ rest) there refl) in
+        let set-there = drop-on s i (suc (suc n)) (0x13 ∷ n ∷ ks) (set ++ rest) there refl in
+        let sources = tag-there s (i + suc (suc n)) (length ss) (starts-bytes ss ++ rest) set-there in
         let at : i + 2 + n ≡ i + suc (suc n) = omega arith in
         rw (count, at, sources) (omega (arith, length-append ks set, starts-length ss))
 

@@ -22,8 +22,8 @@ abbrev pub entry-tagged : ℕ → Term
 entry-tagged tag = cond (reduction-tag tag) (Entry tag) Empty
 
 -- the term that starts at index i, by its tag: "0x10, key count 1 to 3, the keys, a 16-bit start .. ; 0x11 and a 32-bit literal; 0x12, operator, ..", "0x20,
--- reduction, a place term; 0x21 and a 32-bit literal; 0x22, operator, ..", 0x13 with a set of starts, 0x23 with a condition, "0x30 and a chain's index for a chain, 0x31 and an entry's
--- index for a reduction"; "e entries, each a reduction byte and an expression"; empty for another byte
+-- reduction, a place term; 0x21 and a 32-bit literal; 0x22, operator, ..", 0x13 with a set of starts, 0x23 with a condition, "0x30 and a chain's index for a
+-- chain, 0x31 and an entry's index for a reduction"; "e entries, each a reduction byte and an expression"; empty for another byte
 abbrev pub tagged : ℕ → List ℕ → ℕ → Term
 tagged tag s i =
     cond (eqb tag 0x10) (Path (path-at s (i + 1)))

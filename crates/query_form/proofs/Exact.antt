@@ -20,7 +20,9 @@ use Rattle.query.specs.Query.{encode, query-code, query-scan}
 use Rattle.query.specs.Tree.{query-of}
 use Rattle.query.proofs.Exact.{read-complete}
 use Rattle.query.proofs.Tree.{query-back, query-read}
-use Rattle.term_text.specs.Text.{path-number, query-bytes}
+use Rattle.packed_path.specs.declared.PackedPath.{PackedPath}
+use Rattle.packed_path.specs.Packed.{packed}
+use Rattle.term_text.specs.Text.{query-bytes}
 use Rattle.wire.specs.Header.{header-bytes}
 use Rattle.wire.specs.Wire.{Bytes, done}
 use Rattle.query_form.specs.declared.Reading.{Reading}
@@ -43,13 +45,13 @@ unfolding form-of form-after
 form-made (each t) l = ap (λ (n : List Node). record { kind = 0; count = query-terms (each t); nodes = n }) (nodes-are (each t) l)
 form-made (single t) l = ap (λ (n : List Node). record { kind = 1; count = query-terms (single t); nodes = n }) (nodes-are (single t) l)
 
--- what is read of a query: its typed form, and its different path reductions in order of first writing, by number
+-- what is read of a query: its typed form, and its different path reductions in order of first writing, by their numbers
 pub record ReadAs (r : Reading) (q : Query) : Type 0 where
   pub code : r .code ≡ 0
   pub form : r .form ≡ form-of q
   pub paths : r .paths ≡ length (put-all [] (written-paths q))
-  pub rest : List ℕ
-  pub table : r .table ≡ map path-number (put-all [] (written-paths q)) ++ rest
+  pub rest : List PackedPath
+  pub table : r .table ≡ map packed (put-all [] (written-paths q)) ++ rest
   pub reductions : r .reductions ≡ query-reductions q
 
 -- what is made of accepted bytes: the typed form of the query that they write
@@ -91,10 +93,10 @@ pub write-form : (q : Query) → QueryLegal 256 q → form-bytes (form-of q) ≡
 unfolding form-of form-bytes
 write-form (each t) l =
     let list = first-nodes (query-terms (each t)) (query-nodes vertex t) (query-size vertex t) in
-    ap (λ (b : List ℕ). header-bytes 0x51 ++ (0 ∷ b)) (ap nodes-text list ∙ query-written vertex t (l .legal) .text)
+    ap (λ (b : List ℕ). header-bytes 0x51 1 ++ (0 ∷ b)) (ap nodes-text list ∙ query-written vertex t (l .legal) .text)
 write-form (single t) l =
     let list = first-nodes (query-terms (single t)) (query-nodes result t) (query-size result t) in
-    ap (λ (b : List ℕ). header-bytes 0x51 ++ (1 ∷ b)) (ap nodes-text list ∙ query-written result t (l .legal) .text)
+    ap (λ (b : List ℕ). header-bytes 0x51 1 ++ (1 ∷ b)) (ap nodes-text list ∙ query-written result t (l .legal) .text)
 
 -- WRITING WHAT WAS READ GIVES THE BYTES READ
 pub write-read : (s : List ℕ) → Bytes s → query-code s ≡ 0 → (room : ℕ) → length s ≤ room → write-reply (query-reading s .form) room

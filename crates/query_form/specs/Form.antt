@@ -12,6 +12,7 @@ use Rattle.nodes.specs.Nodes.{node, padded}
 use Rattle.nodes.specs.Tree.{query-nodes}
 use Rattle.query.specs.Query.{query-code, query-scan}
 use Rattle.query.specs.Tree.{query-of}
+use Rattle.packed_path.specs.Steps.{no-path}
 use Rattle.wire.specs.Header.{header-bytes}
 use Rattle.wire.specs.Wire.{Reply, fitted, unless}
 use Rattle.query_form.specs.declared.Form.{Form}
@@ -24,7 +25,7 @@ form-of (single t) = record { kind = 1; count = query-terms (single t); nodes = 
 
 -- the bytes of a typed form, legal or not
 unfoldable pub form-bytes : Form → List ℕ
-form-bytes f = header-bytes 0x51 ++ (f .kind ∷ nodes-text (take (f .count) (f .nodes)))
+form-bytes f = header-bytes 0x51 1 ++ (f .kind ∷ nodes-text (take (f .count) (f .nodes)))
 
 -- "A writer judges what it is handed as the reader of its bytes would, then 15"
 unfoldable pub write-reply : Form → ℕ → Reply
@@ -36,7 +37,7 @@ blank-reading code = record {
   code = code;
   form = record { kind = 0; count = 0; nodes = replicate 72 (node Empty) };
   paths = 0;
-  table = replicate 8 0;
+  table = replicate 8 no-path;
   reductions = 0;
 }
 

@@ -1,8 +1,9 @@
 // Queries in their typed form (document 01, question `LPQ`): read from bytes, and written to a lent buffer.
-use draft::Draft;
 use nodes::Node;
 use nodes::Term;
+use packed_path::PackedPath;
 ghost use mathlib.Core.Path.{_≡_};
+ghost use Prim.Native.Nat.{_≤_};
 ghost use lib.ListN.{length, take};
 ghost use Rattle.wire.specs.Wire.{Returned};
 ghost use Rattle.query_form.specs.Form.{form-bytes, write-reply, blank-reading, query-reading};
@@ -19,7 +20,7 @@ pub struct Reading {
     pub code: u8,
     pub form: Form,
     pub paths: usize,
-    pub table: [u64; 8],
+    pub table: [PackedPath; 8],
     pub reductions: usize,
 }
 
@@ -29,7 +30,8 @@ fn blank(code: u8) -> Reading
 {
     let empty = Node { term: Term::Empty };
     let list = [empty; 72];
-    let table = [0u64; 8];
+    let none = packed_path::none();
+    let table = [none; 8];
     Reading {
         code,
         form: Form {
@@ -69,22 +71,24 @@ pub fn read(s: &[u8]) -> Reading
     }
 }
 
-// The bytes of the form: 6, and at most 7 for each of 72 terms.
-fn draft_of(form: Form) -> Draft
-    ensures { λ r. ⌜ take (r .len) (r .bytes) ≡ form-bytes form ⌝ }
+// The bytes of the form, put into the buffer: 6, and at most 38 for each of 72 terms. How many they are.
+fn put_form(form: Form, d: &mut [u8]) -> usize
+    requires { ⌜ length (now d) ≡ 3072 ⌝ }
+    ensures { λ r. ⌜ (take r (now (d .exit)) ≡ form-bytes form) × (length (form-bytes form) ≤ 2742) ⌝ }
 {
     let list = form.nodes;
-    let start = draft::put(draft::header(0x51), form.kind);
-    nodes::put_nodes(start, list, form.count)
+    let fifth = draft::header(d, 0x51, 1);
+    let start = draft::put(d, fifth, form.kind);
+    nodes::put_nodes(d, start, list, form.count)
 }
 
 // The writer of queries: what it is handed is judged by the reader of its bytes, then 15.
 pub fn write(form: Form, out: &mut [u8]) -> u32
     ensures { λ r. ⌜ Returned (write-reply form (length (now (out .entry)))) r (now (out .entry)) (now (out .exit)) ⌝ }
 {
-    let d = draft_of(form);
-    let bytes = d.bytes;
-    let n = d.len;
-    let code = query::judge(draft::front(&bytes, n));
-    draft::deliver(bytes, n, code, out)
+    let mut bytes = [0u8; 3072];
+    let n = put_form(form, &mut bytes);
+    let text = draft::front(&bytes, n);
+    let code = query::judge(text);
+    draft::deliver(text, code, out)
 }

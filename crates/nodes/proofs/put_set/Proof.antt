@@ -52,7 +52,8 @@ abbrev Inv-loop : tie.InvT-loop
 Inv-loop d₀ at next₀ rest₀ left₀ d next rest left =
     (left ≤ rest .count)
     × (length d ≡ length d₀)
-    × (put-list (draft d next) (starts-bytes (take left (sources-of rest))) ≡ put-list (draft d₀ next₀) (starts-bytes (take left₀ (sources-of rest₀))))
+    × (put-list (draft d next) (starts-bytes (take left (sources-of rest)))
+    ≡ put-list (draft d₀ next₀) (starts-bytes (take left₀ (sources-of rest₀))))
 
 abbrev μ-loop : tie.MeasureT-loop
 μ-loop d₀ at next₀ rest₀ left₀ d next rest left = left

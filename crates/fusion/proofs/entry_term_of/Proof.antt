@@ -12,7 +12,7 @@ returns c = rw (c .before .before .t .given .1, c .position-of .ensures .0) refl
 
 returns-2 : tie.Need-returns-2
 unfolding entry-term
-returns-2 c = rw (c .before .t2 .given .1) refl
+returns-2 c = rw (c .before .before .t2 .given .1, c .position-of2 .ensures .0) refl
 
 returns-3 : tie.Need-returns-3
 unfolding entry-term
@@ -27,10 +27,15 @@ unfolding entry-term
 returns-5 c = rw (c .before .t5 .given .1) refl
 
 returns-6 : tie.Need-returns-6
-returns-6 c = rw (entry-others _ _ (c .match .keys6)) refl
+unfolding entry-term
+returns-6 c = rw (c .before .t6 .given .1) refl
+
+returns-7 : tie.Need-returns-7
+returns-7 c = rw (entry-others _ _ (c .match .keys7)) refl
 
 pub entry-term-of-spec : {M : Type 1} → statement M
 entry-term-of-spec =
     tie.close
-    (tie.spec (λ c. search needs) (λ c κs. search needs) (λ c. search needs) (λ c. search needs) (λ c. search needs) (λ c. search needs)
-    (λ c. search needs) (λ c. search needs) returns returns-2 returns-3 returns-4 returns-5 returns-6)
+    (tie.spec (λ c. search needs) (λ c κs. search needs) (λ c. search needs) (λ c. search needs) (λ c κs. search needs) (λ c. search needs)
+    (λ c. search needs) (λ c. search needs) (λ c. search needs) (λ c. search needs) (λ c. search needs) returns returns-2 returns-3 returns-4 returns-5
+    returns-6 returns-7)

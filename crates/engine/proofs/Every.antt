@@ -55,7 +55,7 @@ pub outcome-rows : (limit : Limit) (g : Graph) (p : Plan) → length (outcome li
 unfolding run stopped
 outcome-rows limit g p = go limit
   where
-    counted : (b : Body) (r : ℕ) → length (stopped (pull g) (g .vertices) (record { paths = p .paths; body = b }) r .rows)
+    counted : (b : Body) (r : ℕ) → length (stopped (pull g) (g .vertices) (record { version = p .version; paths = p .paths; body = b }) r .rows)
         ≡ row-count (g .vertices) (kind-of b)
     counted (each-vertex t) r = tabulate-length (g .vertices) 0 _
     counted (one-result es t) r = refl
@@ -119,7 +119,14 @@ module _ (g : Graph) (legal : GraphLegal g) (p : Plan) (plan-legal : PlanLegal (
 
 -- a plan whose sources the graph has is legal there
 pub legal-there : (m : ℕ) (p : Plan) → PlanLegal 256 p → All (PathFits m) (p .paths) → PlanLegal m p
-legal-there m p l f = record { few-paths = l .few-paths; paths-legal = f; body-legal = l .body-legal; few-terms = l .few-terms }
+legal-there m p l f = record {
+  known-version = l .known-version;
+  paths-held = l .paths-held;
+  few-paths = l .few-paths;
+  paths-legal = f;
+  body-legal = l .body-legal;
+  few-terms = l .few-terms;
+}
 
 -- DEMANDS 2 AND 3 OVER EVERY ANSWERED RUN: for all bytes and any buffer, whatever the call (`engine::pull`, `push`, the exported `run`, a counted run): where
 -- its number is under 65,536, the buffer has the answer of the worksheet's own outcome

@@ -1,7 +1,6 @@
 -- THE RUN THAT THE PROGRAM DOES IS THE RUN, by pull and by push, for a worksheet and a map that were accepted, and starts that are places. Assumes nothing.
 use Prim.Native.Nat.{ℕ, _≤_, _<_, min}
 use mathlib.Core.Path.{_≡_, refl, sym, ap, _∙_, subst}
-use mathlib.Core.Logic.{_⊎_, inl, inr}
 use mathlib.Core.Bool.{Bool, true, false, cond}
 use mathlib.Core.List.{List, [], _∷_}
 use native.Mathlib.Omega.{arith}
@@ -16,7 +15,7 @@ use Rattle.graph.proofs.Exact as graph
 use Rattle.meaning.specs.Limits.{GraphLegal, PathFits, PlanLegal}
 use Rattle.meaning.specs.Meaning.{Outcome}
 use Rattle.meaning.specs.Plan.{Body, Plan, each-vertex, one-result}
-use Rattle.meaning.specs.Query.{PathReduction, anywhere}
+use Rattle.meaning.specs.Query.{PathReduction}
 use Rattle.meaning.specs.Run.{body-rows, pull, run, stopped, values-at}
 use Rattle.plan.specs.Plan.{plan-code, plan-scan}
 use Rattle.plan.specs.Text.{encode, kind-of}
@@ -43,42 +42,41 @@ use Rattle.engine.proofs.Numbers.{paths-held}
 
 -- ---- starts
 
--- an accepted list of starts: each is a vertex, or anywhere
+-- an accepted list of starts: each is a vertex
 module _ (n : ℕ) where
-  source-fits : (c : PathReduction) → PathFits 256 c → outside-code n (c .source) ≡ 0 → PathFits n c
-  source-fits c f e = (f .0, go (eqb (c .source) anywhere) (ltb (c .source) n) refl refl e)
+  below : (ss : List ℕ) → outside-code n ss ≡ 0 → All (λ s. s < n) ss
+  below [] e = tt
+  below (s ∷ ss) e = go (ltb s n) refl e (below ss)
     where
-      go : (a b : Bool) → eqb (c .source) anywhere ≡ a → ltb (c .source) n ≡ b → _≡_ {A = ℕ} (cond a 0 (cond b 0 13)) 0 → (c .source < n)
-          ⊎ (c .source ≡ anywhere)
-      go true b p q z = inr (eqb-true (c .source) anywhere p)
-      go false true p q z = inl (ltb-true (c .source) n q)
-      go false false p q z = absurd (omega arith)
+      go : (b : Bool) → ltb s n ≡ b → then (cond b 0 13) (outside-code n ss) ≡ 0 → (outside-code n ss ≡ 0 → All (λ s. s < n) ss)
+          → All (λ s. s < n) (s ∷ ss)
+      go true p z rest = (ltb-true s n p, rest z)
+      go false p z rest = absurd (omega arith)
+
+  source-fits : (c : PathReduction) → PathFits 256 c → outside-code n (c .sources) ≡ 0 → PathFits n c
+  source-fits c f e = (f .0, (below (c .sources) e, f .1 .1, f .1 .2))
 
   -- so of a list
   pub sources-fit : (cs : List PathReduction) → All (PathFits 256) cs → sources-code n cs ≡ 0 → All (PathFits n) cs
   unfolding sources-code
   sources-fit [] f e = tt
-  sources-fit (c ∷ cs) f e = go (eqb (outside-code n (c .source)) 0) refl e (sources-fit cs (f .1))
+  sources-fit (c ∷ cs) f e = go (eqb (outside-code n (c .sources)) 0) refl e (sources-fit cs (f .1))
     where
-      go : (b : Bool) → eqb (outside-code n (c .source)) 0 ≡ b → cond b (sources-code n cs) (outside-code n (c .source)) ≡ 0
+      go : (b : Bool) → eqb (outside-code n (c .sources)) 0 ≡ b → cond b (sources-code n cs) (outside-code n (c .sources)) ≡ 0
           → (sources-code n cs ≡ 0 → All (PathFits n) cs)
           → All (PathFits n) (c ∷ cs)
-      go true p z rest = (source-fits c (f .0) (eqb-true (outside-code n (c .source)) 0 p), rest z)
-      go false p z rest = absurd (eqb-false (outside-code n (c .source)) 0 p z)
+      go true p z rest = (source-fits c (f .0) (eqb-true (outside-code n (c .sources)) 0 p), rest z)
+      go false p z rest = absurd (eqb-false (outside-code n (c .sources)) 0 p z)
 
-  source-accepted : (c : PathReduction) → PathFits n c → outside-code n (c .source) ≡ 0
-  source-accepted c f = go (f .1) (eqb (c .source) anywhere) refl
-    where
-      go : (c .source < n) ⊎ (c .source ≡ anywhere) → (b : Bool) → eqb (c .source) anywhere ≡ b → outside-code n (c .source) ≡ 0
-      go x true p = rw p refl
-      go (inl h) false p = rw (p, lt-ltb (c .source) n h) refl
-      go (inr h) false p = absurd (eqb-false (c .source) anywhere p h)
+  source-accepted : (ss : List ℕ) → All (λ s. s < n) ss → outside-code n ss ≡ 0
+  source-accepted [] f = refl
+  source-accepted (s ∷ ss) f = rw (lt-ltb s n (f .0)) (source-accepted ss (f .1))
 
   -- and back: sources that fit are accepted
   pub sources-accepted : (cs : List PathReduction) → All (PathFits n) cs → sources-code n cs ≡ 0
   unfolding sources-code
   sources-accepted [] f = refl
-  sources-accepted (c ∷ cs) f = rw (source-accepted c (f .0)) (sources-accepted cs (f .1))
+  sources-accepted (c ∷ cs) f = rw (source-accepted (c .sources) (f .0 .1 .0)) (sources-accepted cs (f .1))
 
 -- ---- the reply
 
@@ -175,11 +173,7 @@ run-answers p legal m graph-ok fits limit room =
 
 -- the second byte behind the header is the kind
 kind-byte : (p : Plan) → getD (encode p) 5 0 ≡ kind-of (p .body)
-kind-byte p = go (p .body)
-  where
-    go : (b : Body) → getD (encode (record { paths = p .paths; body = b })) 5 0 ≡ kind-of b
-    go (each-vertex t) = refl
-    go (one-result es t) = refl
+kind-byte p = refl
 
 module _ (s m : List ℕ) (bs : Bytes s) (bm : Bytes m) (z : run-code (plan-scan s) m ≡ 0) where
   abbrev n : ℕ
@@ -245,7 +239,7 @@ module _ (s m : List ℕ) (bs : Bytes s) (bm : Bytes m) (z : run-code (plan-scan
       let first =
       subst (λ (t : List ℕ). take (body-count (encode p) n) (values (many (body-found t (rows-at figures (length (p .paths))) (min n 256))))
       ≡ body-rows (p .body) G n)
-      (a .written) (answer-rows p 256 (a .legal) figures n few G holds) in
+      (a .written) (answer-rows p (a .legal) figures n few G holds) in
       let begin : take (length (o .rows)) vs ≡ o .rows = rw (ap length (rows-are limit) ∙ rows-length p G n, rows-are limit) first in
       run-means s m bs bm z .1 limit room
       ∙ sym (rw (told, paths-are, kind-is) (reply-encodes n (kind-of (p .body)) o vs (rows-counted limit) begin fields-fine room))

@@ -2,12 +2,12 @@
 use Prim.Native.Nat.{ℕ, _<_}
 use mathlib.Core.Bool.{cond}
 use mathlib.Core.List.{List, [], _∷_}
-use lib.Dec.{ltb, eqb}
+use lib.Dec.{ltb}
 use Rattle.answer.specs.Answer.{encode}
 use Rattle.graph.specs.Graph.{graph-code, graph-of}
 use Rattle.meaning.specs.Meaning.{Outcome}
 use Rattle.meaning.specs.Plan.{Plan}
-use Rattle.meaning.specs.Query.{PathReduction, anywhere}
+use Rattle.meaning.specs.Query.{PathReduction}
 use Rattle.meaning.specs.Run.{pull, run, stopped}
 use Rattle.plan.specs.Plan.{plan-code}
 use Rattle.plan.specs.Text.{kind-of}
@@ -18,14 +18,15 @@ use Rattle.wire.specs.Wire.{Reply, fitted, unless}
 use Rattle.engine.specs.declared.Limit.{Limit}
 use Rattle.engine.specs.declared.Limit.the-variants.{Quiet, Rounds}
 
--- "13 | start | .. at a run n or more other than 65,535"
-abbrev pub outside-code : ℕ → ℕ → ℕ
-outside-code n source = cond (eqb source anywhere) 0 (cond (ltb source n) 0 13)
+-- "13 | start | .. at a run n or more", of each source in turn; "What held for one start holds for every set" (document 02, b)
+abbrev pub outside-code : ℕ → List ℕ → ℕ
+outside-code n [] = 0
+outside-code n (s ∷ ss) = then (cond (ltb s n) 0 13) (outside-code n ss)
 
 -- "starts in chain order"
 unfoldable pub sources-code : ℕ → List PathReduction → ℕ
 sources-code n [] = 0
-sources-code n (c ∷ cs) = then (outside-code n (c .source)) (sources-code n cs)
+sources-code n (c ∷ cs) = then (outside-code n (c .sources)) (sources-code n cs)
 
 -- "A run stops after the first round, counted from 1, in which no place changes for any chain"; "Each run can also be stopped after a given 16-bit number
 -- of rounds"

@@ -1,8 +1,10 @@
 // Runs (document 01): a worksheet on a map, bytes to bytes, by pull and by push, to the first quiet round or for a given number of rounds.
+use packed_path::PackedPath;
 use progress::Progress;
 ghost use mathlib.Core.Path.{_≡_};
 ghost use Prim.Native.Nat.{_≤_};
 ghost use lib.ListN.{length};
+ghost use Rattle.packed_path.specs.Packed.{sources-of};
 ghost use Rattle.cells.specs.Table.{paths-in};
 ghost use Rattle.plan.specs.Plan.{plan-scan};
 ghost use Rattle.wire.specs.Wire.{at16, Returned};
@@ -22,28 +24,29 @@ fn vertices(graph: &[u8]) -> u16
     wire::half(graph, 5) as u16
 }
 
-// 13 for a source that is no vertex and not anywhere.
-fn outside_code(n: u64, source: u64) -> u8
-    ensures { λ r. ⌜ r ≡ outside-code n source ⌝ }
+// 13 for a path reduction with a source that is no vertex.
+fn outside_code(path: PackedPath, n: u64) -> u8
+    ensures { λ r. ⌜ r ≡ outside-code n (sources-of path) ⌝ }
 {
-    if source == 65535 {
-        return 0;
+    let mut left = path;
+    while 0 < left.count {
+        if n <= packed_path::first(left) {
+            return 13;
+        }
+        left = packed_path::rest(left);
     }
-    if source < n {
-        return 0;
-    }
-    13
+    0
 }
 
 // The first refusal of the sources of so many path reductions, or 0.
-fn sources_code(table: [u64; 8], paths: usize, n: u64) -> u8
+fn sources_code(table: [PackedPath; 8], paths: usize, n: u64) -> u8
     ensures { λ r. ⌜ r ≡ sources-code n (paths-in paths table) ⌝ }
 {
     let count = wire::lesser(paths, 8);
     let mut i: usize = 0;
     while i < count {
-        let word = table[i];
-        let c = outside_code(n, word / 4294967296);
+        let path = table[i];
+        let c = outside_code(path, n);
         if c != 0 {
             return c;
         }

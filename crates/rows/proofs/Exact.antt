@@ -48,7 +48,7 @@ pub rows-length : (p : Plan) (G : ℕ → List Value) (n : ℕ) → length (body
 unfolding body-count
 rows-length p G n = go (p .body)
   where
-    go : (b : Body) → length (body-rows b G n) ≡ body-count (encode (record { paths = p .paths; body = b })) n
+    go : (b : Body) → length (body-rows b G n) ≡ body-count (encode (record { version = p .version; paths = p .paths; body = b })) n
     go (each-vertex t) = tabulate-length n zero (λ v. evaluate (G v) t)
     go (one-result es t) = refl
 

@@ -29,45 +29,55 @@ extern "C" {
 #define GRAFS_TERMS_MAX 64      /* of a question, and of all expressions of a worksheet */
 #define GRAFS_DEPTH_MAX 16      /* of terms in one another */
 #define GRAFS_KEYS_MAX 3        /* of a chain */
+#define GRAFS_STARTS_MAX 16     /* of a chain from a set */
 #define GRAFS_CHAINS_MAX 8      /* different ones of a question; chains of a worksheet */
 #define GRAFS_REDUCTIONS_MAX 8  /* of a question, as often as they are written; entries of a worksheet */
 
-/* No longer question or map is accepted: one of more bytes is refused whatever they are. */
-#define GRAFS_QUESTION_MAX 294
+/* No longer question or map is accepted: one of more bytes is refused whatever they are. The longest question has 6 bytes, a reduction of 2,
+ * 31 operators of 2, and 32 chains of 38, each with three keys and a set of 16 starts. */
+#define GRAFS_QUESTION_MAX 1286
 #define GRAFS_MAP_MAX 8201
 
-/* Lent so many bytes, no call refuses by GRAFS_BUFFER_SHORT. */
-#define GRAFS_WORKSHEET_MAX 560
+/* Lent so many bytes, no call refuses by GRAFS_BUFFER_SHORT. No worksheet has more than 8 bytes, 8 chains of at most 37 and 72 terms and reduction
+ * bytes of at most 7. */
+#define GRAFS_WORKSHEET_MAX 808
 #define GRAFS_ANSWER_MAX 2314
 
 /* A thread that has so many bytes of stack left can make the call. Measured: some 25,000 and 54,000 bytes; the rest is margin. */
 #define GRAFS_FUSE_STACK 49152
 #define GRAFS_RUN_STACK 98304
 
-/* What a start is for 'anywhere'. */
+/* What a start is for 'anywhere', where it stands alone. No set has it. */
 #define GRAFS_ANYWHERE 65535
 
 /* What is added to the reduction byte of a worksheet's entry that has a condition; the condition's expression precedes the value's. */
 #define GRAFS_ENTRY_CONDITION 128
 
+/* The versions of a worksheet, both run. fuse writes the second where some chain has two starts or more, else the first. All other files have version 1. */
+enum grafs_worksheet {
+    GRAFS_WORKSHEET_ONE_START = 1, /* a chain has a start of 16 bits, GRAFS_ANYWHERE for anywhere */
+    GRAFS_WORKSHEET_SETS = 2       /* a chain has a count, 0 for anywhere, and so many starts */
+};
+
 enum grafs_number {
     GRAFS_DONE = 0,          /* everything written */
     GRAFS_SHORT = 1,         /* a header, field or term lacks bytes */
     GRAFS_MARK = 2,          /* the three letters differ */
-    GRAFS_VERSION = 3,       /* not 1 */
+    GRAFS_VERSION = 3,       /* not 1, nor for a worksheet 2 */
     GRAFS_PLACES = 4,        /* n is 0 or above 256 */
     GRAFS_PASSAGES = 5,      /* m above 1,024 */
     GRAFS_LENGTH = 6,        /* map length differs, or bytes are left over */
     GRAFS_NO_SUCH_PLACE = 7, /* a row's from or to is n or more */
     GRAFS_CRATE = 8,         /* crate size 0 or 65,535 */
-    GRAFS_CODE = 9,          /* an illegal kind, term, key count, key, operator, reduction or filler byte, or kind 0 with e other than 1 */
+    GRAFS_CODE = 9,          /* an illegal kind, term, key count, key, set count, operator, reduction or filler byte, or kind 0 with e other than 1 */
     GRAFS_KEY_ORDER = 10,    /* key 5 or 6 before the last */
     GRAFS_DEEP = 11,         /* a term at depth 17 */
     GRAFS_TERMS = 12,        /* a 65th term */
-    GRAFS_START = 13,        /* start 256 to 65,534, or at a run n or more other than 65,535 */
+    GRAFS_START = 13,        /* start 256 to 65,534, in a set 65,535 too, or at a run n or more other than 65,535 */
     GRAFS_FULL_SHEET = 14,   /* a ninth chain or reduction */
     GRAFS_BUFFER_SHORT = 15, /* the bytes to be written exceed the lent length */
-    GRAFS_NO_SUCH_ROW = 16   /* an index not below its count */
+    GRAFS_NO_SUCH_ROW = 16,  /* an index not below its count */
+    GRAFS_STARTS_ORDER = 17  /* a start of a set that is not above the one before */
 };
 
 /* The kind of a question, a worksheet, an answer. */
@@ -81,6 +91,7 @@ enum grafs_term {
     GRAFS_TERM_CHAIN = 0x10,           /* place terms: a chain */
     GRAFS_TERM_PLACE_LITERAL = 0x11,
     GRAFS_TERM_PLACE_OPERATOR = 0x12,
+    GRAFS_TERM_CHAIN_SET = 0x13,       /* a chain whose walks begin at any place of a set */
     GRAFS_TERM_REDUCTION = 0x20,       /* result terms: a reduction over places */
     GRAFS_TERM_RESULT_LITERAL = 0x21,
     GRAFS_TERM_RESULT_OPERATOR = 0x22,

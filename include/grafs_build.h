@@ -14,7 +14,7 @@ static inline uint32_t grafs_number_of(uint32_t result) { return result < GRAFS_
 static inline const char *grafs_name(uint32_t number)
 {
     static const char *const names[] = { "done", "short", "mark", "version", "places", "passages", "length", "no such place", "crate", "code",
-        "key order", "deep", "terms", "start", "full sheet", "buffer short", "no such row" };
+        "key order", "deep", "terms", "start", "full sheet", "buffer short", "no such row", "starts order" };
     return number < sizeof names / sizeof *names ? names[number] : "no such number";
 }
 
@@ -73,13 +73,25 @@ static inline grafs_question grafs_begin_question(uint8_t *bytes, size_t room, u
  * (q->file.too_wide). Every call refuses 0 bytes. */
 static inline size_t grafs_end_question(const grafs_question *q) { return grafs_end(&q->file); }
 
+static inline void grafs_put_keys(grafs_question *q, const uint8_t *keys, size_t count)
+{
+    grafs_put(&q->file, count, 1);
+    for (size_t i = 0; i < count; i++)
+        grafs_put(&q->file, keys[i], 1);
+}
+
+static inline void grafs_put_starts(grafs_question *q, const uint16_t *starts, size_t count)
+{
+    grafs_put(&q->file, count, 1);
+    for (size_t i = 0; i < count; i++)
+        grafs_put(&q->file, starts[i], 2);
+}
+
 /* Place terms. A chain has one to three keys and a start, a place or GRAFS_ANYWHERE. */
 static inline void grafs_chain(grafs_question *q, const uint8_t *keys, size_t count, uint64_t start)
 {
     grafs_put(&q->file, GRAFS_TERM_CHAIN, 1);
-    grafs_put(&q->file, count, 1);
-    for (size_t i = 0; i < count; i++)
-        grafs_put(&q->file, keys[i], 1);
+    grafs_put_keys(q, keys, count);
     grafs_put(&q->file, start, 2);
 }
 
@@ -90,6 +102,23 @@ static inline void grafs_chain1(grafs_question *q, uint64_t key, uint64_t start)
     grafs_put(&q->file, 1, 1);
     grafs_put(&q->file, key, 1);
     grafs_put(&q->file, start, 2);
+}
+
+/* A chain whose walks begin at any of 1 to 16 places, each above the one before. Of one place it is the same chain as grafs_chain's. */
+static inline void grafs_chain_set(grafs_question *q, const uint8_t *keys, size_t count, const uint16_t *starts, size_t start_count)
+{
+    grafs_put(&q->file, GRAFS_TERM_CHAIN_SET, 1);
+    grafs_put_keys(q, keys, count);
+    grafs_put_starts(q, starts, start_count);
+}
+
+/* Such a chain of one key. */
+static inline void grafs_chain1_set(grafs_question *q, uint64_t key, const uint16_t *starts, size_t start_count)
+{
+    grafs_put(&q->file, GRAFS_TERM_CHAIN_SET, 1);
+    grafs_put(&q->file, 1, 1);
+    grafs_put(&q->file, key, 1);
+    grafs_put_starts(q, starts, start_count);
 }
 
 static inline void grafs_tagged(grafs_question *q, uint64_t tag, uint64_t x, unsigned width)
@@ -160,10 +189,10 @@ static inline uint64_t grafs_get(const uint8_t *bytes, unsigned width)
     return x;
 }
 
-/* Whether five bytes are the three letters of a format and version 1. */
-static inline int grafs_is(const uint8_t *bytes, char letter)
+/* The version in five bytes, 0 where the first three are not the letters of the format. */
+static inline unsigned grafs_version_of(const uint8_t *bytes, char letter)
 {
-    return bytes[0] == 'L' && bytes[1] == 'P' && bytes[2] == (uint8_t)letter && grafs_get(bytes + 3, 2) == 1;
+    return bytes[0] == 'L' && bytes[1] == 'P' && bytes[2] == (uint8_t)letter ? (unsigned)grafs_get(bytes + 3, 2) : 0;
 }
 
 /* Row i, counted from 0. The number is written for GRAFS_ROW_NUMBER alone. */
@@ -180,7 +209,7 @@ static inline enum grafs_row grafs_answer_row(const grafs_answer *a, size_t i, u
 /* Whether so many bytes are an answer; then `a` is set. A refusal taken for a length is no answer. */
 static inline int grafs_read_answer(grafs_answer *a, const uint8_t *bytes, size_t len)
 {
-    if (len < 10 || len > GRAFS_ANSWER_MAX || !grafs_is(bytes, 'A'))
+    if (len < 10 || len > GRAFS_ANSWER_MAX || grafs_version_of(bytes, 'A') != 1)
         return 0;
     unsigned places = (unsigned)grafs_get(bytes + 5, 2), kind = bytes[9];
     unsigned rows = kind == GRAFS_KIND_EACH ? places : 1;
@@ -200,7 +229,7 @@ static inline int grafs_read_answer(grafs_answer *a, const uint8_t *bytes, size_
 }
 
 /* ---------------------------------------------------------------------------------------------------------------------- worksheets
- * A worksheet as text: a line for each chain, for each entry (or the expression at each place) and for the result. */
+ * A worksheet as text, of either version: a line for each chain, for each entry (or the expression at each place) and for the result. */
 
 /* Room enough for the text of every worksheet, with the 0 at its end. */
 #define GRAFS_TEXT_MAX 2048
@@ -208,6 +237,7 @@ static inline int grafs_read_answer(grafs_answer *a, const uint8_t *bytes, size_
 typedef struct {
     const uint8_t *bytes;
     size_t len, at;
+    unsigned version;
     char *text;
     size_t room, size; /* as for grafs_bytes */
     int wrong;         /* whether something is no worksheet's */
@@ -249,6 +279,26 @@ static inline void grafs_say_word(grafs_printer *p, const char *const *words, si
         grafs_say(p, words[code - 1]);
 }
 
+static inline void grafs_say_start(grafs_printer *p)
+{
+    uint64_t start = grafs_next(p, 2);
+    if (start == GRAFS_ANYWHERE)
+        grafs_say(p, "anywhere");
+    else
+        grafs_say_number(p, start);
+}
+
+static inline void grafs_say_set(grafs_printer *p)
+{
+    uint64_t count = grafs_next(p, 1);
+    p->wrong |= count > GRAFS_STARTS_MAX;
+    grafs_say(p, count == 0 ? "anywhere" : count > 1 ? "any of " : "");
+    for (uint64_t i = 0; i < count && !p->wrong; i++) {
+        grafs_say(p, i > 0 ? ", " : "");
+        grafs_say_number(p, grafs_next(p, 2));
+    }
+}
+
 static inline void grafs_say_chain(grafs_printer *p)
 {
     static const char *const words[] = { "least passages", "least seconds", "least start", "greatest start", "greatest crate", "least crate" };
@@ -261,12 +311,11 @@ static inline void grafs_say_chain(grafs_printer *p)
             grafs_say(p, ", ");
         }
     }
-    uint64_t start = grafs_next(p, 2);
     grafs_say(p, "from ");
-    if (start == GRAFS_ANYWHERE)
-        grafs_say(p, "anywhere");
+    if (p->version == GRAFS_WORKSHEET_SETS)
+        grafs_say_set(p);
     else
-        grafs_say_number(p, start);
+        grafs_say_start(p);
 }
 
 /* An expression, of a depth up to `deepest`: the final one over entries, any other over chains. */
@@ -353,7 +402,8 @@ static inline void grafs_say_worksheet(grafs_printer *p)
  * and uncut. Of bytes that are no worksheet the text is empty and its length 0; not all that run refuses is looked at. */
 static inline size_t grafs_worksheet_text(const uint8_t *bytes, size_t len, char *text, size_t room)
 {
-    grafs_printer p = { bytes, len, 5, text, room, 0, len < 5 || len > GRAFS_WORKSHEET_MAX || !grafs_is(bytes, 'W') };
+    unsigned version = len < 5 || len > GRAFS_WORKSHEET_MAX ? 0 : grafs_version_of(bytes, 'W');
+    grafs_printer p = { bytes, len, 5, version, text, room, 0, version != GRAFS_WORKSHEET_ONE_START && version != GRAFS_WORKSHEET_SETS };
     if (!p.wrong)
         grafs_say_worksheet(&p);
     if (p.wrong)

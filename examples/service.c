@@ -1,4 +1,4 @@
-/* A tag desk in small: two questions are fused once and run on a map whose passages close and reopen.
+/* A tag desk in small: three questions are fused once and run on a map whose passages close and reopen.
  *
  *     make lib && gcc -Iinclude examples/service.c build/libgrafs.a -o build/service && build/service */
 #include <stdio.h>
@@ -9,7 +9,10 @@ typedef struct {
     int closed;
 } passage;
 
-static passage passages[] = { { 0, 1, 9, 10, 0 }, { 0, 2, 2, 4, 0 }, { 2, 1, 3, 20, 0 }, { 1, 3, 4, 7, 0 } };
+static passage passages[] = { { 0, 1, 9, 10, 0 }, { 0, 2, 2, 4, 0 }, { 2, 1, 3, 20, 0 }, { 1, 3, 4, 7, 0 }, { 4, 1, 7, 10, 0 } };
+
+/* Three counters serve the hall, and porters start from whichever is nearest. */
+static const uint16_t counters[] = { 0, 3, 4 };
 
 typedef struct {
     uint8_t bytes[GRAFS_WORKSHEET_MAX];
@@ -36,6 +39,15 @@ static size_t ask_farther(uint8_t *bytes, size_t room)
     return grafs_end_question(&q);
 }
 
+/* How many seconds is the place that is farthest from its nearest counter? */
+static size_t ask_counters(uint8_t *bytes, size_t room)
+{
+    grafs_question q = grafs_begin_question(bytes, room, GRAFS_KIND_RESULT);
+    grafs_reduction(&q, GRAFS_REDUCE_MAX);
+    grafs_chain1_set(&q, GRAFS_KEY_SECONDS, counters, sizeof counters / sizeof *counters);
+    return grafs_end_question(&q);
+}
+
 /* A question of so many bytes, fused. A refused one leaves no bytes, and every run refuses these. */
 static worksheet fused(const uint8_t *question, size_t len)
 {
@@ -52,7 +64,7 @@ static worksheet fused(const uint8_t *question, size_t len)
 /* The map of the passages that are open now. */
 static size_t map_now(uint8_t *bytes, size_t room)
 {
-    grafs_map m = grafs_begin_map(bytes, room, 4);
+    grafs_map m = grafs_begin_map(bytes, room, 5);
     for (size_t i = 0; i < sizeof passages / sizeof *passages; i++)
         if (!passages[i].closed)
             grafs_passage(&m, passages[i].from, passages[i].to, passages[i].seconds, passages[i].crate);
@@ -91,11 +103,13 @@ int main(void)
     uint8_t question[GRAFS_QUESTION_MAX];
     worksheet each = fused(question, ask_each(question, sizeof question));
     worksheet farther = fused(question, ask_farther(question, sizeof question));
+    worksheet nearest = fused(question, ask_counters(question, sizeof question));
     for (int turn = 0; turn < 3; turn++) {
         passages[1].closed = turn == 1;
         puts(turn == 1 ? "0 to 2 closed" : "all open");
         run_now(&each);
         run_now(&farther);
+        run_now(&nearest);
     }
     return 0;
 }

@@ -1,15 +1,29 @@
-/* grafs_build.h on the case files of crate `cases`, and on questions with a condition: every accepted question and map is built again, byte for
- * byte, in every shorter room and in longer ones; every answer is read, and what was read is laid out again; every worksheet is shown, whatever
+/* grafs_build.h on the case files of crate `cases`, and on questions with a condition and from sets: every accepted question and map is built again,
+ * byte for byte, in every shorter room and in longer ones; every answer is read, and what was read is laid out again; every worksheet is shown, whatever
  * its bytes. The calls are made on them too. Buffers stand on the heap in their exact lengths, so that a sanitizer sees any step outside.
  * Compiled as C and as C++. */
 #include "case_files.h"
 
 static const char *const names[] = { "done", "short", "mark", "version", "places", "passages", "length", "no such place", "crate", "code", "key order",
-    "deep", "terms", "start", "full sheet", "buffer short", "no such row" };
+    "deep", "terms", "start", "full sheet", "buffer short", "no such row", "starts order" };
 
 static size_t built, read_back, shown;
 
 /* ---------------------------------------------------------------------------------------------------------------------- questions and maps */
+/* A chain from a set, whose key count stands here. */
+static const uint8_t *set_again(grafs_question *q, const uint8_t *p)
+{
+    const uint8_t *set = p + 1 + p[0];
+    uint16_t starts[GRAFS_STARTS_MAX];
+    for (size_t i = 0; i < set[0]; i++)
+        starts[i] = (uint16_t)grafs_get(set + 1 + 2 * i, 2);
+    if (p[0] == 1)
+        grafs_chain1_set(q, p[1], starts, set[0]);
+    else
+        grafs_chain_set(q, p + 1, p[0], starts, set[0]);
+    return set + 1 + 2 * set[0];
+}
+
 /* The term that starts here, written again; returns where it ends. */
 static const uint8_t *term_again(grafs_question *q, const uint8_t *p)
 {
@@ -20,6 +34,8 @@ static const uint8_t *term_again(grafs_question *q, const uint8_t *p)
         else
             grafs_chain(q, p + 2, p[1], grafs_get(p + 2 + p[1], 2));
         return p + 4 + p[1];
+    case GRAFS_TERM_CHAIN_SET:
+        return set_again(q, p + 1);
     case GRAFS_TERM_PLACE_LITERAL:
         grafs_place_literal(q, grafs_get(p + 1, 4));
         return p + 5;
@@ -168,6 +184,25 @@ static void try_one_text(const char *name, const uint8_t *bytes, size_t len, con
     expect(size == strlen(expected) && !strcmp(text, expected), name, 0);
 }
 
+/* Version 2: from anywhere, from one place, from two, from 16; and the start of a chain of version 1, which stands in two bytes. */
+static void try_set_texts(void)
+{
+    const uint8_t sets[] = { 'L', 'P', 'W', 2, 0, 0, 4, 1, 1, 0, 0, 0, 1, 2, 0, 0, 1, 7, 0, 2, 2, 3, 0, 2, 0, 0, 255, 0, 3, 4, 3, 6, 16, 1, 0, 2, 0, 3, 0,
+        4, 0, 5, 0, 6, 0, 7, 0, 8, 0, 9, 0, 10, 0, 11, 0, 12, 0, 13, 0, 14, 0, 15, 0, 16, 0, 1, 0, 0x12, 3, 0x30, 2, 0x30, 3 };
+    const uint8_t none[] = { 'L', 'P', 'W', 2, 0, 1, 0, 0, 0x21, 5, 0, 0, 0 };
+    const uint8_t start[] = { 'L', 'P', 'W', 1, 0, 0, 1, 1, 1, 0, 0, 1, 1, 1, 0, 0x30, 0 };
+    try_one_text("sets as text", sets, sizeof sets,
+        "chain 0: least passages, from anywhere\n"
+        "chain 1: least seconds, from 7\n"
+        "chain 2: least seconds, least start, from any of 0, 255\n"
+        "chain 3: greatest start, least start, least crate, from any of 1, 2, 3, 4, 5, 6, 7, 8, 9, 10, 11, 12, 13, 14, 15, 16\n"
+        "each place: (chain 2 + chain 3)\n");
+    try_one_text("version 2 without chains", none, sizeof none, "result: 5\n");
+    try_one_text("a start of two bytes", start, sizeof start,
+        "chain 0: least passages, from 257\n"
+        "each place: chain 0\n");
+}
+
 static void try_texts(void)
 {
     const uint8_t marked[] = { 'L', 'P', 'W', 1, 0, 1, 1, 1, 1, 0, 0, 0, 0, 1, 2, 0x30, 0, 0x31, 0 };
@@ -192,6 +227,7 @@ static void try_texts(void)
         "entry 1: min over places of chain 0\n"
         "entry 2: or over places where chain 0 of max(chain 0, chain 0)\n"
         "result: (entry 0 - entry 2)\n");
+    try_set_texts();
     uint8_t *head = copy_of(marked, 5);
     try_one_text("a refusal for a length", head, GRAFS_REFUSAL + GRAFS_BUFFER_SHORT, "");
     try_one_text("no worksheet", head, 0, "");
@@ -211,6 +247,24 @@ static void try_wrong_texts(void)
         sheet[wrong[i].at] = wrong[i].byte;
         try_one_text("a wrong worksheet", sheet, sizeof sheet, "");
     }
+}
+
+/* A worksheet of version 2 with one byte that it cannot have there: its own version, or a set count that takes too few bytes, too many, or more than there
+ * are. */
+static void try_wrong_sets(void)
+{
+    static const struct {
+        size_t at;
+        uint8_t byte;
+    } wrong[] = { { 3, 0 }, { 3, 1 }, { 3, 3 }, { 4, 1 }, { 11, 0 }, { 11, 1 }, { 11, 3 }, { 11, 16 }, { 11, 17 }, { 11, 255 } };
+    for (size_t i = 0; i < sizeof wrong / sizeof *wrong; i++) {
+        uint8_t sheet[] = { 'L', 'P', 'W', 2, 0, 0, 1, 1, 2, 0, 0, 2, 0, 0, 2, 0, 1, 0, 0x30, 0 };
+        sheet[wrong[i].at] = wrong[i].byte;
+        try_one_text("a wrong worksheet of version 2", sheet, sizeof sheet, "");
+    }
+    const uint8_t seventeen[] = { 'L', 'P', 'W', 2, 0, 0, 1, 1, 2, 0, 0, 17, 0, 0, 1, 0, 2, 0, 3, 0, 4, 0, 5, 0, 6, 0, 7, 0, 8, 0, 9, 0, 10, 0, 11, 0,
+        12, 0, 13, 0, 14, 0, 15, 0, 16, 0, 1, 0, 0x30, 0 };
+    try_one_text("a set of 17", seventeen, sizeof seventeen, "");
 }
 
 /* The greatest literal, which has the most digits. */
@@ -255,19 +309,23 @@ static void try_deep_condition(unsigned depth)
     try_text(sheet, grafs_end(&b), depth <= GRAFS_DEPTH_MAX ? GRAFS_DONE : GRAFS_DEEP, depth);
 }
 
-/* The longest worksheet that a run takes, 312 bytes, with the longest words: eight chains, eight entries of a literal, seven of them with a literal as
- * condition, 49 terms of a final expression. No text has more than its 1,426 characters: an expression of k literals has 17k - 7, the line around an
- * entry's 29, and 7 more with a condition; so it is 570, 22 for each of at most 8 entries, and 17 for each of at most 40 literals. */
+/* The longest worksheet that a run takes, 560 bytes, with the longest words: eight chains from 16 places of three digits, eight entries of a literal, seven
+ * of them with a literal as condition, 49 terms of a final expression. No text has more than its 2,042 characters: a chain's line has 63 and the 85 of its
+ * starts, an expression of k literals has 17k - 7, the line around an entry's 29, and 7 more with a condition; so it is 1,186, 22 for each of at most 8
+ * entries, and 17 for each of at most 40 literals. */
 static void try_longest_text(void)
 {
-    const uint8_t map[] = { 'L', 'P', 'M', 1, 0, 1, 0, 0, 0 };
+    const uint8_t map[] = { 'L', 'P', 'M', 1, 0, 0, 1, 0, 0 };
     uint8_t sheet[GRAFS_WORKSHEET_MAX], answer[GRAFS_ANSWER_MAX];
     grafs_bytes b = grafs_begin(sheet, sizeof sheet, 'W');
+    sheet[3] = GRAFS_WORKSHEET_SETS;
     grafs_put(&b, GRAFS_KIND_RESULT, 1);
     grafs_put(&b, 8, 1);
     for (int i = 0; i < 8; i++) {
         grafs_put(&b, 0x04040403, 4); /* three keys, each the greatest start */
-        grafs_put(&b, GRAFS_ANYWHERE, 2);
+        grafs_put(&b, GRAFS_STARTS_MAX, 1);
+        for (unsigned start = 240; start < 256; start++)
+            grafs_put(&b, start, 2);
     }
     grafs_put(&b, 8, 1);
     for (int i = 0; i < 8; i++) {
@@ -277,8 +335,8 @@ static void try_longest_text(void)
         put_literal(&b, GRAFS_TERM_PLACE_LITERAL);
     }
     put_final(&b, 49);
-    expect(grafs_end(&b) == 312 && run(sheet, 312, map, sizeof map, answer, sizeof answer) == 19, "the longest worksheet", grafs_end(&b));
-    expect(grafs_worksheet_text(sheet, 312, NULL, 0) == 1426, "the longest text", grafs_worksheet_text(sheet, 312, NULL, 0));
+    expect(grafs_end(&b) == 560 && run(sheet, 560, map, sizeof map, answer, sizeof answer) == 19, "the longest worksheet", grafs_end(&b));
+    expect(grafs_worksheet_text(sheet, 560, NULL, 0) == 2042, "the longest text", grafs_worksheet_text(sheet, 560, NULL, 0));
     try_text(sheet, grafs_end(&b), GRAFS_DONE, 0);
 }
 
@@ -335,13 +393,33 @@ static void try_conditions(void)
         try_case(&cases[i], i);
 }
 
+/* Sets: of one, of two with three keys, of 16; beside each other and beside a start and anywhere; starts that do not rise, which are written as given. */
+static void try_sets(void)
+{
+    const uint8_t one[] = { 'L', 'P', 'Q', 1, 0, 0, 0x13, 1, 2, 1, 255, 0 };
+    const uint8_t beside[] = { 'L', 'P', 'Q', 1, 0, 1, 0x23, 3, 0x12, 9, 0x13, 3, 2, 1, 5, 2, 0, 0, 255, 0, 0x10, 1, 2, 255, 255, 0x12, 1, 0x13, 1, 6, 16,
+        1, 0, 2, 0, 3, 0, 4, 0, 5, 0, 6, 0, 7, 0, 8, 0, 9, 0, 10, 0, 11, 0, 12, 0, 13, 0, 14, 0, 15, 0, 128, 0, 0x10, 2, 3, 4, 9, 0 };
+    const uint8_t falls[] = { 'L', 'P', 'Q', 1, 0, 0, 0x13, 1, 2, 2, 3, 0, 3, 0 };
+    const uint8_t anywhere[] = { 'L', 'P', 'Q', 1, 0, 0, 0x13, 1, 2, 2, 3, 0, 255, 255 };
+    const uint8_t none[] = { 'L', 'P', 'Q', 1, 0, 0, 0x13, 1, 2, 0 };
+    const file_case cases[] = { { CASE_QUESTION, GRAFS_DONE, one, sizeof one }, { CASE_QUESTION, GRAFS_DONE, beside, sizeof beside },
+        { CASE_QUESTION, GRAFS_STARTS_ORDER, falls, sizeof falls }, { CASE_QUESTION, GRAFS_START, anywhere, sizeof anywhere },
+        { CASE_QUESTION, GRAFS_CODE, none, sizeof none } };
+    for (size_t i = 0; i < sizeof cases / sizeof *cases; i++) {
+        try_case(&cases[i], i);
+        if (cases[i].number != GRAFS_DONE)
+            try_built(&cases[i], i);
+    }
+}
+
 /* ---------------------------------------------------------------------------------------------------------------------- numbers */
 static void try_names(void)
 {
     for (uint32_t i = 0; i < sizeof names / sizeof *names; i++)
         expect(!strcmp(grafs_name(i), names[i]), "a name", i);
-    expect(!strcmp(grafs_name(17), "no such number") && !strcmp(grafs_name(UINT32_MAX), "no such number"), "no name", 17);
-    expect(grafs_number_of(0) == 0 && grafs_number_of(65535) == 0 && grafs_number_of(65536) == 0 && grafs_number_of(65552) == 16, "a result's number", 0);
+    expect(!strcmp(grafs_name(18), "no such number") && !strcmp(grafs_name(UINT32_MAX), "no such number"), "no name", 18);
+    expect(!strcmp(grafs_name(GRAFS_STARTS_ORDER), "starts order"), "a name", GRAFS_STARTS_ORDER);
+    expect(grafs_number_of(0) == 0 && grafs_number_of(65535) == 0 && grafs_number_of(65536) == 0 && grafs_number_of(65553) == 17, "a result's number", 0);
 }
 
 /* A number that its field cannot take makes no file: never another number in its place. */
@@ -356,6 +434,14 @@ static void try_wide(void)
         grafs_reduction(&q, i == 6 ? UINT64_C(1) << 40 : 3);
         grafs_reduction_where(&q, i == 7 ? 256 : 3);
         expect((grafs_end_question(&q) == 0) == (i < 8), "a question's number too wide", (size_t)i);
+    }
+    static const uint8_t keys[256] = { 0 };
+    static const uint16_t starts[256] = { 0 };
+    for (int i = 0; i < 5; i++) {
+        grafs_question q = grafs_begin_question(out, sizeof out, 0);
+        grafs_chain1_set(&q, i == 0 ? 256 : 1, starts, i == 1 ? 256 : 255);
+        grafs_chain_set(&q, keys, i == 2 ? 256 : 255, starts, i == 3 ? 256 : 255);
+        expect((grafs_end_question(&q) == 0) == (i < 4), "a set's number too wide", (size_t)i);
     }
     for (int i = 0; i < 6; i++) {
         grafs_map m = grafs_begin_map(out, sizeof out, i == 0 ? 65536 : 4);
@@ -379,10 +465,12 @@ int main(int argc, char **argv)
     try_no_answers();
     try_texts();
     try_wrong_texts();
+    try_wrong_sets();
     try_longest_text();
     try_deep_condition(GRAFS_DEPTH_MAX);
     try_deep_condition(GRAFS_DEPTH_MAX + 1);
     try_conditions();
+    try_sets();
     try_names();
     try_wide();
     expect(built > 60 && read_back > 100 && shown > 200, "enough of each", 0);

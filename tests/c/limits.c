@@ -9,7 +9,11 @@
 enum { PAINT = 0x5a, THREADS = 8, TURNS = 40 };
 
 /* Questions that are fused and worksheets made by hand (PLAN_..); those with a level too many (.._DEEPER) are refused where reading has gone deepest. */
-enum { LONGEST, LONGEST_WHERE, LONGEST_FUSED, DEEP, DEEPER, CONDITION_DEEPER, VALUE_DEEPER, PLAN_WHERE, PLAN_DEEPER, PLAN_WHERE_DEEPER, SAMPLES };
+enum { LONGEST, LONGEST_WHERE, LONGEST_FUSED, DEEP, DEEP_SET, DEEPER, CONDITION_DEEPER, VALUE_DEEPER, PLAN_WHERE, PLAN_SET, PLAN_DEEPER, PLAN_WHERE_DEEPER,
+    SAMPLES };
+
+/* The bytes of a chain of three keys and 16 starts without its first one, in a question and on a worksheet. */
+enum { LONGEST_CHAIN = 1 + GRAFS_KEYS_MAX + 1 + 2 * GRAFS_STARTS_MAX };
 
 typedef struct {
     uint8_t question[GRAFS_QUESTION_MAX], plan[GRAFS_WORKSHEET_MAX], answer[GRAFS_ANSWER_MAX];
@@ -22,11 +26,19 @@ static uint8_t graph[GRAFS_MAP_MAX];
 static size_t graph_len;
 
 /* ---------------------------------------------------------------------------------------------------------------------- limits */
-/* So many place terms, an odd number, in a tree of little depth. Its leaves are counted: the first `chains` are chains, eight of three keys in turn, and
- * literals follow. */
-static void put_tree(grafs_question *q, unsigned terms, unsigned chains, unsigned *leaf)
+/* A chain of three keys and 16 starts, eight different ones in turn. */
+static void put_chain(grafs_question *q, unsigned which)
 {
     static const uint8_t keys[2][3] = { { 2, 1, 6 }, { 1, 2, 5 } };
+    uint16_t starts[GRAFS_STARTS_MAX];
+    for (unsigned i = 0; i < GRAFS_STARTS_MAX; i++)
+        starts[i] = (uint16_t)(which % 8 + 8 * i);
+    grafs_chain_set(q, keys[which % 2], 3, starts, GRAFS_STARTS_MAX);
+}
+
+/* So many place terms, an odd number, in a tree of little depth. Its leaves are counted: the first `chains` are chains, and literals follow. */
+static void put_tree(grafs_question *q, unsigned terms, unsigned chains, unsigned *leaf)
+{
     unsigned left = (terms - 1) / 2 | 1;
     if (terms > 1) {
         grafs_place_operator(q, GRAFS_OP_PLUS);
@@ -35,7 +47,7 @@ static void put_tree(grafs_question *q, unsigned terms, unsigned chains, unsigne
         return;
     }
     if (*leaf < chains)
-        grafs_chain(q, keys[*leaf % 2], 3, *leaf % 8);
+        put_chain(q, *leaf);
     else
         grafs_place_literal(q, 1);
     ++*leaf;
@@ -68,20 +80,43 @@ static size_t with_terms_where(unsigned terms, uint8_t *bytes, size_t room)
     return grafs_end_question(&q);
 }
 
-/* So deep, a chain at the bottom. */
-static void put_deep(grafs_question *q, unsigned depth)
+/* Operators so deep but for one level, a term due at the bottom. */
+static void put_levels(grafs_question *q, unsigned depth)
 {
     for (unsigned i = 1; i < depth; i++) {
         grafs_place_operator(q, GRAFS_OP_PLUS);
         grafs_place_literal(q, 1);
     }
+}
+
+/* So deep, a chain at the bottom. */
+static void put_deep(grafs_question *q, unsigned depth)
+{
+    put_levels(q, depth);
     grafs_chain1(q, GRAFS_KEY_NARROWEST, 0);
+}
+
+/* A chain of one key from so many places, from 0 on. */
+static void put_set(grafs_question *q, uint64_t key, unsigned count)
+{
+    uint16_t starts[GRAFS_STARTS_MAX + 1];
+    for (unsigned i = 0; i < count; i++)
+        starts[i] = (uint16_t)i;
+    grafs_chain1_set(q, key, starts, count);
 }
 
 static size_t with_depth(unsigned depth, uint8_t *bytes, size_t room)
 {
     grafs_question q = grafs_begin_question(bytes, room, GRAFS_KIND_EACH);
     put_deep(&q, depth);
+    return grafs_end_question(&q);
+}
+
+static size_t with_deep_set(unsigned depth, uint8_t *bytes, size_t room)
+{
+    grafs_question q = grafs_begin_question(bytes, room, GRAFS_KIND_EACH);
+    put_levels(&q, depth);
+    put_set(&q, GRAFS_KEY_NARROWEST, GRAFS_STARTS_MAX);
     return grafs_end_question(&q);
 }
 
@@ -111,6 +146,13 @@ static size_t with_keys(unsigned keys, uint8_t *bytes, size_t room)
     return grafs_end_question(&q);
 }
 
+static size_t with_starts(unsigned starts, uint8_t *bytes, size_t room)
+{
+    grafs_question q = grafs_begin_question(bytes, room, GRAFS_KIND_EACH);
+    put_set(&q, GRAFS_KEY_PASSAGES, starts);
+    return grafs_end_question(&q);
+}
+
 static size_t with_chains(unsigned chains, uint8_t *bytes, size_t room)
 {
     grafs_question q = grafs_begin_question(bytes, room, GRAFS_KIND_EACH);
@@ -118,6 +160,18 @@ static size_t with_chains(unsigned chains, uint8_t *bytes, size_t room)
         if (i + 1 < chains)
             grafs_place_operator(&q, GRAFS_OP_PLUS);
         grafs_chain1(&q, GRAFS_KEY_PASSAGES, i);
+    }
+    return grafs_end_question(&q);
+}
+
+/* From 0; from 0 and 1; from 0, 1 and 2; .. */
+static size_t with_chains_set(unsigned chains, uint8_t *bytes, size_t room)
+{
+    grafs_question q = grafs_begin_question(bytes, room, GRAFS_KIND_EACH);
+    for (unsigned i = 0; i < chains; i++) {
+        if (i + 1 < chains)
+            grafs_place_operator(&q, GRAFS_OP_PLUS);
+        put_set(&q, GRAFS_KEY_PASSAGES, i + 1);
     }
     return grafs_end_question(&q);
 }
@@ -213,7 +267,9 @@ static void try_limits(void)
     try_limit("depth of a condition", with_deep_condition, GRAFS_DEPTH_MAX, GRAFS_DEEP);
     try_limit("depth behind a condition", with_deep_value, GRAFS_DEPTH_MAX, GRAFS_DEEP);
     try_limit("keys", with_keys, GRAFS_KEYS_MAX, GRAFS_CODE);
+    try_limit("starts of a set", with_starts, GRAFS_STARTS_MAX, GRAFS_CODE);
     try_limit("chains", with_chains, GRAFS_CHAINS_MAX, GRAFS_FULL_SHEET);
+    try_limit("chains from sets", with_chains_set, GRAFS_CHAINS_MAX, GRAFS_FULL_SHEET);
     try_limit("chains of a condition and its value", with_chains_where, GRAFS_CHAINS_MAX, GRAFS_FULL_SHEET);
     try_limit("reductions", with_reductions, GRAFS_REDUCTIONS_MAX, GRAFS_FULL_SHEET);
     try_limit("reductions with conditions", with_reductions_where, GRAFS_REDUCTIONS_MAX, GRAFS_FULL_SHEET);
@@ -264,16 +320,20 @@ static size_t longest_plan(void)
     for (size_t count = 1; count <= MOST; count++)
         for (size_t terms = count; terms <= GRAFS_TERMS_MAX; terms++)
             most = greater(most, of[count][terms] + (count <= GRAFS_REDUCTIONS_MAX ? count - 1 : GRAFS_REDUCTIONS_MAX));
-    return 8 + 6 * GRAFS_CHAINS_MAX + most;
+    return 8 + LONGEST_CHAIN * GRAFS_CHAINS_MAX + most;
 }
 
-/* In a worksheet a chain has 6 bytes in the table and 2 where it stands, 3 more than a literal; a reduction has the byte of its entry, and an index's 2. */
+/* In a worksheet a chain has 37 bytes in the table and 2 where it stands, 34 more than a literal; a reduction has the byte of its entry, and an index's 2.
+ * What is proved of every worksheet has 7 bytes for each term and each entry's byte. */
 static void try_lengths(void)
 {
-    size_t question = 6 + longest_term(7, 2), fused = 8 + 3 * GRAFS_CHAINS_MAX + longest_term(5, 3), plan = longest_plan();
+    size_t question = 6 + longest_term(1 + LONGEST_CHAIN, 2), plan = longest_plan();
+    size_t fused = 8 + (LONGEST_CHAIN + 2 - 5) * GRAFS_CHAINS_MAX + longest_term(5, 3);
+    size_t proved = 8 + LONGEST_CHAIN * GRAFS_CHAINS_MAX + 7 * (GRAFS_TERMS_MAX + GRAFS_REDUCTIONS_MAX);
     expect(question == GRAFS_QUESTION_MAX, "no question is longer", question);
-    expect(fused == 264 && fused <= GRAFS_WORKSHEET_MAX, "no fused worksheet is longer", fused);
-    expect(plan == 312 && plan <= GRAFS_WORKSHEET_MAX, "no worksheet is longer", plan);
+    expect(fused == 512 && fused <= GRAFS_WORKSHEET_MAX, "no fused worksheet is longer", fused);
+    expect(plan == 560 && plan <= GRAFS_WORKSHEET_MAX, "no worksheet is longer", plan);
+    expect(proved == GRAFS_WORKSHEET_MAX, "what is proved of every worksheet", proved);
 }
 
 /* ---------------------------------------------------------------------------------------------------------------------- samples */
@@ -312,32 +372,58 @@ static void make_plan(sample *s, int deeper, int where)
     s->plan_len = at;
 }
 
+/* The deep worksheet in version 2: a set of one in place of its start, which stands at 11. */
+static void make_plan_set(sample *s)
+{
+    const sample *deep = &samples[DEEP];
+    memcpy(s->plan, deep->plan, 11);
+    s->plan[3] = GRAFS_WORKSHEET_SETS;
+    s->plan[11] = 1;
+    memcpy(s->plan + 12, deep->plan + 11, deep->plan_len - 11);
+    s->fused = GRAFS_REFUSAL + GRAFS_SHORT; /* of no question */
+    s->plan_len = deep->plan_len + 1;
+}
+
 static void make_samples(void)
 {
     fuse_sample(&samples[LONGEST], with_terms, GRAFS_TERMS_MAX);
     fuse_sample(&samples[LONGEST_WHERE], with_terms_where, GRAFS_TERMS_MAX);
     fuse_sample(&samples[LONGEST_FUSED], with_long_plan, GRAFS_REDUCTIONS_MAX);
     fuse_sample(&samples[DEEP], with_depth, GRAFS_DEPTH_MAX);
+    fuse_sample(&samples[DEEP_SET], with_deep_set, GRAFS_DEPTH_MAX);
     fuse_sample(&samples[DEEPER], with_depth, GRAFS_DEPTH_MAX + 1);
     fuse_sample(&samples[CONDITION_DEEPER], with_deep_condition, GRAFS_DEPTH_MAX + 1);
     fuse_sample(&samples[VALUE_DEEPER], with_deep_value, GRAFS_DEPTH_MAX + 1);
     make_plan(&samples[PLAN_WHERE], 0, 1);
+    make_plan_set(&samples[PLAN_SET]);
     make_plan(&samples[PLAN_DEEPER], 1, 0);
     make_plan(&samples[PLAN_WHERE_DEEPER], 1, 1);
     for (size_t i = 0; i < SAMPLES; i++)
         run_sample(&samples[i]);
 }
 
-/* The ring takes 512 rounds by its narrow passage; then each place has 2 and 15, also where that is the condition, of 256 places. */
+/* The last place at which a walk over the ring's narrow passage is found is 255, and it comes from the greatest start: from 0 over 256 passages to 0 again
+ * and 255 more, from 15 over 241 and 255. The round behind it is quiet. Then each place has 2 and 15. */
+static void try_deep(const sample *s, unsigned rounds)
+{
+    expect(s->ran == GRAFS_ANSWER_MAX && grafs_get(s->answer + 7, 2) == rounds, "rounds of a deep question", rounds);
+    for (size_t i = 0; i < GRAFS_PLACES_MAX; i++)
+        expect(s->answer[10 + 9 * i] == 1 && grafs_get(s->answer + 10 + 9 * i + 1, 8) == 17, "a deep question's value", i);
+}
+
+/* The deep condition holds at 256 places. */
 static void try_samples(void)
 {
-    const sample *deep = &samples[DEEP], *where = &samples[PLAN_WHERE];
+    const sample *where = &samples[PLAN_WHERE];
     for (size_t i = LONGEST; i <= LONGEST_FUSED; i++)
         expect(samples[i].ran == 19, "answered", i);
     expect(samples[LONGEST].question_len == GRAFS_QUESTION_MAX, "the longest question", samples[LONGEST].question_len);
     expect(samples[LONGEST_WHERE].question_len == GRAFS_QUESTION_MAX, "the longest question", samples[LONGEST_WHERE].question_len);
-    expect(samples[LONGEST_FUSED].fused == 264, "the longest worksheet that is fused", samples[LONGEST_FUSED].fused);
-    expect(deep->ran == GRAFS_ANSWER_MAX && grafs_get(deep->answer + 7, 2) == 512 && grafs_get(deep->answer + 10 + 9 * 255 + 1, 8) == 17, "deep", deep->ran);
+    expect(samples[LONGEST_FUSED].fused == 512, "the longest worksheet that is fused", samples[LONGEST_FUSED].fused);
+    try_deep(&samples[DEEP], 512);
+    try_deep(&samples[DEEP_SET], 497);
+    try_deep(&samples[PLAN_SET], 512);
+    expect(samples[DEEP].plan[3] == GRAFS_WORKSHEET_ONE_START && samples[DEEP_SET].plan[3] == GRAFS_WORKSHEET_SETS, "versions", samples[DEEP_SET].plan[3]);
     expect(where->ran == 19 && grafs_get(where->answer + 7, 2) == 512 && grafs_get(where->answer + 11, 8) == 256 * 17, "deep conditions", where->ran);
     for (size_t i = DEEPER; i <= VALUE_DEEPER; i++)
         expect(samples[i].fused == GRAFS_REFUSAL + GRAFS_DEEP, "too deep to be fused", i);

@@ -58,6 +58,25 @@ static void try_case(const test_case *c)
 #define BEHIND_Q BYTES('L', 'P', 'Q', 1, 0, 1, 0x23, 3, 0x10, 1, 2, 2, 0, 0x10, 1, 5, 0, 0)
 #define BEHIND_W BYTES('L', 'P', 'W', 1, 0, 1, 2, 1, 2, 0, 0, 2, 0, 1, 5, 0, 0, 0, 0, 1, 131, 0x30, 0, 0x30, 1, 0x31, 0)
 
+/* A chain of one key from a set, at each place: the set's count, then its starts as bytes. */
+#define SET_Q(key, ...) BYTES('L', 'P', 'Q', 1, 0, 0, 0x13, 1, key, __VA_ARGS__)
+#define SET_W(key, ...) BYTES('L', 'P', 'W', 2, 0, 0, 1, 1, key, 0, 0, __VA_ARGS__, 1, 0, 0x30, 0)
+#define SIXTEEN 0, 0, 1, 0, 2, 0, 3, 0, 4, 0, 5, 0, 6, 0, 7, 0, 8, 0, 9, 0, 10, 0, 11, 0, 12, 0, 13, 0, 14, 0, 255, 0
+#define ROWS_A(rounds, ...) BYTES('L', 'P', 'A', 1, 0, 4, 0, rounds, 0, 0, __VA_ARGS__)
+
+/* Passages from 1 or 3, from 2, and from anywhere, added up. */
+#define BESIDE_Q BYTES('L', 'P', 'Q', 1, 0, 0, 0x12, 3, 0x12, 3, 0x13, 1, 1, 2, 1, 0, 3, 0, 0x10, 1, 1, 2, 0, 0x10, 1, 1, 255, 255)
+#define BESIDE_W \
+    BYTES('L', 'P', 'W', 2, 0, 0, 3, 1, 1, 0, 0, 2, 1, 0, 3, 0, 1, 1, 0, 0, 1, 2, 0, 1, 1, 0, 0, 0, 1, 0, 0x12, 3, 0x12, 3, 0x30, 0, 0x30, 1, 0x30, 2)
+
+/* Seconds from 0, from 0 or 2, from 2, from 2 or 3, then from 0 or 2 and from 0 again, written otherwise: four chains. */
+#define APART_Q \
+    BYTES('L', 'P', 'Q', 1, 0, 1, 0x20, 3, 0x12, 3, 0x12, 3, 0x13, 1, 2, 1, 0, 0, 0x13, 1, 2, 2, 0, 0, 2, 0, 0x12, 3, 0x12, 3, 0x10, 1, 2, 2, 0, 0x13, 1, 2, \
+        2, 2, 0, 3, 0, 0x12, 3, 0x13, 1, 2, 2, 0, 0, 2, 0, 0x10, 1, 2, 0, 0)
+#define APART_W \
+    BYTES('L', 'P', 'W', 2, 0, 1, 4, 1, 2, 0, 0, 1, 0, 0, 1, 2, 0, 0, 2, 0, 0, 2, 0, 1, 2, 0, 0, 1, 2, 0, 1, 2, 0, 0, 2, 2, 0, 3, 0, 1, 3, 0x12, 3, 0x12, 3, \
+        0x30, 0, 0x30, 1, 0x12, 3, 0x12, 3, 0x30, 2, 0x30, 3, 0x12, 3, 0x30, 1, 0x30, 0, 0x31, 0)
+
 int main(void)
 {
     const test_case cases[] = {
@@ -84,6 +103,34 @@ int main(void)
         { "a condition, and no reduction", FARTHER_W(128, 2), MAP_A, GRAFS_CODE, NOTHING },
         { "a condition, and no such reduction", FARTHER_W(134, 2), MAP_A, GRAFS_CODE, NOTHING },
         { "no such reduction", FARTHER_W(6, 2), MAP_A, GRAFS_CODE, NOTHING },
+        { "a set fused", SET_Q(2, 2, 0, 0, 2, 0), NO_MAP, 0, SET_W(2, 2, 0, 0, 2, 0) },
+        { "a set of 16 fused", SET_Q(6, 16, SIXTEEN), NO_MAP, 0, SET_W(6, 16, SIXTEEN) },
+        { "a set of one fused", SET_Q(2, 1, 0, 0), NO_MAP, 0, PLACE_W(2, 0) },
+        { "a set, a start and anywhere fused", BESIDE_Q, NO_MAP, 0, BESIDE_W },
+        { "equal sets put together, others apart", APART_Q, NO_MAP, 0, APART_W },
+        { "no start", SET_Q(2, 0), NO_MAP, GRAFS_CODE, NOTHING },
+        { "17 starts", SET_Q(2, 17, SIXTEEN, 0, 1), NO_MAP, GRAFS_CODE, NOTHING },
+        { "no set count", BYTES('L', 'P', 'Q', 1, 0, 0, 0x13, 1, 2), NO_MAP, GRAFS_SHORT, NOTHING },
+        { "half a start", SET_Q(2, 2, 0, 0, 2), NO_MAP, GRAFS_SHORT, NOTHING },
+        { "256 in a set", SET_Q(2, 2, 0, 0, 0, 1), NO_MAP, GRAFS_START, NOTHING },
+        { "anywhere in a set", SET_Q(2, 2, 0, 0, 255, 255), NO_MAP, GRAFS_START, NOTHING },
+        { "equal starts", SET_Q(2, 2, 2, 0, 2, 0), NO_MAP, GRAFS_STARTS_ORDER, NOTHING },
+        { "starts that fall", SET_Q(2, 3, 0, 0, 2, 0, 1, 0), NO_MAP, GRAFS_STARTS_ORDER, NOTHING },
+        { "a question of version 2", BYTES('L', 'P', 'Q', 2, 0, 0, 0x13, 1, 2, 2, 0, 0, 2, 0), NO_MAP, GRAFS_VERSION, NOTHING },
+        { "key 2 from 0 or 2 on map A", SET_W(2, 2, 0, 0, 2, 0), MAP_A, 0, ROWS_A(3, NUMBER(0), NUMBER(3), NUMBER(0), NUMBER(3)) },
+        { "key 4 from 0 or 2 on map A", SET_W(4, 2, 0, 0, 2, 0), MAP_A, 0, ROWS_A(3, NUMBER(0), NUMBER(2), NUMBER(2), NUMBER(2)) },
+        { "key 6 from 1 or 2 on map A", SET_W(6, 2, 1, 0, 2, 0), MAP_A, 0, ROWS_A(2, ABSENT, NUMBER(20), NUMBER(65535), NUMBER(7)) },
+        { "all places of map A", SET_W(3, 4, 0, 0, 1, 0, 2, 0, 3, 0), MAP_A, 0, ROWS_A(3, NUMBER(0), NUMBER(0), NUMBER(0), NUMBER(0)) },
+        { "a set of one run", SET_W(2, 1, 0, 0), MAP_A, 0, ROWS_A(3, NUMBER(0), NUMBER(5), NUMBER(2), NUMBER(5)) },
+        { "anywhere in version 2", SET_W(3, 0), MAP_A, 0, ROWS_A(3, NUMBER(0), NUMBER(0), NUMBER(0), NUMBER(0)) },
+        { "a set, a start and anywhere run", BESIDE_W, MAP_A, 0, ROWS_A(3, ABSENT, NUMBER(1), ABSENT, NUMBER(2)) },
+        { "17 starts on a worksheet", SET_W(2, 17, SIXTEEN, 0, 1), MAP_A, GRAFS_CODE, NOTHING },
+        { "256 in a worksheet's set", SET_W(2, 1, 0, 1), MAP_A, GRAFS_START, NOTHING },
+        { "anywhere in a worksheet's set", SET_W(2, 2, 0, 0, 255, 255), MAP_A, GRAFS_START, NOTHING },
+        { "equal starts on a worksheet", SET_W(2, 2, 2, 0, 2, 0), MAP_A, GRAFS_STARTS_ORDER, NOTHING },
+        { "a last start that map A has not", SET_W(2, 2, 3, 0, 4, 0), MAP_A, GRAFS_START, NOTHING },
+        { "a worksheet of version 3", BYTES('L', 'P', 'W', 3, 0, 0, 1, 1, 2, 0, 0, 1, 0, 0, 1, 0, 0x30, 0), MAP_A, GRAFS_VERSION, NOTHING },
+        { "a map of version 2", SET_W(2, 1, 0, 0), BYTES('L', 'P', 'M', 2, 0, 1, 0, 0, 0), GRAFS_VERSION, NOTHING },
         { "start 4 on map A", PLACE_W(2, 4), MAP_A, GRAFS_START, NOTHING },
         { "a worksheet before its map", BYTES('L', 'P', 'Q', 1, 0), BYTES('L'), GRAFS_MARK, NOTHING },
         { "no map", PLACE_W(2, 4), (const uint8_t *)"", 0, GRAFS_SHORT, NOTHING },

@@ -1,6 +1,6 @@
 #!/bin/bash
 # The program on stored questions and maps: its whole output, byte for byte, in a folder that has nothing else.
-# Bytes are written in hexadecimal; what is expected is written by hand from document 01. The last line is 'N passed, M failed'.
+# Bytes are written in hexadecimal; what is expected is written by hand from documents 01 and 02. The last line is 'N passed, M failed'.
 set -eu
 cd "$(dirname "$0")/../.."
 rt check grafs_main >/dev/null
@@ -49,7 +49,8 @@ one='4c5051 0100 01'    # one result
 seconds="$each 10 01 02 0000"
 wrong_order="$each 10 02 05 02 0000"   # keys 5,2
 plus='12 03'
-chain='10 03 020205 0000'              # a term of the greatest length, 7 bytes
+sixteen='10 0000 0100 0200 0300 0400 0500 0600 0700 0800 0900 0a00 0b00 0c00 0d00 0e00 0f00'
+chain="13 03 020205 $sixteen"          # a term of the greatest length, 38 bytes
 apply() { echo "22 0$1 $2 $3"; }       # an operator and two result terms
 most='21 ffffffff'                     # the greatest literal
 
@@ -69,6 +70,7 @@ loop='4c504d 0100 0100 0100  0000 0000 0100 0300'                          # one
 alone='4c504d 0100 0100 0000'
 back='4c504d 0100 0200 0200  0000 0100 0100 0900  0100 0000 0100 0200'     # 0→1 size 9, 1→0 size 2
 bad_map='4c5058 0100 0100 0000'                                            # the third letter differs
+apart='4c504d 0100 1000 0000'                                              # 16 places, no passage
 widest='4c504d 0100 0001 0000'                                             # 256 places, no passage
 fullest="4c504d 0100 0100 0004 $(times 1024 '0000 0000 0100 0300')"        # 1,024 passages: 8,201 bytes
 
@@ -105,6 +107,27 @@ try 'a condition at each place' "$each 23 03 $(beyond 2) $from_0" "$map_a" 'refu
 try 'a condition and no value' "$one 23 03 $(beyond 2)" "$map_a" 'refused 1'
 try 'reduction 131 with a condition' "$one 23 83 $(beyond 2) $from_0" "$map_a" 'refused 9'
 
+# ---------------------------------------------------------------------------------------------- from any of our counters
+set="$each 13 01 02"                   # seconds, and a set is due
+try 'seconds from 0 or 2' "$set 02 0000 0200" "$map_a" 'rounds 3' '0 0' '1 3' '2 0' '3 3'
+try 'seconds from 1 or 2' "$set 02 0100 0200" "$map_a" 'rounds 2' '0 -' '1 0' '2 0' '3 0'
+try 'the nearer of 0 and 2' "$each 13 02 0203 02 0000 0200" "$map_a" 'rounds 3' '0 0' '1 2' '2 2' '3 2'
+try 'a set of one' "$set 01 0000" "$map_a" 'rounds 3' '0 0' '1 5' '2 2' '3 5'
+try 'key 6 there and back, from both' "$each 13 01 06 02 0000 0100" "$back" 'rounds 3' '0 2' '1 2'
+try 'one result: the farthest from 0 or 2' "$one 20 02 13 01 02 02 0000 0200" "$map_a" 'rounds 3' 'result 3'
+try '16 starts, each its own' "$each 13 01 04 $sixteen" "$apart" 'rounds 1' "${itself[@]:0:16}"
+try 'no start' "$set 00" "$map_a" 'refused 9'
+try '17 starts' "$set 11${sixteen#10} 1000" "$widest" 'refused 9'
+try 'no set count' "$set" "$map_a" 'refused 1'
+try 'half a start' "$set 02 0000 02" "$map_a" 'refused 1'
+try '256 in a set' "$set 02 0000 0001" "$widest" 'refused 13'
+try 'anywhere in a set' "$set 02 0000 ffff" "$map_a" 'refused 13'
+try 'a start of a set that the map has not' "$set 02 0300 0400" "$map_a" 'refused 13'
+try 'equal starts' "$set 02 0200 0200" "$map_a" 'refused 17'
+try 'starts that fall, and a bad map' "$set 03 0000 0200 0100" "$bad_map" 'refused 17'
+try 'a question of version 2' "4c5051 0200 00 13 01 02 02 0000 0200" "$map_a" 'refused 3'
+try 'a map of version 2' "$set 02 0000 0200" '4c504d 0200 0100 0000' 'refused 3'
+
 # ---------------------------------------------------------------------------------------------- files, and the order of judging
 try 'no question' missing "$map_a" 'refused 1'
 try 'no map' "$seconds" missing 'refused 1'
@@ -121,6 +144,8 @@ try 'a bad map and a start that it has not' "$each 10 01 02 0400" "$bad_map" 're
 
 # ---------------------------------------------------------------------------------------------- longer files than any legal one
 long=$(times 6000 00)
+try 'the longest question' "$one 20 01 $(tree 63)" "$apart" 'rounds 1' 'result 2097120' # 32 times 65,535
+try 'the longest question and 1 byte' "$one 20 01 $(tree 63) 00" "$apart" 'refused 6'
 try 'a question and 1 byte' "$seconds 00" "$map_a" 'refused 6'
 try 'a question and 6,000 bytes' "$seconds $long" "$map_a" 'refused 6'
 try '63 terms and 6,000 bytes' "$each $(tree 63) $long" "$map_a" 'refused 6'

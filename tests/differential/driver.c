@@ -10,7 +10,7 @@
 #include "grafs.h"
 #include "plain.h"
 
-enum { SEED = 20261115, MOST = 16384, GUARD = 64, ANYWHERE = 65535 };
+enum { SEED = 20261115, MOST = 16384, GUARD = 64, ANYWHERE = 65535, MOST_STARTS = 16, STARTS_ORDER = 17 };
 
 /* ---------------------------------------------------------------- chance */
 
@@ -54,36 +54,58 @@ static void put(file *f, unsigned width, uint32_t x)
         f->b[f->len++] = (uint8_t)(x >> (8 * i));
 }
 
-static void put_head(file *f, char letter)
+static void put_head(file *f, char letter, unsigned version)
 {
     f->len = 0;
-    put(f, 1, 'L'), put(f, 1, 'P'), put(f, 1, (uint8_t)letter), put(f, 2, 1);
+    put(f, 1, 'L'), put(f, 1, 'P'), put(f, 1, (uint8_t)letter), put(f, 2, version);
 }
 
+/* Starts: 0 for anywhere; one, which may be what no map has; or a set, rising. */
 typedef struct {
-    unsigned count, keys[3], start;
+    unsigned count, keys[3], starts, start[MOST_STARTS];
 } chain;
 
-/* What a question or worksheet is made of. A wild one keeps no limit: of terms, depth, chains, reductions. */
+/* What a question or worksheet is made of. A wild one keeps no limit: of terms, depth, chains, reductions. In a crooked one every other set is wrong. */
 typedef struct {
     file *f;
-    int worksheet, wild, many; /* many: more reductions than there may be, each of one leaf */
+    int worksheet, wild, many, crooked; /* many: more reductions than there may be, each of one leaf */
+    unsigned version;                   /* of a worksheet: how its chains are written, whatever the header says */
     unsigned chains, reductions, n;
     chain chain[12];
     unsigned entries; /* of a worksheet */
     unsigned terms;   /* still allowed for reductions' place terms */
 } maker;
 
+/* A set of so many of the first n places, each as likely as another. */
+static void some_set(chain *c, unsigned starts, unsigned n)
+{
+    c->starts = 0;
+    for (unsigned place = 0; place < n && c->starts < starts; place++)
+        if (below(n - place) < starts - c->starts)
+            c->start[c->starts++] = place;
+}
+
 static chain some_chain(unsigned n, int wild)
 {
-    chain c = { between(1, 3), { 0, 0, 0 }, 0 };
+    chain c = { .count = between(1, 3) };
     for (unsigned i = 0; i < c.count; i++)
         c.keys[i] = between(1, i == c.count - 1 || (wild && one_in(15)) ? 6 : 4);
-    c.start = one_in(3) ? ANYWHERE : below(n > 256 ? 256 : n);
-    if (one_in(60))
-        c.start = below(256);
+    unsigned from = one_in(60) ? ONE_OF(n < 256 ? n + 1 : n, 256) : n, most = from < MOST_STARTS ? from : MOST_STARTS;
+    if (one_in(4))
+        return c;
+    some_set(&c, one_in(2) ? 1 : one_in(4) ? most : between(1, most), from);
     if (wild && one_in(40))
-        c.start = ONE_OF(255, 256, 257, 65534, 32768);
+        c.starts = 1, c.start[0] = ONE_OF(255, 256, 257, 65534, 32768);
+    return c;
+}
+
+/* A chain much like another one: a start less, or another one. */
+static chain similar_chain(chain c, unsigned n)
+{
+    if (c.starts >= 2 && one_in(2))
+        c.start[--c.starts] = 0;
+    else if (c.starts && c.start[c.starts - 1] + 1 < n)
+        c.start[c.starts - 1]++;
     return c;
 }
 
@@ -98,12 +120,42 @@ static uint32_t some_literal(void)
     }
 }
 
-static void put_keys(file *f, const chain *c, unsigned slots)
+/* One thing wrong with a set: a count that is none, or is not that of the starts; a start that no map has, one repeated, two in the wrong order. Returns the
+ * count to be written. */
+static unsigned bend(unsigned *start, unsigned starts)
 {
-    put(f, 1, c->count);
+    unsigned i = below(starts ? starts : 1), kept = start[i];
+    switch (below(5)) {
+    case 0: return ONE_OF(0, 17, 18, 255, starts - 1, starts + 1);
+    case 1: start[i] = ONE_OF(255, 256, 257, 32768, 65534, ANYWHERE); break;
+    case 2: start[i] += 256; break;
+    case 3: start[i] = start[i ? i - 1 : 0]; break;
+    default: start[i] = start[i ? i - 1 : 0], start[i ? i - 1 : 0] = kept;
+    }
+    return starts;
+}
+
+static void put_set(const maker *k, const chain *c)
+{
+    chain d = *c;
+    unsigned count = d.starts;
+    for (unsigned faults = k->crooked && one_in(2) ? between(1, 2) : 0; faults; faults--)
+        count = bend(d.start, d.starts);
+    put(k->f, 1, count);
+    for (unsigned i = 0; i < d.starts; i++)
+        put(k->f, 2, d.start[i]);
+}
+
+/* The keys in so many bytes, and the starts, as a set or not. */
+static void put_chain(const maker *k, const chain *c, unsigned slots, int set)
+{
+    put(k->f, 1, c->count);
     for (unsigned i = 0; i < slots; i++)
-        put(f, 1, i < c->count ? c->keys[i] : 0);
-    put(f, 2, c->start);
+        put(k->f, 1, i < c->count ? c->keys[i] : 0);
+    if (set)
+        put_set(k, c);
+    else
+        put(k->f, 2, c->starts ? c->start[0] : ANYWHERE);
 }
 
 static void put_operator(file *f, unsigned tag)
@@ -129,7 +181,7 @@ static void literal(maker *k, uint32_t x)
 static void place_leaf(maker *k)
 {
     if (k->wild && one_in(60)) { /* a result term, or what starts no term: 9 */
-        put(k->f, 1, ONE_OF(0x20, 0x21, 0x22, 0x23, 0x24, 0x31, 129, 131)), put(k->f, 1, between(1, 5));
+        put(k->f, 1, ONE_OF(0x14, 0x20, 0x21, 0x22, 0x23, 0x24, 0x31, 129, 131)), put(k->f, 1, between(1, 5));
         return;
     }
     if (!k->chains || one_in(4)) {
@@ -137,10 +189,12 @@ static void place_leaf(maker *k)
         return;
     }
     unsigned i = below(k->chains);
+    const chain *c = &k->chain[i];
+    int set = c->starts >= 2 || (c->starts == 1 && one_in(3)) || (k->crooked && one_in(10));
     if (k->worksheet)
         put(k->f, 1, 0x30), put(k->f, 1, k->wild && one_in(40) ? below(10) : i);
     else
-        put(k->f, 1, 0x10), put_keys(k->f, &k->chain[i], k->chain[i].count);
+        put(k->f, 1, set ? 0x13 : 0x10), put_chain(k, c, c->count, set);
 }
 
 /* 2^64 - 1 exactly: (2^32 - 1) * (2^32 - 1) + ((2^32 - 1) + (2^32 - 1)); four leaves. */
@@ -264,12 +318,17 @@ static void result_term(maker *k, unsigned leaves, unsigned depth)
 
 static maker some_maker(file *f, unsigned n, int worksheet)
 {
-    maker k = { .f = f, .worksheet = worksheet, .wild = one_in(12), .n = n, .reductions = 8 };
+    maker k = { .f = f, .worksheet = worksheet, .wild = one_in(12), .crooked = one_in(10), .n = n, .reductions = 8, .version = one_in(3) ? 2 : 1 };
     k.chains = one_in(10) ? 0 : one_in(3) ? 8 : between(1, 4);
     if (k.wild && one_in(2))
         k.chains = between(9, 12);
-    for (unsigned i = 0; i < k.chains; i++)
-        k.chain[i] = i && one_in(6) ? k.chain[below(i)] : some_chain(n, k.wild);
+    for (unsigned i = 0; i < k.chains; i++) {
+        k.chain[i] = i && one_in(4) ? k.chain[below(i)] : some_chain(n, k.wild);
+        if (one_in(8))
+            k.chain[i] = similar_chain(k.chain[i], n);
+        if (k.chain[i].starts >= 2)
+            k.version = 2;
+    }
     return k;
 }
 
@@ -277,7 +336,7 @@ static void some_question(file *f, unsigned n)
 {
     maker k = some_maker(f, n, 0);
     unsigned kind = below(2), depth = one_in(4) ? 16 : between(1, 16);
-    put_head(f, 'Q'), put(f, 1, kind);
+    put_head(f, 'Q', 1), put(f, 1, kind);
     if (kind == 0) {
         place_term(&k, some_leaves(&k, depth, 64), depth);
         return;
@@ -298,7 +357,8 @@ static unsigned reduction_byte(const maker *k, unsigned kind)
     return kind == 0 ? 0 : between(1, 5) + (one_in(2) ? 128 : 0);
 }
 
-/* Also such as no fusing writes: equal and unused chains, unused entries. */
+/* Also such as no fusing writes: equal and unused chains, unused entries, version 2 of single starts. One in 40 has a header of another version than its
+ * chains, or of none. */
 static void some_worksheet(file *f, unsigned n)
 {
     maker k = some_maker(f, n, 1);
@@ -307,9 +367,9 @@ static void some_worksheet(file *f, unsigned n)
     k.entries = kind == 0 ? 1 : one_in(3) ? 8 : below(6);
     if (k.wild && one_in(3))
         k.entries = below(11);
-    put_head(f, 'W'), put(f, 1, kind), put(f, 1, k.chains);
+    put_head(f, 'W', one_in(40) ? ONE_OF(0, 3, 3 - k.version, 256 + k.version) : k.version), put(f, 1, kind), put(f, 1, k.chains);
     for (unsigned i = 0; i < k.chains; i++)
-        put_keys(f, &k.chain[i], 3);
+        put_chain(&k, &k.chain[i], 3, k.version == 2);
     put(f, 1, k.entries);
     for (unsigned i = 0; i < k.entries; i++) {
         /* two terms for each entry behind this one, as they may have a condition, and one for the final expression */
@@ -355,7 +415,7 @@ static void some_map(file *f, unsigned n)
     unsigned m = manner >= 1 && manner <= 3 ? n + below(4) : one_in(12) ? 1024 : below((one_in(4) ? 4 : 2) * n + 3);
     if (m > 1024)
         m = 1024;
-    put_head(f, 'M'), put(f, 2, n), put(f, 2, m);
+    put_head(f, 'M', 1), put(f, 2, n), put(f, 2, m);
     for (unsigned i = 0; i < m; i++) {
         unsigned from = below(n), to = below(n);
         if (manner == 1 && i < n)
@@ -374,7 +434,8 @@ static void some_map(file *f, unsigned n)
 
 static unsigned boundary_byte(void)
 {
-    return ONE_OF(0, 1, 2, 3, 4, 5, 6, 7, 8, 9, 10, 11, 12, 0x10, 0x11, 0x12, 0x20, 0x21, 0x22, 0x23, 0x24, 0x30, 0x31, 127, 128, 129, 131, 133, 134, 254, 255);
+    return ONE_OF(0, 1, 2, 3, 4, 5, 6, 7, 8, 9, 10, 11, 12, 0x10, 0x11, 0x12, 0x13, 0x14, 0x20, 0x21, 0x22, 0x23, 0x24, 0x30, 0x31, 127, 128, 129, 131, 133,
+        134, 254, 255);
 }
 
 static unsigned boundary_number(void)
@@ -474,7 +535,7 @@ static void damage_map(file *f)
 
 /* ---------------------------------------------------------------- comparing */
 
-static unsigned long long numbers[2][17], numbered, most_rounds, past_places;
+static unsigned long long numbers[2][STARTS_ORDER + 1], numbered, most_rounds, past_places;
 
 static void print_file(const char *name, const file *f)
 {
@@ -577,6 +638,32 @@ static void try_case(unsigned long long index)
     compare(index, &worksheet, &map, some_lent(answer_length(&worksheet, &map)));
 }
 
+/* What matters of conditions and sets, and how often it was met. Returns whether all of it was. */
+static int all_met(void)
+{
+    const struct {
+        const char *what;
+        unsigned long long count;
+    } met[] = {
+        { "conditions at a place that are absent", plain_conditions[0] },
+        { "conditions at a place that are 0", plain_conditions[1] },
+        { "conditions at a place that are another number", plain_conditions[2] },
+        { "chains written as 0x10 and as a set of one", plain_sets.written_both_ways },
+        { "runs answered with a set of two or more starts", plain_sets.of_several },
+        { "runs answered with a set of more than eight starts", plain_sets.of_more_than_eight },
+        { "runs answered of version 2 with single starts", plain_sets.version_2_of_single },
+        { "runs answered of version 2 with no start", plain_sets.version_2_of_none },
+        { "questions refused 17", numbers[0][STARTS_ORDER] },
+        { "worksheets refused 17", numbers[1][STARTS_ORDER] },
+    };
+    int all = 1;
+    for (size_t i = 0; i < sizeof met / sizeof *met; i++) {
+        printf("%s: %llu\n", met[i].what, met[i].count);
+        all &= met[i].count > 0;
+    }
+    return all;
+}
+
 int main(int argc, char **argv)
 {
     unsigned long long cases = argc > 1 ? strtoull(argv[1], NULL, 10) : 100000, first = argc > 2 ? strtoull(argv[2], NULL, 10) : 0;
@@ -584,18 +671,16 @@ int main(int argc, char **argv)
         try_case(i);
     for (int call = 0; call < 2; call++) {
         printf(call ? "run:  answered %llu; refused" : "fuse: answered %llu; refused", numbers[call][0]);
-        for (int number = 1; number <= 16; number++)
+        for (int number = 1; number <= STARTS_ORDER; number++)
             if (numbers[call][number])
                 printf(" %d: %llu", number, numbers[call][number]);
         printf("\n");
     }
     printf("answers that start with a number %llu, with more rounds than places %llu, most rounds %llu\n", numbered, past_places, most_rounds);
-    printf("conditions at a place: absent %llu, 0 %llu, another number %llu\n", plain_conditions[0], plain_conditions[1], plain_conditions[2]);
-    for (int i = 0; i < 3; i++)
-        if (cases >= 1000 && plain_conditions[i] == 0) {
-            printf("the cases have no such condition\n");
-            return 1;
-        }
+    if (!all_met() && cases >= 1000) {
+        printf("one of these never occurs\n");
+        return 1;
+    }
     printf("%llu cases, 0 differences\n", cases);
     return 0;
 }

@@ -11,4 +11,11 @@ uint32_t plain_run(const uint8_t *worksheet, size_t worksheet_len, const uint8_t
 /* How often a condition was looked at at a place so far: absent, 0, another number. */
 extern unsigned long long plain_conditions[3];
 
+/* Of sets so far: chains of accepted questions that are written as 0x10 and as a set of one; and runs answered, those of a set of two or more starts, of more
+ * than eight, of a worksheet of version 2 that has single starts but no such set, and of one that has no start at all. */
+typedef struct {
+    unsigned long long written_both_ways, of_several, of_more_than_eight, version_2_of_single, version_2_of_none;
+} plain_met;
+extern plain_met plain_sets;
+
 #endif

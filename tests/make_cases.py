@@ -10,7 +10,11 @@ integers low byte first. The bytes are those of the file to be judged, but for t
     answers   n (16 bits), kind, room (16 bits): the fields that the writer of answers judges
     .. written    five 16-bit fields, then a file: it is read, and its typed form is written, with other values of some fields,
               to a buffer of the length that the first field says. The others are, of a map, n and m; of a question, the
-              kind and how many terms; of a worksheet, the kind, how many chains, how many entries, how many terms and entries
+              kind and how many terms; of a worksheet, the kind and the version (a byte each), how many chains and how many
+              entries (a byte each), how many terms and entries, and where the file starts that should be written, if it is
+              another one behind that which is read
+    questions fused    five 16-bit fields: the length lent, three of 0, and where the worksheet starts; the question; the worksheet
+              (none where refused)
 """
 import os
 import sys
@@ -18,7 +22,7 @@ import sys
 import make_runs
 
 FOLDER = os.path.join(os.path.dirname(os.path.abspath(__file__)), "..", "crates", "cases")
-MOST = 131071  # the program's buffer has one byte more
+MOST = 262143  # the program's buffer has one byte more
 
 # ------------------------------------------------------------------------------------------------ layouts
 
@@ -707,6 +711,11 @@ def questions_written():
         yield from changed(number, name, whole, kind, count)
 
 
+def form_fields(whole, kind, chains, entries, count, version=None, end=0):
+    """Four fields of a worksheet's typed form; the version is the file's where no other is given."""
+    return kind + 256 * (whole[3] if version is None else version), chains + 256 * entries, count, end
+
+
 def worksheets_written():
     none = W1 + hexed("00 00 21 07 00 00 00")  # no chain, no entry, a literal
     place = W0 + bytes([1]) + slots(2, start=3) + hexed("01 00 12 03 30 00 11 01 00 00 00")
@@ -721,7 +730,7 @@ def worksheets_written():
         ("a condition", where, (1, 1, 1, 6)), ("one condition of two entries", mixed, (1, 2, 2, 8)), ("eight conditions", eight_where, (1, 1, 8, 25)),
         ("eight entries and 64 terms", full, (1, 0, 8, 72)), ("eight entries and 64 terms, all there are", full, (1, 0, 8, 65535)),
     ):
-        yield from lengths(name, whole, *fields)
+        yield from lengths(name, whole, *form_fields(whole, *fields))
     # The typed form with other fields.
     for number, name, whole, fields in (
         (9, "kind 2", place, (2, 1, 1, 4)), (14, "nine chains", eight, (1, 9, 8, 17)), (14, "255 chains", place, (0, 255, 1, 4)),
@@ -738,7 +747,33 @@ def worksheets_written():
         (9, "seven entries, an eighth with a condition behind", eight_where, (1, 1, 7, 25)),
         (1, "no final expression behind 63 terms and eight entries", full, (1, 0, 8, 71)),
     ):
-        yield from changed(number, name, whole, *fields)
+        yield from changed(number, name, whole, *form_fields(whole, *fields))
+
+
+# ------------------------------------------------------------------------------------------------ questions fused
+# "Fusing judges the question, then 15."
+
+
+def fused(name, question, worksheet):
+    """Lent as many bytes as the worksheet has, one more, one less, none."""
+    size = len(worksheet)
+    for number, lent in ((0, size), (0, size + 1), (15, size - 1), (15, 0)):
+        yield written(number, name, question + worksheet, lent, 0, 0, 0, len(question))
+
+
+def questions_fused():
+    yield from fused("marked", hexed("4C5051010001 2002 1001010000"), hexed("4C5057010001 01 010100000000 01 02 3000 3100"))
+    yield from fused("key 2 from 0", Q0 + chain(2), W0 + b"\1" + slots(2) + hexed("01 00 30 00"))
+    yield from fused("neither chain nor reduction", Q1 + RPLUS + RLIT * 2, W1 + hexed("00 00") + RPLUS + RLIT * 2)
+    yield from fused("equal chains together, in order of first writing",
+                     Q0 + PLUS + chain(2) + PLUS + chain(1, 2, 5, start=65535) + PLUS + chain(2) + chain(2, start=255),
+                     W0 + b"\3" + slots(2) + slots(1, 2, 5, start=65535) + slots(2, start=255) + hexed("01 00 12 03 30 00 12 03 30 01 12 03 30 00 30 02"))
+    yield from fused("reductions in order of writing, equal ones apart, one with a condition",
+                     Q1 + RPLUS + SUM + chain(1) + RPLUS + WHERE + chain(2) + chain(1) + SUM + chain(1),
+                     W1 + b"\2" + slots(1) + slots(2) + hexed("03 03 30 00 83 30 01 30 00 03 30 00 22 03 31 00 22 03 31 01 31 02"))
+    for number, name, question in ((10, "keys 5,2", Q0 + chain(5, 2)), (1, "nothing", b""), (6, "a byte left over", Q0 + LIT + b"\0")):
+        for lent in (0, 9000):
+            yield written(number, name, question, lent, 0, 0, 0, len(question))
 
 
 # ------------------------------------------------------------------------------------------------ the file
@@ -750,7 +785,7 @@ def maps():
 
 
 KINDS = (("maps", maps), ("questions", questions), ("worksheets", sheets), ("answers", answers), ("maps written", maps_written),
-         ("questions written", questions_written), ("worksheets written", worksheets_written))
+         ("questions written", questions_written), ("worksheets written", worksheets_written), ("questions fused", questions_fused))
 
 
 def table():

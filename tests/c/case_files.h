@@ -5,7 +5,7 @@
 #include "check.h"
 #include "grafs_build.h"
 
-enum { CASE_MAP = 0, CASE_QUESTION = 1, CASE_WORKSHEET = 2, CASE_RUN = 7 };
+enum { CASE_MAP = 0, CASE_QUESTION = 1, CASE_WORKSHEET = 2, CASE_RUN = 8 };
 
 typedef struct {
     unsigned kind;
@@ -34,7 +34,7 @@ static inline run_case run_case_of(const file_case *c)
 /* Calls `each` on every case of a file; returns how many there are. */
 static inline size_t each_case(const char *path, void (*each)(const file_case *, size_t))
 {
-    static uint8_t data[1 << 17];
+    static uint8_t data[1 << 18];
     FILE *f = fopen(path, "rb");
     size_t end = f ? fread(data, 1, sizeof data, f) : 0, at = 0, count = 0;
     if (!f || fclose(f) || end == sizeof data)

@@ -28,7 +28,7 @@ struct Case {
 struct Score {
     cases: u64,
     differences: u64,
-    kinds: [u64; 12],
+    kinds: [u64; 13],
 }
 
 fn load(path: &[u8], buf: &mut [u8]) -> usize
@@ -149,15 +149,30 @@ fn write_query(fields: &[u8], file: &[u8], out: &mut [u8]) -> u32 {
     query_form::write(form, out)
 }
 
+// Where the worksheet ends that is read: where another file should be written, that stands behind it.
+fn plan_end(fields: &[u8], file: &[u8]) -> usize
+    ensures { λ r. ⌜ r ≤ length (now (file .entry)) ⌝ }
+{
+    let at = answer_at(6, fields, file);
+    if at == 0 { file.len() } else { at }
+}
+
 // A worksheet likewise, with the kind, the count of chains, of entries, and of terms and entries.
 fn write_plan(fields: &[u8], file: &[u8], out: &mut [u8]) -> u32 {
-    let reading = plan_form::read(file);
+    let end = plan_end(fields, file);
+    let reading = plan_form::read(&file[0..end]);
     let mut form = reading.form;
     form.kind = low(fields, 2);
     form.paths = low(fields, 4);
-    form.entries = low(fields, 6);
-    form.count = number(fields, 8) as usize;
+    form.entries = low(fields, 5);
+    form.count = number(fields, 6) as usize;
     plan_form::write(form, out)
+}
+
+// A question is fused.
+fn fuse_file(fields: &[u8], file: &[u8], out: &mut [u8]) -> u32 {
+    let end = answer_at(7, fields, file);
+    fusion::fuse(&file[0..end], out)
 }
 
 fn run(call: u8, rounds: u16, plan: &[u8], graph: &[u8], out: &mut [u8]) -> u32 {
@@ -193,6 +208,7 @@ fn write_file(kind: u8, fields: &[u8], file: &[u8], out: &mut [u8]) -> u32 {
         4 => write_graph(fields, file, out),
         5 => write_query(fields, file, out),
         6 => write_plan(fields, file, out),
+        7 => fuse_file(fields, file, out),
         _ => run_files(fields, file, out),
     }
 }
@@ -205,12 +221,12 @@ fn lend(kind: u8, fields: &[u8], file: &[u8], lent: usize, out: &mut [u8]) -> u3
     NOT_WRITTEN
 }
 
-// Where what should be written starts: a writer writes the file that was read; a run, the answer behind worksheet and map.
+// Where what should be written starts: a writer writes the file that was read; or, as fusing and runs, what stands behind.
 fn answer_at(kind: u8, fields: &[u8], file: &[u8]) -> usize
     ensures { λ r. ⌜ r ≤ length (now (file .entry)) ⌝ }
 {
     let end = number(fields, 8) as usize;
-    if kind < 7 {
+    if kind < 6 {
         return 0;
     }
     if end <= file.len() { end } else { file.len() }
@@ -272,7 +288,7 @@ fn more(x: u64) -> u64 {
 fn counted(score: Score, kind: u8) -> Score {
     let mut r = score;
     let k = wide(kind) as usize;
-    if k < 12 {
+    if k < 13 {
         r.kinds[k] = more(score.kinds[k]);
     }
     r.cases = more(score.cases);
@@ -293,7 +309,7 @@ fn scored(score: Score, c: Case, number: u8) -> Score {
 }
 
 fn run_all(s: &[u8]) -> Score {
-    let kinds = [0u64; 12];
+    let kinds = [0u64; 13];
     let mut score = Score {
         cases: 0,
         differences: 0,
@@ -318,20 +334,21 @@ fn print_cases(score: Score) {
     line(b"maps written ", score.kinds[4]);
     line(b"questions written ", score.kinds[5]);
     line(b"worksheets written ", score.kinds[6]);
+    line(b"questions fused ", score.kinds[7]);
     line(b"differences ", score.differences);
 }
 
 fn print_runs(score: Score) {
-    line(b"trials run ", score.kinds[7]);
-    line(b"traps run ", score.kinds[8]);
-    line(b"worksheets run ", score.kinds[9]);
-    line(b"refusals ", score.kinds[10]);
-    line(b"lent lengths ", score.kinds[11]);
+    line(b"trials run ", score.kinds[8]);
+    line(b"traps run ", score.kinds[9]);
+    line(b"worksheets run ", score.kinds[10]);
+    line(b"refusals ", score.kinds[11]);
+    line(b"lent lengths ", score.kinds[12]);
     line(b"differences ", score.differences);
 }
 
 fn main() {
-    let mut buf = [0u8; 131072];
+    let mut buf = [0u8; 262144];
     let n = load(b"cases.bin", &mut buf);
     print_cases(run_all(&buf[..n]));
     let m = load(b"runs.bin", &mut buf);

@@ -4,9 +4,9 @@
     python3 tests/make_cases.py          writes cases.bin and runs.bin in crates/cases/data, and crates/cases/stdout
     python3 tests/make_cases.py list     prints each case of cases.bin: index, kind, number, name, length, first bytes
 
-Each number here is written by hand from document 01 ("Numbers at the desk" and the order below that table) and, for conditions,
-document 02, a); none is what a reader said. In the file a case is a kind byte (its place in KINDS), the number, a 16-bit length and as many bytes; all
-integers low byte first. The bytes are those of the file to be judged, but for these kinds:
+Each number here is written by hand from document 01 ("Numbers at the desk" and the order below that table) and, for conditions
+and sets of starts, document 02, a) and b); none is what a reader said. In the file a case is a kind byte (its place in KINDS), the
+number, a 16-bit length and as many bytes; all integers low byte first. The bytes are those of the file to be judged, but for these kinds:
     answers   n (16 bits), kind, room (16 bits): the fields that the writer of answers judges
     .. written    five 16-bit fields, then a file: it is read, and its typed form is written, with other values of some fields,
               to a buffer of the length that the first field says. The others are, of a map, n and m; of a question, the
@@ -50,8 +50,23 @@ def chain(*keys, start=0):
 
 
 def slots(*keys, start=0):
-    """A chain as a worksheet has it: six bytes."""
+    """A chain as a worksheet of version 1 has it: six bytes."""
     return bytes([len(keys), *keys]).ljust(4, b"\0") + u16(start)
+
+
+def starts_of(*starts, count=None):
+    """A set: its count, which may be another one than that of the starts, and the starts."""
+    return bytes([len(starts) if count is None else count]) + b"".join(u16(start) for start in starts)
+
+
+def chain_set(*keys, starts=(0,), count=None):
+    """A chain from a set of starts as a question has it."""
+    return bytes([0x13, len(keys), *keys]) + starts_of(*starts, count=count)
+
+
+def set_slots(*keys, starts=(0,), count=None):
+    """A chain as a worksheet of version 2 has it; no start for anywhere."""
+    return bytes([len(keys), *keys]).ljust(4, b"\0") + starts_of(*starts, count=count)
 
 
 def tree(terms, plus, leaf):
@@ -65,12 +80,14 @@ def tree(terms, plus, leaf):
 ONE = u16(1)  # the version
 Q0, Q1 = b"LPQ" + ONE + b"\0", b"LPQ" + ONE + b"\1"  # a question of either kind; a term is due
 W0, W1 = b"LPW" + ONE + b"\0", b"LPW" + ONE + b"\1"  # a worksheet of either kind; the chain count is due
+V0, V1 = b"LPW" + u16(2) + b"\0", b"LPW" + u16(2) + b"\1"  # the same of version 2
 E0 = W0 + hexed("00 01 00")  # no chain, one entry of reduction byte 0; its expression is due
 E1 = W1 + hexed("00 00")  # no chain, no entry; the final expression is due
 LIT, PLUS, SUM = hexed("11 07000000"), hexed("12 03"), hexed("20 03")  # two place terms are due behind PLUS, one behind SUM
 RLIT, RPLUS = hexed("21 07000000"), hexed("22 03")  # two result terms are due behind RPLUS
 WHERE, SUM_WHERE = hexed("23 03"), b"\x83"  # a sum with a condition, in a question and as an entry's byte: condition and value are due
 MAP_A = map_file(4, [row(0, 1, 5, 10), row(0, 2, 2, 4), row(2, 1, 3, 20), row(1, 3, 0, 7)])
+LOW16, ODD16 = tuple(range(16)), tuple(range(1, 33, 2))  # sets of 16
 
 
 def place_tree(terms):
@@ -147,20 +164,23 @@ def map_rows():
 # Under 5 bytes 1, then 2, 3, then left to right: for a term 1, 12, 11, 9, then each field, missing (1) before wrong.
 
 
-def headers(mark, behind):
+def headers(mark, behind, version=1, wrong_version=2):
     """`behind` makes an accepted file of a header."""
+    right = u16(version)
     yield 1, "empty", b""
     yield 1, "4 bytes, wrong letters", b"XYZ\2"
     for wrong in (b"l" + mark[1:], mark[:1] + b"Q" + mark[2:], mark[:2] + b"X", b"LPM"):
-        yield 2, f"letters {wrong}", wrong + ONE + behind
-    yield 2, "letters LPM, and version 2, nothing behind", b"LPM" + u16(2)
-    for version in (0, 2, 256, 257):
-        yield 3, f"version {version}", mark + u16(version) + behind
-    yield 3, "version 2, nothing behind", mark + u16(2)
-    yield 3, "version 2, and kind 2", mark + u16(2) + b"\2" + behind[1:]
+        yield 2, f"letters {wrong}", wrong + right + behind
+    yield 2, f"letters LPM, and version {wrong_version}, nothing behind", b"LPM" + u16(wrong_version)
+    for other in (0, wrong_version, 255, 256, 256 + version, 258, 512 + version, 65535):
+        yield 3, f"version {other}", mark + u16(other) + behind
+    yield 3, f"version {wrong_version}, nothing behind", mark + u16(wrong_version)
+    yield 3, f"version {wrong_version}, and kind 2", mark + u16(wrong_version) + b"\2" + behind[1:]
+    yield 1, f"version {version}, nothing behind", mark + right
+    yield 0, f"version {version}", mark + right + behind
     for kind in (b"\2", b"\xff"):
-        yield 9, f"kind {kind[0]}", mark + ONE + kind + behind[1:]
-    yield 9, "kind 2, nothing behind", mark + ONE + b"\2"
+        yield 9, f"kind {kind[0]}", mark + right + kind + behind[1:]
+    yield 9, "kind 2, nothing behind", mark + right + b"\2"
 
 
 def cuts(whole):
@@ -172,7 +192,7 @@ def cuts(whole):
 
 def term_bytes(before, legal):
     """Each byte that starts some term, and some that start none, where a term is due."""
-    for tag in (0x00, 0x10, 0x11, 0x12, 0x13, 0x20, 0x21, 0x22, 0x23, 0x24, 0x30, 0x31, 0x32, 0x81, 0xFF):
+    for tag in (0x00, 0x10, 0x11, 0x12, 0x13, 0x14, 0x20, 0x21, 0x22, 0x23, 0x24, 0x30, 0x31, 0x32, 0x81, 0xFF):
         if tag not in legal:
             yield 9, f"term byte {tag:#04x}", before + bytes([tag]) + LIT[1:]
 
@@ -323,15 +343,17 @@ def question_conditions():
 def condition_terms():
     """What may stand as condition and as value: place terms, each judged in its turn."""
     for where, before, behind in (("condition", Q1 + WHERE, LIT), ("value", Q1 + WHERE + LIT, b"")):
-        for name, term in (("chain", chain(2, 5, start=65535)), ("literal", LIT), ("operator", PLUS + LIT + chain(1))):
+        for name, term in (("chain", chain(2, 5, start=65535)), ("chain from a set", chain_set(2, 5, starts=(0, 255))), ("literal", LIT),
+                           ("operator", PLUS + LIT + chain(1))):
             yield 0, f"a {name} as {where}", before + term + behind
         for name, term in (("reduction", SUM + LIT), ("reduction with a condition", WHERE + LIT * 2), ("result literal", RLIT),
                            ("result operator", RPLUS + RLIT * 2), ("worksheet's chain", hexed("30 00")), ("worksheet's entry", hexed("31 00"))):
             yield 9, f"a {name} as {where}", before + term + behind
             yield 9, f"a {name} within the {where}", before + PLUS + LIT + term + behind
-        for tag in (0x00, 0x13, 0x24, 0x32, 0x83, 0xFF):
+        for tag in (0x00, 0x14, 0x24, 0x32, 0x83, 0xFF):
             yield 9, f"term byte {tag:#04x} as {where}", before + bytes([tag]) + LIT[1:] + behind
         yield from due(13, f"start 256 in the {where}", before + hexed("10 01 01"), u16(256), behind)
+        yield from due(17, f"starts 2,2 in the {where}", before + hexed("13 01 01 02 0200"), u16(2), behind)
         yield 10, f"keys 5,2 in the {where}", before + chain(5, 2) + behind
         yield 9, f"operator 12 in the {where}", before + hexed("12 0c") + LIT * 2 + behind
     yield 9, "a wrong byte for the condition, no value", Q1 + WHERE + b"\xff"
@@ -416,15 +438,127 @@ def condition_limits():
                                                       + WHERE)
 
 
+def set_starts(name, before, behind):
+    """Starts of a set where its count is due, each judged in its turn: missing 1, then 13, then 17."""
+    for starts in ((0,), (255,), (0, 1), (0, 255), (254, 255), (0, 2, 255), LOW16, ODD16, tuple(range(240, 256))):
+        yield 0, f"{name}, starts {starts}", before + starts_of(*starts) + behind
+    for start in (256, 257, 511, 32768, 65280, 65534, 65535):
+        for ahead in ((), (0,), (255,), LOW16[:15]):
+            count = bytes([len(ahead) + 1])
+            yield from due(13, f"{name}, start {start} behind {ahead}", before + count + starts_of(*ahead)[1:], u16(start), behind)
+    for ahead, start in (((0,), 0), ((255,), 255), ((1,), 0), ((255,), 0), ((255,), 254), ((0, 5), 5), ((0, 5), 3), ((0, 5), 0), (LOW16[:8], 7),
+                         (LOW16[:8], 0), (LOW16[:15], 14), (LOW16[:15], 13), (ODD16[:15], 1)):
+        count = bytes([len(ahead) + 1])
+        yield from due(17, f"{name}, start {start} behind {ahead}", before + count + starts_of(*ahead)[1:], u16(start), behind)
+    for number, starts in ((17, (5, 5, 256)), (17, (5, 4, 65535)), (13, (256, 5, 5)), (13, (5, 256, 5)), (13, (5, 65535, 0)), (13, (255, 256)), (13, (5, 261)),
+                           (13, (65535, 65535)), (17, (2, 1, 0)), (17, (0, 2, 1, 3)), (17, (0, 0, 0, 0))):
+        yield number, f"{name}, starts {starts}", before + starts_of(*starts) + behind
+        yield number, f"{name}, starts {starts}, nothing behind", before + starts_of(*starts)
+    for starts in ((5, 5), (256,), (0, 3, 2)):  # a fault, and a fourth start missing
+        number = 13 if 256 in starts else 17
+        yield number, f"{name}, starts {starts}, but a count of 4", before + starts_of(*starts, count=4)
+
+
+def question_sets():
+    """A place term 0x13: key count, keys, the set's count, its starts, then 14."""
+    yield from cuts(Q0 + chain_set(2, starts=(0, 2)))
+    yield from cuts(Q1 + SUM + PLUS + chain_set(1, 2, 5, starts=(0, 2, 255)) + chain_set(2))
+    yield from set_starts("0x13", Q0 + hexed("13 01 02"), b"")
+    for count in range(1, 17):
+        yield 0, f"0x13, {count} starts", Q0 + chain_set(2, 6, starts=ODD16[:count])
+    yield 1, "0x13, 16 starts of which one is missing", Q0 + chain_set(2, starts=LOW16[:15], count=16)
+    yield 6, "0x13, a start more than its count", Q0 + chain_set(2, starts=LOW16, count=15)
+    for count in (0, 17, 18, 32, 128, 255):
+        yield 9, f"0x13, set count {count}", Q0 + chain_set(2, starts=range(17), count=count)
+        yield 9, f"0x13, set count {count}, nothing behind", Q0 + hexed("13 01 02") + bytes([count])
+        yield 9, f"0x13, set count {count}, and starts 256,0", Q0 + chain_set(2, starts=(256, 0), count=count)
+    for key in (1, 2, 3, 4, 5, 6):
+        yield 0, f"0x13, key {key}", Q0 + chain_set(key, starts=(0, 2))
+    for number, keys in ((0, (2, 5)), (0, (4, 3, 6)), (9, (0,)), (9, (7,)), (9, (1, 7)), (9, (7, 5)), (9, (1, 2, 0)), (10, (5, 2)), (10, (6, 6)),
+                         (10, (1, 5, 7))):
+        yield number, f"0x13, keys {keys}", Q0 + chain_set(*keys, starts=(0, 2))
+        if number:
+            for starts, count in (((0, 2), 0), ((0,), 17), ((256,), 1), ((2, 2), 2), ((65535,), 1)):
+                yield number, f"0x13, keys {keys}, and set count {count}, starts {starts}", Q0 + chain_set(*keys, starts=starts, count=count)
+    for number, text in ((1, "13"), (1, "13 01"), (1, "13 01 02"), (10, "13 02 05"), (9, "13 02 07"), (9, "13 00"), (9, "13 04"), (9, "13 ff")):
+        yield number, f"0x13 cut: {text}", Q0 + hexed(text)
+    for count in (0, 4, 255):
+        yield 9, f"0x13, key count {count}, and keys 5,7, set count 0", Q0 + bytes([0x13, count, 5, 7, 1, 0, 0, 0])
+    yield 6, "0x13, and a byte left over", Q0 + chain_set(2, starts=(0, 2)) + b"\0"
+    yield 6, "0x13, and a term left over", Q0 + chain_set(2, starts=(0, 2)) * 2
+    yield 13, "0x13, start 256, and a byte left over", Q0 + chain_set(2, starts=(0, 256)) + b"\0"
+    yield 17, "0x13, starts 1,1, and a second term of a wrong byte", Q0 + PLUS + chain_set(2, starts=(1, 1)) + b"\xff"
+    yield 9, "a wrong byte, and 0x13 of starts 1,1", Q0 + PLUS + b"\xff" + chain_set(2, starts=(1, 1))
+    yield 3, "version 2, and a set", b"LPQ" + u16(2) + b"\0" + chain_set(2, starts=(0, 2))
+    for name, before in (("as a result term", Q1), ("right of a result term", Q1 + RPLUS + RLIT)):
+        yield 9, f"0x13 {name}", before + chain_set(2, starts=(0, 2))
+
+
+def set_chains():
+    """A set of one is the same chain as 0x10 with that start; sets are the same that have the same starts."""
+    eight = [chain(1, start=i) for i in range(8)]
+    ninth = Q0 + PLUS * 8 + b"".join(eight)  # a ninth is due
+    for i in (0, 3, 7):
+        yield 0, f"a set of one for a ninth, equal to number {i}", ninth + chain_set(1, starts=(i,))
+    for keys, starts in (((1,), (8,)), ((1,), (255,)), ((2,), (0,)), ((1, 1), (0,)), ((1,), (0, 1)), ((1,), (0, 8)), ((1,), LOW16), ((1, 1, 1), (7,))):
+        yield 14, f"a ninth, keys {keys}, starts {starts}", ninth + chain_set(*keys, starts=starts)
+    yield from due(14, "a ninth from a set, and a byte left over", ninth + hexed("13 01 01 02 0000"), u16(1), b"\0")
+    yield 14, "a ninth from a set, and a second term of a wrong byte", Q0 + PLUS * 9 + b"".join(eight) + chain_set(1, starts=(0, 1)) + b"\xff"
+    for number, name, term in (
+        (9, "set count 0", chain_set(1, starts=())), (9, "set count 17", chain_set(1, starts=range(17))),
+        (13, "start 256", chain_set(1, starts=(0, 256))), (13, "start 65,535", chain_set(1, starts=(65535,))),
+        (17, "starts 1,1", chain_set(1, starts=(1, 1))), (10, "keys 5,2", chain_set(5, 2, starts=(0, 1))),
+        (1, "a start missing", chain_set(1, starts=(0,), count=2)),
+    ):
+        yield number, f"a ninth from a set, {name}", ninth + term
+    sets = [chain_set(1, starts=starts) for starts in ((0, 1), (0, 2), (1, 2), (0, 1, 2), (0,), ODD16, ODD16[:15], LOW16)]
+    full = Q0 + PLUS * 8 + b"".join(sets)  # a ninth is due
+    yield 0, "8 sets", Q0 + PLUS * 7 + b"".join(sets)
+    for i in range(8):
+        yield 0, f"8 sets, a ninth equal to number {i}", full + sets[i]
+    yield 0, "8 sets, a ninth 0x10 equal to a set of one", full + chain(1)
+    for start in (1, 2, 65535):
+        yield 14, f"8 sets, a ninth 0x10 from {start}", full + chain(1, start=start)
+    for starts in ((1,), (2,), (0, 3), (0, 1, 3), (0, 1, 2, 3), ODD16[:8], ODD16[1:], ODD16[:15] + (32,), ODD16[:8] + (16,) + ODD16[9:], LOW16[:15]):
+        yield 14, f"8 sets, a ninth from {starts}", full + chain_set(1, starts=starts)
+    yield 14, "8 sets, a ninth of other keys", full + chain_set(2, starts=(0, 1))
+    anywhere = Q0 + PLUS * 8 + chain(1, start=65535) + b"".join(eight[1:])  # a ninth is due
+    yield 14, "anywhere among the eight, a ninth set of start 0", anywhere + chain_set(1)
+    yield 14, "anywhere among the eight, a ninth set of start 255", anywhere + chain_set(1, starts=(255,))
+    yield 0, "a set of one, then 0x10, then eight in all", Q0 + PLUS * 8 + chain_set(1) + b"".join(eight)
+    yield 0, "a set of one each, then 0x10 of each", Q0 + PLUS * 15 + b"".join(chain_set(1, starts=(i,)) for i in range(8)) + b"".join(eight)
+
+
+def set_limits():
+    """0x13 is one term, at the depth at which it stands. The longest question has 32 of the longest."""
+    one = chain_set(2, starts=(0, 2))
+    yield 0, "0x13 at depth 16", Q0 + PLUS * 15 + one * 16
+    yield from due(11, "0x13 at depth 17", Q0 + PLUS * 16, b"\x13", one[1:])
+    yield 11, "0x13 at depth 17 below a reduction", Q1 + SUM + PLUS * 15 + one
+    yield 0, "63 terms, each leaf 0x13", Q0 + tree(63, PLUS, one)
+    yield 0, "a condition and a value of 0x13, 63 terms", Q1 + WHERE + tree(31, PLUS, one) * 2
+    yield from due(12, "term 65 is 0x13", Q0 + PLUS + tree(63, PLUS, one), b"\x13", one[1:])
+    longest = Q1 + SUM + tree(63, PLUS, chain_set(2, 2, 5, starts=LOW16))
+    assert len(longest) == 1286
+    yield 0, "the longest question", longest
+    yield 1, "the longest question, its last byte missing", longest[:-1]
+    yield 6, "the longest question, a byte left over", longest + b"\0"
+    yield 17, "the longest question, its last start as the one before", longest[:-2] + u16(14)
+    yield 13, "the longest question, its last start 271", longest[:-2] + u16(271)
+    eight = b"".join(chain_set(2, 2, 5, starts=range(i, i + 16)) for i in range(8))
+    yield 0, "32 chains, 8 different ones of 16 starts", Q1 + SUM + PLUS * 3 + (PLUS * 7 + eight) * 4
+    yield 14, "32 chains, the last a ninth", Q1 + SUM + PLUS * 3 + (PLUS * 7 + eight) * 3 + PLUS * 7 + eight[:-38] + chain_set(2, 2, 5, starts=range(8, 24))
+
+
 def questions():
     yield 0, "marked: max over the places of key 1 from 0", hexed("4C5051010001 2002 1001010000")
     yield 0, "first trial: key 2 from 0", hexed("4C5051010000 1001020000")
     yield from headers(b"LPQ", b"\0" + LIT)
     yield from cuts(Q1 + RPLUS + SUM + PLUS + chain(2, 5, start=65535) + LIT + RLIT)
     for part in (question_keys, question_starts, question_chains, question_reductions, question_limits, question_conditions, condition_terms,
-                 condition_reductions, condition_chains, condition_limits):
+                 condition_reductions, condition_chains, condition_limits, question_sets, set_chains, set_limits):
         yield from part()
-    for before, plus, leaf, legal in ((Q0, PLUS, LIT, (0x10, 0x11, 0x12)), (Q1, RPLUS, RLIT, (0x20, 0x21, 0x22, 0x23))):
+    for before, plus, leaf, legal in ((Q0, PLUS, LIT, (0x10, 0x11, 0x12, 0x13)), (Q1, RPLUS, RLIT, (0x20, 0x21, 0x22, 0x23))):
         yield from term_bytes(before, legal)
         yield from terms(before, plus, leaf)
         yield from limits(before, plus, leaf)
@@ -567,7 +701,8 @@ def sheet_conditions():
     yield 0, "8 entries with conditions", W1 + hexed("00 08") + (SUM_WHERE + LIT * 2) * 8 + hexed("31 07")
     yield 14, "9 entries with conditions", W1 + hexed("00 09") + (SUM_WHERE + LIT * 2) * 9 + hexed("31 07")
     yield 6, "a byte left over", one + SUM_WHERE + LIT * 2 + RLIT + b"\0"
-    yield 3, "version 2, and a condition", b"LPW" + u16(2) + hexed("01 00 01") + SUM_WHERE + LIT * 2 + RLIT
+    yield 0, "version 2, and a condition", V1 + hexed("00 01") + SUM_WHERE + LIT * 2 + RLIT
+    yield 3, "version 3, and a condition", b"LPW" + u16(3) + hexed("01 00 01") + SUM_WHERE + LIT * 2 + RLIT
     for where, before, behind in (("condition", SUM_WHERE, LIT), ("value", SUM_WHERE + LIT, b"")):
         for tag in (0x00, 0x03, 0x10, 0x13, 0x20, 0x21, 0x22, 0x23, 0x31, 0x32, 0x83, 0xFF):
             yield 9, f"term byte {tag:#04x} as {where}", one + before + bytes([tag]) + LIT[1:] + behind + RLIT
@@ -613,13 +748,84 @@ def sheet_condition_limits():
     yield 12, "term 65 at depth 17 of a value", wide + (PLUS + LIT) * 3 + PLUS * 13 + b"\x11"
 
 
+def sheet_sets():
+    """Worksheets of version 2: a chain has a set's count, 0 for anywhere, and its starts behind the key bytes."""
+    behind = hexed("01 00 30 00")  # one entry: chain 0
+    second = V0 + b"\2" + set_slots(2, 5, starts=(0, 1, 7))  # a second chain is due
+    yield from headers(b"LPW", hexed("00 00 01 00") + LIT, 2, 3)
+    yield from headers(b"LPW", hexed("00 01") + set_slots(2, starts=(0, 2)) + behind, 2, 3)
+    yield from cuts(V0 + b"\1" + set_slots(2, starts=(0, 2)) + behind)
+    yield from cuts(V1 + b"\3" + set_slots(2, 5, starts=()) + set_slots(1, 2, 6, starts=(0, 128, 255)) + set_slots(6)
+                    + hexed("02 03 30 00 85 30 01 30 02") + RPLUS + hexed("31 01") + RLIT)
+    yield from set_starts("version 2", V0 + b"\1" + hexed("01 02 00 00"), behind)
+    yield from set_starts("version 2, the second chain", second + hexed("03 01 02 06"), behind)
+    for count in (0, 1, 2, 8):
+        for name, starts in (("anywhere", ()), ("one start", (255,)), ("two starts", (0, 255)), ("16 starts", ODD16)):
+            yield 0, f"version 2, {count} chains from {name}", V0 + bytes([count]) + set_slots(1, starts=starts) * count + hexed("01 00") + LIT
+    for count in (9, 255):
+        yield 14, f"version 2, {count} chains", V0 + bytes([count]) + set_slots(1) * 9 + behind
+        yield 14, f"version 2, {count} chains, nothing behind", V0 + bytes([count])
+    for count in range(17):
+        yield 0, f"version 2, set count {count}", second + set_slots(4, starts=ODD16[:count]) + behind
+    last = V0 + b"\x08" + set_slots(1, starts=(0, 1)) * 7  # an eighth chain is due
+    for count in (17, 18, 32, 128, 255):
+        yield 9, f"version 2, set count {count}", second + set_slots(4, starts=range(17), count=count) + behind
+        yield 9, f"version 2, set count {count}, nothing behind", second + set_slots(4, starts=(), count=count)
+        yield 9, f"version 2, set count {count} of the last of 8", last + set_slots(1, starts=(256, 0), count=count) + behind
+    yield 17, "version 2, starts 1,1 of the last of 8", last + set_slots(1, starts=(1, 1)) + behind
+    yield 17, "version 2, starts 1,1, and the next chain's keys", V0 + b"\2" + set_slots(1, starts=(1, 1)) + set_slots(7) + behind
+    yield 9, "version 2, key 7, and the next chain's starts", V0 + b"\2" + set_slots(7) + set_slots(1, starts=(1, 1)) + behind
+    yield 14, "version 2, 9 chains, and starts 1,1", V0 + b"\x09" + set_slots(1, starts=(1, 1)) * 9 + behind
+    yield 13, "version 2, 65,535 in a set of one", second + set_slots(1, starts=(65535,)) + behind
+    yield 9, "version 2, anywhere as in version 1", second + slots(1, start=65535) + behind
+    for number, text, name in (
+        (9, "00 00 00 00", "key count 0"), (9, "04 01 01 01", "key count 4"), (9, "ff 05 07 07", "key count 255"), (9, "01 00 00 00", "key 0"),
+        (9, "01 07 01 01", "key 7, and fillers"), (9, "02 01 00 00", "keys 1,0"), (9, "03 01 02 07", "keys 1,2,7"), (10, "02 05 02 00", "keys 5,2"),
+        (10, "02 05 00 00", "keys 5,0"), (10, "03 01 06 02", "keys 1,6,2"), (9, "01 01 02 00", "1 key, second key byte 2"),
+        (9, "01 01 00 01", "1 key, third key byte 1"), (9, "02 01 05 02", "2 keys, third key byte 2"),
+    ):
+        for count, starts in ((2, (0, 2)), (0, ()), (17, (0,)), (1, (256,)), (2, (1, 1))):
+            yield number, f"version 2, {name}, set count {count}, starts {starts}", second + hexed(text) + starts_of(*starts, count=count) + behind
+        yield number, f"version 2, {name}, nothing behind", second + hexed(text)
+
+
+def sheet_set_files():
+    """Entries and indexes behind chains of any length; version 1 is read as it was."""
+    two = V1 + b"\2" + set_slots(1, starts=ODD16) + set_slots(2, starts=())  # two chains; the entry count is due
+    yield 0, "version 2, chain 1 of 2, entry 0 of 1", two + hexed("01 03 30 01 31 00")
+    yield 16, "version 2, chain 2 of 2", two + hexed("01 03 30 02 31 00")
+    yield 16, "version 2, entry 1 of 1", two + hexed("01 03 30 01 31 01")
+    yield 14, "version 2, 9 entries", two + hexed("09") + hexed("03 30 01") * 9 + hexed("31 00")
+    yield 9, "version 2, reduction 6", two + hexed("01 06 30 01 31 00")
+    yield 9, "version 2, a question's set in an entry", two + hexed("01 03") + chain_set(1, starts=(0, 2)) + hexed("31 00")
+    yield 6, "version 2, a byte left over", two + hexed("01 03 30 01 31 00 00")
+    yield 6, "version 2, kind 0, a start left over", V0 + b"\1" + set_slots(2, starts=(0, 2)) + hexed("01 00 30 00") + u16(3)
+    yield 9, "version 2, kind 0 with 2 entries", V0 + b"\1" + set_slots(2, starts=(0, 2)) + hexed("02 00 30 00 00 30 00")
+    yield 1, "version 2, no entry count", V0 + b"\1" + set_slots(2, starts=(0, 2))
+    yield 9, "version 2, kind 0, a start more than its count", V0 + b"\1" + set_slots(2, starts=(0, 2, 3), count=2) + hexed("01 00 30 00")
+    yield 9, "version 2, a start less than its count", V0 + b"\1" + set_slots(2, starts=(0,), count=2) + hexed("01 00 30 00")
+    # Chains of the other version's bytes. In version 2 the low byte of a start is a set count: of start 0 that is anywhere, and the entry count is 0; of 1
+    # and 2 the first start is 0x0100; of 255 and 65,535 the set count is 255. In version 1 the set {0, 2} is start 2, and the entry count is 0; the set {1}
+    # is start 257.
+    for number, start in ((9, 0), (13, 1), (13, 2), (9, 255), (9, 65535)):
+        yield number, f"version 2, a chain of version 1 from {start}", V0 + b"\1" + slots(2, start=start) + hexed("01 00 30 00")
+    yield 9, "version 1, a chain of version 2 from 0,2", W0 + b"\1" + set_slots(2, starts=(0, 2)) + hexed("01 00 30 00")
+    yield 13, "version 1, a chain of version 2 from 1", W0 + b"\1" + set_slots(2, starts=(1,)) + hexed("01 00 30 00")
+    full = [SUM_WHERE + LIT * 2] * 7 + [b"\3" + LIT]
+    longest = V1 + b"\x08" + set_slots(2, 2, 5, starts=ODD16) * 8 + b"\x08" + b"".join(full) + tree(49, RPLUS, RLIT)
+    assert len(longest) == 312 + 8 * 31
+    yield 0, "the longest worksheet", longest
+    yield 1, "the longest worksheet, its last byte missing", longest[:-1]
+    yield 6, "the longest worksheet, a byte left over", longest + b"\0"
+
+
 def sheets():
     yield 0, "marked: what the marked question fuses to", hexed("4C5057010001 01 010100000000 01 02 3000 3100")
-    yield from headers(b"LPW", hexed("00 00 01 00") + LIT)
+    yield from headers(b"LPW", hexed("00 00 01 00") + LIT, 1, 3)
     yield 9, "kind 2, and 9 chains", b"LPW" + ONE + hexed("02 09")
     yield from cuts(W1 + b"\1" + slots(2, 5, start=65535) + hexed("02 03 30 00 05") + PLUS + hexed("30 00") + LIT
                     + RPLUS + hexed("31 01") + RLIT)
-    for part in (sheet_chains, sheet_entries, sheet_indexes, sheet_limits, sheet_conditions, sheet_condition_limits):
+    for part in (sheet_chains, sheet_entries, sheet_indexes, sheet_limits, sheet_conditions, sheet_condition_limits, sheet_sets, sheet_set_files):
         yield from part()
     for before, plus, leaf, legal in ((E0, PLUS, LIT, (0x11, 0x12, 0x30)), (E1, RPLUS, RLIT, (0x21, 0x22, 0x31))):
         yield from term_bytes(before, legal)
@@ -694,7 +900,13 @@ def questions_written():
     mixed = Q1 + hexed("22 06 23 01") + chain(1, 2, 5, start=255) + hexed("11 ff ff ff ff 22 04 20 05") + chain(6, start=65535) + hexed("23 05") + LIT * 2
     eight = Q1 + RPLUS * 7 + (WHERE + LIT * 2) * 8
     full_where = Q1 + RPLUS + SUM + place_tree(31) + WHERE + place_tree(15) * 2
+    sets = Q1 + hexed("22 06 23 03") + chain_set(2, starts=(0, 2)) + chain_set(1, 2, 6, starts=ODD16) + SUM + chain(2)
+    longest = Q1 + SUM + tree(63, PLUS, chain_set(2, 2, 5, starts=LOW16))
     for name, whole, kind, count in (
+        ("a set of one, which stays one", Q0 + chain_set(2), 0, 1), ("0x10 and a set of one", Q0 + PLUS + chain(2) + chain_set(2), 0, 3),
+        ("a set of two", Q0 + chain_set(2, starts=(0, 2)), 0, 1), ("a set of 16", Q0 + chain_set(4, 3, 5, starts=tuple(range(240, 256))), 0, 1),
+        ("a set of eight", Q0 + chain_set(6, starts=ODD16[:8]), 0, 1), ("a set of nine", Q0 + chain_set(6, starts=ODD16[:9]), 0, 1),
+        ("sets in condition and value", sets, 1, 6), ("the longest question", longest, 1, 64),
         ("a chain", one, 0, 1), ("three terms", two, 0, 3), ("a result", result, 1, 4), ("63 terms", full, 0, 63), ("a condition", where, 1, 5),
         ("two conditions", mixed, 1, 10), ("eight conditions", eight, 1, 31), ("64 terms, a condition among them", full_where, 1, 64),
     ):
@@ -707,6 +919,9 @@ def questions_written():
         (9, "kind 0, a condition", where, 0, 5), (1, "no condition", where, 1, 1), (1, "part of a condition", where, 1, 3), (1, "no value", where, 1, 4),
         (6, "a term behind a value", where, 1, 6), (1, "the last value missing", mixed, 1, 9), (1, "the last condition missing", mixed, 1, 8),
         (6, "a term behind 64", full_where, 1, 65), (6, "all there are, behind eight conditions", eight, 1, 65535),
+        (9, "kind 2, sets", sets, 2, 6), (9, "kind 0, sets", sets, 0, 6), (1, "sets, the last term missing", sets, 1, 5),
+        (1, "sets, the value missing", sets, 1, 3), (6, "a term behind sets", sets, 1, 7), (1, "the longest question, a term too few", longest, 1, 63),
+        (6, "the longest question, a term behind", longest, 1, 65),
     ):
         yield from changed(number, name, whole, kind, count)
 
@@ -748,6 +963,50 @@ def worksheets_written():
         (1, "no final expression behind 63 terms and eight entries", full, (1, 0, 8, 71)),
     ):
         yield from changed(number, name, whole, *form_fields(whole, *fields))
+    yield from versions_written()
+
+
+def versions_written():
+    """A writer keeps the version it is handed. What that version has no bytes for is 3, as a version that there is not, ahead of everything else."""
+    behind = hexed("01 00 30 00")  # one entry: chain 0
+    two = V0 + b"\1" + set_slots(2, starts=(0, 2)) + behind
+    single, anywhere = V0 + b"\1" + set_slots(2, starts=(3,)) + behind, V0 + b"\1" + set_slots(2, starts=()) + behind
+    none = V1 + hexed("00 00 21 07 00 00 00")
+    mixed = V1 + b"\3" + set_slots(1, 2, 5, starts=()) + set_slots(6, starts=(255,)) + set_slots(2, starts=ODD16) + hexed("02 05 30 00 81 30 01 30 02") \
+        + RPLUS + hexed("31 00 31 01")
+    longest = V1 + b"\x08" + set_slots(2, 2, 5, starts=ODD16) * 8 + b"\x08" + (SUM_WHERE + LIT * 2) * 7 + b"\3" + LIT + tree(49, RPLUS, RLIT)
+    for name, whole, fields in (("a set of two", two, (0, 1, 1, 2)), ("a single start", single, (0, 1, 1, 2)), ("anywhere", anywhere, (0, 1, 1, 2)),
+                                ("no chain", none, (1, 0, 0, 1)), ("three chains", mixed, (1, 3, 2, 8)), ("the longest worksheet", longest, (1, 8, 8, 72))):
+        yield from lengths(f"version 2, {name}", whole, *form_fields(whole, *fields))
+    # The typed form with other fields, in its own version.
+    for number, name, whole, fields in (
+        (9, "kind 2", two, (2, 1, 1, 2)), (14, "nine chains", mixed, (1, 9, 2, 8)), (9, "four chains, of which the last has no key", mixed, (1, 4, 2, 8)),
+        (16, "two chains", mixed, (1, 2, 2, 8)), (14, "nine entries", mixed, (1, 3, 9, 8)), (9, "two entries of kind 0", two, (0, 1, 2, 2)),
+        (1, "no expression", two, (0, 1, 1, 1)), (6, "a node behind the last", two, (0, 1, 1, 3)), (16, "no chain", two, (0, 0, 1, 2)),
+    ):
+        yield from changed(number, f"version 2, {name}", whole, *form_fields(whole, *fields))
+    # In another version.
+    for version in (0, 1, 3, 255):
+        for name, whole, fields in (("a set of two", two, (0, 1, 1, 2)), ("three chains", mixed, (1, 3, 2, 8)), ("kind 2", two, (2, 1, 1, 2)),
+                                    ("nine chains", mixed, (1, 9, 2, 8)), ("nine entries", mixed, (1, 3, 9, 8)), ("no node", two, (0, 1, 1, 0)),
+                                    ("a node too many", two, (0, 1, 1, 3)), ("the longest worksheet", longest, (1, 8, 8, 72))):
+            yield from changed(3, f"in version {version}, {name}", whole, *form_fields(whole, *fields, version=version))
+    first = W0 + b"\1" + slots(2, start=3) + behind
+    for version in (0, 3):
+        for whole in (first, single):
+            yield from changed(3, f"a single start in version {version}", whole, *form_fields(whole, 0, 1, 1, 2, version=version))
+            yield from changed(3, f"kind 2 in version {version}", whole, *form_fields(whole, 2, 1, 1, 2, version=version))
+    # The set of 16 is the third chain: not handed over, it is not in the way of version 1.
+    yield from changed(16, "in version 1, the two chains before a set", mixed, *form_fields(mixed, 1, 2, 2, 8, version=1))
+    both = V1 + b"\2" + set_slots(1, starts=()) + set_slots(6, starts=(255,)) + hexed("01 83 30 00 30 01 31 00")
+    for name, whole, other, fields in (
+        ("a single start", first, single, (0, 1, 1, 2)), ("anywhere", W0 + b"\1" + slots(2, start=65535) + behind, anywhere, (0, 1, 1, 2)),
+        ("no chain", W1 + hexed("00 00 21 07 00 00 00"), none, (1, 0, 0, 1)),
+        ("two chains", W1 + b"\2" + slots(1, start=65535) + slots(6, start=255) + hexed("01 83 30 00 30 01 31 00"), both, (1, 2, 1, 4)),
+    ):
+        for read, to in ((whole, other), (other, whole)):
+            for number, lent in ((0, len(to)), (0, len(to) + 1), (15, len(to) - 1), (15, 0)):
+                yield written(number, f"{name}, from version {read[3]} to {to[3]}", read + to, lent, *form_fields(read, *fields, version=to[3], end=len(read)))
 
 
 # ------------------------------------------------------------------------------------------------ questions fused
@@ -771,9 +1030,48 @@ def questions_fused():
     yield from fused("reductions in order of writing, equal ones apart, one with a condition",
                      Q1 + RPLUS + SUM + chain(1) + RPLUS + WHERE + chain(2) + chain(1) + SUM + chain(1),
                      W1 + b"\2" + slots(1) + slots(2) + hexed("03 03 30 00 83 30 01 30 00 03 30 00 22 03 31 00 22 03 31 01 31 02"))
-    for number, name, question in ((10, "keys 5,2", Q0 + chain(5, 2)), (1, "nothing", b""), (6, "a byte left over", Q0 + LIT + b"\0")):
+    yield from sets_fused()
+    for number, name, question in ((10, "keys 5,2", Q0 + chain(5, 2)), (1, "nothing", b""), (6, "a byte left over", Q0 + LIT + b"\0"),
+                                   (17, "starts 2,2", Q0 + chain_set(2, starts=(2, 2))), (13, "65,535 in a set", Q0 + chain_set(2, starts=(0, 65535))),
+                                   (9, "set count 0", Q0 + chain_set(2, starts=())), (3, "version 2", b"LPQ" + u16(2) + Q0[5:] + chain_set(2, starts=(0, 2)))):
         for lent in (0, 9000):
             yield written(number, name, question, lent, 0, 0, 0, len(question))
+
+
+def sets_fused():
+    """Version 2 where some set has two or more, else version 1. A set of one and 0x10 with that start are one chain."""
+    behind = hexed("01 00 30 00")  # one entry: chain 0
+    one = W0 + b"\1" + slots(2, start=3) + behind
+    yield from fused("a set of one", Q0 + chain_set(2, starts=(3,)), one)
+    yield from fused("0x10 with that start", Q0 + chain(2, start=3), one)
+    twice = W0 + b"\1" + slots(2, start=3) + hexed("01 00 12 03 30 00 30 00")
+    yield from fused("0x10, then a set of one", Q0 + PLUS + chain(2, start=3) + chain_set(2, starts=(3,)), twice)
+    yield from fused("a set of one, then 0x10", Q0 + PLUS + chain_set(2, starts=(3,)) + chain(2, start=3), twice)
+    yield from fused("sets of one and anywhere", Q0 + PLUS + chain_set(2, starts=(255,)) + PLUS + chain(2, start=65535) + chain_set(2, starts=(0,)),
+                     W0 + b"\3" + slots(2, start=255) + slots(2, start=65535) + slots(2) + hexed("01 00 12 03 30 00 12 03 30 01 30 02"))
+    yield from fused("a set of two", Q0 + chain_set(2, starts=(0, 2)), hexed("4C5057020000 01 01020000 02 0000 0200 01 00 3000"))
+    yield from fused("a set of two twice", Q0 + PLUS + chain_set(2, starts=(0, 2)) * 2,
+                     V0 + b"\1" + set_slots(2, starts=(0, 2)) + hexed("01 00 12 03 30 00 30 00"))
+    yield from fused("a set of 16", Q0 + chain_set(1, 2, 5, starts=ODD16), V0 + b"\1" + set_slots(1, 2, 5, starts=ODD16) + behind)
+    yield from fused("single starts and anywhere beside a set", Q0 + PLUS * 4 + chain(2, start=3) + chain(6, start=65535) + chain_set(2, starts=(3,))
+                     + chain_set(2, starts=(3, 255)) + chain_set(6, starts=(0,)),
+                     V0 + b"\4" + set_slots(2, starts=(3,)) + set_slots(6, starts=()) + set_slots(2, starts=(3, 255)) + set_slots(6, starts=(0,))
+                     + hexed("01 00") + PLUS * 4 + hexed("30 00 30 01 30 00 30 02 30 03"))
+    alike = [((1,), (0, 2)), ((1,), (0, 2, 3)), ((1,), (0, 3)), ((1,), (2,)), ((2,), (0, 2)), ((1, 1), (0, 2)), ((1,), ODD16[:15]), ((1,), ODD16)]
+    yield from fused("8 sets that are alike", Q0 + PLUS * 8 + b"".join(chain_set(*keys, starts=starts) for keys, starts in alike) + chain(1, start=2),
+                     V0 + b"\x08" + b"".join(set_slots(*keys, starts=starts) for keys, starts in alike) + hexed("01 00") + PLUS * 8
+                     + b"".join(bytes([0x30, i]) for i in (0, 1, 2, 3, 4, 5, 6, 7, 3)))
+    yield from fused("a set in a condition, another in the value",
+                     Q1 + RPLUS + SUM + chain(2) + WHERE + chain_set(1, starts=(1, 2)) + chain_set(2, starts=(0, 3)),
+                     V1 + b"\3" + set_slots(2) + set_slots(1, starts=(1, 2)) + set_slots(2, starts=(0, 3))
+                     + hexed("02 03 30 00 83 30 01 30 02 22 03 31 00 31 01"))
+    yield from fused("the longest question", Q1 + SUM + tree(63, PLUS, chain_set(2, 2, 5, starts=LOW16)),
+                     V1 + b"\1" + set_slots(2, 2, 5, starts=LOW16) + hexed("01 03") + tree(63, PLUS, hexed("30 00")) + hexed("31 00"))
+    sets = [tuple(range(i, i + 16)) for i in range(8)]
+    eight, indexes = b"".join(chain_set(2, 2, 5, starts=starts) for starts in sets), b"".join(bytes([0x30, i]) for i in range(8))
+    yield from fused("32 chains, 8 different ones of 16 starts", Q1 + SUM + PLUS * 3 + (PLUS * 7 + eight) * 4,
+                     V1 + b"\x08" + b"".join(set_slots(2, 2, 5, starts=starts) for starts in sets) + hexed("01 03") + PLUS * 3 + (PLUS * 7 + indexes) * 4
+                     + hexed("31 00"))
 
 
 # ------------------------------------------------------------------------------------------------ the file

@@ -3,9 +3,9 @@
 
     python3 tests/make_runs.py           prints each case: index, kind, call, rounds, length lent, what is expected, name
 
-Worksheets and maps are written by hand as bytes. Rows, rounds and refusals are written by hand from document 01 and, for conditions,
-document 02, a) too; none is what a run said. So that no slip of the hand stays, the script walks every walk outright (`outright` below: sets of walks, no
-rounds and no table of figures) and stops where the hand and the walks differ.
+Worksheets and maps are written by hand as bytes. Rows, rounds and refusals are written by hand from document 01 and, for conditions
+and sets of starts, document 02, a) and b) too; none is what a run said. So that no slip of the hand stays, the script walks every walk
+outright (`outright` below: sets of walks, no rounds and no table of figures) and stops where the hand and the walks differ.
 
 In the file (make_cases.py has its layout) a case has five numbers of 16 bits: the length lent, the call (0 pull, 1 push, 2 pull stopped,
 3 push stopped), the rounds at which it is stopped, where the worksheet and the map end behind these ten bytes; then worksheet, map and
@@ -38,21 +38,27 @@ def answer(n, rounds, kind, values):
 
 
 def slots(*keys, start=0):
-    """A chain of a worksheet: six bytes."""
+    """A chain of a worksheet of version 1: six bytes."""
     return bytes([len(keys), *keys]).ljust(4, b"\0") + u16(start)
 
 
+def from_set(*keys, starts=(0,)):
+    """A chain of a worksheet of version 2; no start for anywhere."""
+    return bytes([len(keys), *keys]).ljust(4, b"\0") + bytes([len(starts)]) + b"".join(u16(start) for start in starts)
+
+
 W0, W1 = hexed("4C 50 57 01 00 00"), hexed("4C 50 57 01 00 01")  # a worksheet of either kind; the chain count is due
+V0, V1 = hexed("4C 50 57 02 00 00"), hexed("4C 50 57 02 00 01")  # the same of version 2
 
 
-def at_each(*chains, term=hexed("30 00")):
+def at_each(*chains, term=hexed("30 00"), head=W0):
     """A worksheet of kind 0: the chains, and one entry; chain 0 where no other term is given."""
-    return W0 + bytes([len(chains)]) + b"".join(chains) + hexed("01 00") + term
+    return head + bytes([len(chains)]) + b"".join(chains) + hexed("01 00") + term
 
 
-def one_result(chains, entries, final):
+def one_result(chains, entries, final, head=W1):
     """A worksheet of kind 1; an entry is a reduction byte and a term."""
-    return W1 + bytes([len(chains)]) + b"".join(chains) + bytes([len(entries)]) + b"".join(entries) + final
+    return head + bytes([len(chains)]) + b"".join(chains) + bytes([len(entries)]) + b"".join(entries) + final
 
 
 def where(reduction, condition, value):
@@ -122,9 +128,11 @@ class Sheet:
         return self.data[self.at - 1]
 
     def chain(self):
+        """The keys, and the set of starts, None for anywhere. Version 1 has one start, version 2 a count first."""
         count, *keys = (self.byte() for _unused in range(4))
-        self.at += 2
-        return keys[:count], numbers(self.data, self.at - 2, 1)[0]
+        starts = numbers(self.data, self.at + 1, self.byte()) if self.data[3] == 2 else numbers(self.data, self.at, 1)
+        self.at += 2 * len(starts)
+        return keys[:count], None if starts in ([], [ANYWHERE]) else set(starts)
 
     def entry(self):
         """The reduction, the condition (None without one) and the value."""
@@ -155,10 +163,10 @@ def kept_by(keys, walks):
     return found or None
 
 
-def figures(n, rows, keys, start, most):
+def figures(n, rows, keys, starts, most):
     """For each number of passages up to `most`, the figures at each place over all walks of no more passages. A walk is its four
     values; `ends` has those of just so many passages, by the place where they end."""
-    ends = {v: {(v, 0, 0, 65535)} for v in range(n) if start in (v, ANYWHERE)}
+    ends = {v: {(v, 0, 0, 65535)} for v in range(n) if starts is None or v in starts}
     reached = [ends.get(v, set()) for v in range(n)]
     found = [[kept_by(keys, walks) for walks in reached]]
     for _unused in range(most):
@@ -208,7 +216,7 @@ def outright(sheet, graph, stop=None):
     flat = numbers(graph, 9, 4 * m)
     rows = [flat[4 * i:4 * i + 4] for i in range(m)]
     most = 2 * n + 1  # longer walks change no figure: looked at up to here
-    found = [figures(n, rows, keys, start, most) for keys, start in plan.chains]
+    found = [figures(n, rows, keys, starts, most) for keys, starts in plan.chains]
     quiet = next(r for r in range(1, most + 1) if all(f[r] == f[r - 1] for f in found))
     assert quiet <= 2 * n and all(f[r] == f[quiet] for f in found for r in range(quiet, most + 1))
     rounds = quiet if stop is None else stop
@@ -356,6 +364,7 @@ def sheets():
     yield from sheet_operators()
     yield from sheet_stops()
     yield from conditions()
+    yield from sets()
 
 
 def sheet_chains():
@@ -587,6 +596,142 @@ def condition_rounds():
                     [[_], [1], [_], [_], [_], [_]])
 
 
+# ---- chains from sets of starts, and other worksheets of version 2
+
+
+def sets():
+    yield from set_of_two()
+    yield from set_keys()
+    yield from set_sizes()
+    yield from set_rounds()
+    yield from set_versions()
+    yield from set_entries()
+
+
+def set_of_two():
+    """Map A, key 2 from {0, 2}. The walks of no passage stay at 0 and at 2. Of one passage there are 0 to 1 (5 s) and 2 to 1 (3 s), and 0 to 2, which is no
+    better than to stay; of two, 0-1-3 (5 s) and 2-1-3 (3 s), and 0-2-1 (5 s); of three, 0-2-1-3 (5 s). So round 1 changes place 1, round 2 changes place 3,
+    and round 3 is the first quiet one: 3 rounds."""
+    after = [[0, _, 0, _], [0, 3, 0, _], [0, 3, 0, 3], [0, 3, 0, 3], [0, 3, 0, 3]]
+    yield from runs("key 2 from 0,2", at_each(from_set(2, starts=(0, 2)), head=V0), MAP_A, after)
+    # From 0 alone it is 0, 5, 2, 5 and from 2 alone absent, 3, 0, 3: at each place the least of those that are there.
+    alone = [from_set(2, starts=(0, 2)), from_set(2), from_set(2, starts=(2,))]
+    for i, values in enumerate(([0, 3, 0, 3], [0, 5, 2, 5], [_, 3, 0, 3])):
+        yield from ends(f"key 2 from 0,2, from 0 and from 2, chain {i}", at_each(*alone, term=chain(i), head=V0), MAP_A, 3, values)
+    least = op(EQUAL, chain(0), op(MIN, chain(1), chain(2)))
+    yield from ends("key 2 from 0,2 is the least of both, where both are", at_each(*alone, term=least, head=V0), MAP_A, 3, [_, 1, 1, 1])
+    yield from ends("key 2 from 0,2 is that from 0 where 2 has no walk", at_each(*alone, term=op(EQUAL, chain(0), chain(1)), head=V0), MAP_A, 3, [1, 0, 0, 0])
+
+
+def set_keys():
+    full = 65535
+    # From 0 and 2. Least start: 0-2 brings 0 to place 2; greatest: 2-1 brings 2 to place 1. Greatest size: 20 by 2-1; least: 4 by 0-2-1.
+    for keys, after in (
+        ((1,), [[0, _, 0, _], [0, 1, 0, _], [0, 1, 0, 2], [0, 1, 0, 2], [0, 1, 0, 2]]),
+        ((3,), [[0, _, 2, _], [0, 0, 0, _], [0, 0, 0, 0], [0, 0, 0, 0], [0, 0, 0, 0]]),
+        ((4,), [[0, _, 2, _], [0, 2, 2, _], [0, 2, 2, 2], [0, 2, 2, 2], [0, 2, 2, 2]]),
+        ((5,), [[full, _, full, _], [full, 20, full, _], [full, 20, full, 7], [full, 20, full, 7], [full, 20, full, 7]]),
+        ((6,), [[full, _, full, _], [full, 10, 4, _], [full, 4, 4, 7], [full, 4, 4, 4], [full, 4, 4, 4], [full, 4, 4, 4]]),
+        ((2, 3), [[0, _, 2, _], [0, 2, 2, _], [0, 2, 2, 2], [0, 2, 2, 2], [0, 2, 2, 2]]),
+        ((3, 2), [[0, _, 0, _], [0, 5, 2, _], [0, 5, 2, 5], [0, 5, 2, 5], [0, 5, 2, 5]]),
+        ((4, 2), [[0, _, 0, _], [0, 3, 0, _], [0, 3, 0, 3], [0, 3, 0, 3], [0, 3, 0, 3]]),
+        ((2, 5), [[full, _, full, _], [full, 20, full, _], [full, 20, full, 7], [full, 20, full, 7], [full, 20, full, 7]]),
+        ((4, 1, 6), [[full, _, full, _], [full, 20, full, _], [full, 20, full, 7], [full, 20, full, 7], [full, 20, full, 7]]),
+    ):
+        yield from runs(f"keys {keys} from 0,2", at_each(from_set(*keys, starts=(0, 2)), head=V0), MAP_A, after)
+    # From 1 and 3: both ways to place 3 take 0 s, so keys 2,3 say 1 and keys 2,4 say 3. Keys 3,2: 1-3 takes 0 s too.
+    for keys, values, rounds in (((2, 3), [_, 1, _, 1], 2), ((2, 4), [_, 1, _, 3], 1), ((3, 2), [_, 0, _, 0], 2), ((6,), [_, full, _, 7], 2)):
+        yield from ends(f"keys {keys} from 1,3", at_each(from_set(*keys, starts=(1, 3)), head=V0), MAP_A, rounds, values)
+    # Every place is a start: as from anywhere.
+    for keys, rounds, values in (((1,), 1, [0, 0, 0, 0]), ((3,), 3, [0, 0, 0, 0]), ((4,), 2, [0, 2, 2, 3]), ((6,), 4, [full, 4, 4, 4])):
+        yield from ends(f"keys {keys} from all places", at_each(from_set(*keys, starts=(0, 1, 2, 3)), head=V0), MAP_A, rounds, values)
+        yield from ends(f"keys {keys} from anywhere, version 2", at_each(from_set(*keys, starts=()), head=V0), MAP_A, rounds, values)
+
+
+def set_sizes():
+    """Sets of each size: the first odd places of 33 that have no passage, each its own start."""
+    odd, bare = tuple(range(1, 33, 2)), map_file(33)
+    here = op(EQUAL, chain(0), chain(0))  # 1 where there is a walk
+    yield from in_turn(bare, 1, ((f"how many of a set of {k}", one_result([from_set(3, starts=odd[:k])], [b"\3" + here], entry(0), head=V1), k)
+                                 for k in range(1, 17)))
+    yield from in_turn(bare, 1, ((f"the greatest of a set of {k}", one_result([from_set(3, starts=odd[:k])], [b"\2" + chain(0)], entry(0), head=V1), 2 * k - 1)
+                                 for k in range(1, 17)))
+    # A line: from an odd place to the even one behind it there is one passage. To place 0 there is no walk.
+    line = map_file(33, *((v, v + 1, 2, 5) for v in range(32)))
+    yield from ends("16 starts of a line", at_each(from_set(1, starts=odd), head=V0), line, 2, [_] + [0, 1] * 16)
+    yield from ends("15 starts of a line", at_each(from_set(2, starts=odd[:15]), head=V0), line, 4, [_] + [0, 2] * 15 + [4, 6])
+    yield from ends("9 starts of a line, the start itself", at_each(from_set(2, 3, starts=odd[7:]), head=V0), line, 2,
+                    [_] * 15 + [v for start in odd[7:] for v in (start, start)])
+    last = tuple(range(240, 256))
+    yield from in_turn(map_file(256, (255, 7, 1, 1)), 2, (
+        ("16 starts up to 255, the sum of key 1", one_result([from_set(1, starts=last)], [b"\3" + chain(0)], entry(0), head=V1), 1),
+        ("16 starts up to 255, key 4 at its least", one_result([from_set(4, starts=last)], [b"\1" + chain(0)], entry(0), head=V1), 240),
+        ("0 and 255, the sum of key 3", one_result([from_set(3, starts=(0, 255))], [b"\3" + chain(0)], entry(0), head=V1), 510)))
+
+
+def set_rounds():
+    full = 65535
+    # The ring's narrow passage, 2 to 0, is walked in round 3 from 0, in round 2 from 1; then it takes two rounds more to come around, and a quiet one.
+    yield from runs("a ring, key 6 from 0,1", at_each(from_set(6, starts=(0, 1)), head=V0), RING,
+                    [[full, full, _], [full, 9, 8], [2, 9, 8], [2, 2, 8], [2, 2, 2], [2, 2, 2], [2, 2, 2]])
+    # From 240 it is 16 passages to place 0, over the narrow one, and 255 more to place 255: that is round 271, and 272 is quiet.
+    ring = [(v, (v + 1) % 256, 1, 2 if v == 255 else 9) for v in range(256)]
+    yield from ends("a ring of 256 places, key 6 from 16 of them", at_each(from_set(6, starts=tuple(range(0, 256, 16))), head=V0), map_file(256, *ring), 272,
+                    [2] * 256)
+    # The set takes 3 rounds, key 6 from 0 takes 4, key 1 from 3 takes 1.
+    yield from runs("an unused set, which takes longer", at_each(from_set(1, starts=(3,)), from_set(2, starts=(0, 2)), head=V0), MAP_A, [[_, _, _, 0]] * 5)
+    yield from runs("a set beside a chain that takes longer", at_each(from_set(2, starts=(0, 2)), from_set(6), head=V0), MAP_A,
+                    [[0, _, 0, _], [0, 3, 0, _], [0, 3, 0, 3], [0, 3, 0, 3], [0, 3, 0, 3], [0, 3, 0, 3]])
+    yield from ends("a set, stopped late", at_each(from_set(2, starts=(0, 2)), head=V0), MAP_A, 3, [0, 3, 0, 3], 5, 256, 65535)
+    # Only the figure of the first key changes in round 2 (`bypass` of sheet_keys); place 1 has 9 s, then 2 s, and the size stays.
+    bypass = map_file(4, (0, 1, 9, 4), (0, 2, 1, 4), (2, 1, 1, 4))
+    yield from runs("keys 2,5 from 0,3: only the first figure changes in round 2", at_each(from_set(2, 5, starts=(0, 3)), head=V0), bypass,
+                    [[full, _, _, full]] + [[full, 4, 4, full]] * 4)
+
+
+def set_versions():
+    """Sheets of version 2 with single starts are as those of version 1."""
+    full = 65535
+    narrow = [[full, _, _, _], [full, 10, 4, _], [full, 4, 4, 7], [full, 4, 4, 4], [full, 4, 4, 4], [full, 4, 4, 4]]
+    yield from runs("version 2, key 2 from 0", at_each(from_set(2), head=V0), MAP_A, [[0, _, _, _], [0, 5, 2, _], [0, 5, 2, 5], [0, 5, 2, 5], [0, 5, 2, 5]])
+    yield from runs("version 2, keys 2,6 from 0", at_each(from_set(2, 6), head=V0), MAP_A, narrow)
+    yield from runs("version 2, key 1 from 3", at_each(from_set(1, starts=(3,)), head=V0), MAP_A, [[_, _, _, 0]] * 3)
+    yield from runs("version 2, keys 2,3 from anywhere", at_each(from_set(2, 3, starts=()), head=V0), MAP_A, [[0, 1, 2, 3]] + [[0, 1, 2, 1]] * 3)
+    yield from runs("version 2, no chain", at_each(term=lit(7), head=V0), MAP_A, [[7] * 4] * 3)
+    yield from runs("version 2, marked: max of key 1 from 0", hexed("4C 50 57 02 00 01 01 01 01 00 00 01 00 00 01 02 30 00 31 00"), MAP_A,
+                    [[0], [1], [2], [2], [2]])
+    twice = op(PLUS, chain(0), chain(1))
+    yield from ends("version 2, equal sets", at_each(from_set(2, starts=(0, 2)), from_set(2, starts=(0, 2)), term=twice, head=V0), MAP_A, 3, [0, 6, 0, 6])
+    eight = [from_set(2, starts=s) for s in ((0,), (1,), (2,), (3,), (0, 2), (1, 2), (0, 1, 2, 3), ())]
+    for i, values in enumerate(([0, 5, 2, 5], [_, 0, _, 0], [_, 3, 0, 3], [_, _, _, 0], [0, 3, 0, 3], [_, 0, 0, 0], [0] * 4, [0] * 4)):
+        yield from ends(f"version 2, 8 chains, chain {i}", at_each(*eight, term=chain(i), head=V0), MAP_A, 3, values)
+
+
+def many_ones(terms):
+    """A final expression of an odd number of terms, in a tree of little depth, each leaf 1."""
+    left = (terms - 1) // 2 | 1
+    return rlit(1) if terms == 1 else rop(PLUS, many_ones(left), many_ones(terms - 1 - left))
+
+
+def set_entries():
+    """Reductions over sets, with conditions and without: on map A from {0, 2} it is 0, 3, 0, 3."""
+    two, nearest = from_set(2, starts=(0, 2)), from_set(2, 3, starts=(0, 2))  # which start serves: 0, 2, 2, 2
+    served = op(EQUAL, chain(1), lit(2))
+    yield from in_turn(MAP_A, 3, (
+        ("the sum from a set", one_result([two], [b"\3" + chain(0)], entry(0), head=V1), 6),
+        ("the largest from a set", one_result([two], [b"\2" + chain(0)], entry(0), head=V1), 3),
+        ("how many places start 2 serves", one_result([two, nearest], [where(3, served, lit(1))], entry(0), head=V1), 3),
+        ("the sum where start 2 serves", one_result([two, nearest], [where(3, served, chain(0))], entry(0), head=V1), 6),
+        ("where start 0 serves", one_result([two, nearest], [where(2, op(EQUAL, chain(1), lit(0)), chain(0))], entry(0), head=V1), 0),
+        ("a set as condition", one_result([two, from_set(2)], [where(3, chain(0), chain(1))], entry(0), head=V1), 10),
+        ("what the second start saves", one_result([two, from_set(2)], [b"\3" + op(MINUS, chain(1), chain(0))], entry(0), head=V1), 6)))
+    # The longest worksheet: chains of 37 bytes, and literals; the final expression has 25 of them.
+    sixteen = [from_set(2, 2, 5, starts=tuple(range(i, i + 16))) for i in range(8)]
+    longest = one_result(sixteen, [where(3, lit(1), lit(1))] * 7 + [b"\3" + lit(1)], many_ones(49), head=V1)
+    assert len(longest) == 560
+    yield from ends("the longest worksheet", longest, map_file(23), 1, [25])
+
+
 # ---- refusals: "A run judges the worksheet, the map, starts in chain order, then 15."
 
 
@@ -594,7 +739,9 @@ def refusals():
     good = at_each(slots(2))
     bad_map = map_file(4, (0, 1, 5, 0))  # crate 0
     yield from refused(1, "no worksheet, no map, nothing lent", b"", b"", 0)
-    yield from refused(3, "worksheet of version 2, map of wrong letters", good.replace(b"LPW\1", b"LPW\2"), b"XYZ" + MAP_A[3:])
+    yield from refused(3, "worksheet of version 3, map of wrong letters", good.replace(b"LPW\1", b"LPW\3"), b"XYZ" + MAP_A[3:])
+    # As version 2 its start is a set count of 0, and then the entry count is 0.
+    yield from refused(9, "worksheet of version 1 with the header of version 2, map of wrong letters", good.replace(b"LPW\1", b"LPW\2"), b"XYZ" + MAP_A[3:])
     yield from refused(2, "a map for a worksheet, and the worksheet for a map", MAP_A, good)
     yield from refused(16, "worksheet's index, and the map's crate", at_each(slots(2), term=chain(1)), bad_map)
     yield from refused(6, "worksheet with a byte left over, no map", good + b"\0", b"")
@@ -610,6 +757,32 @@ def refusals():
     yield from refused(6, "map with a byte missing, and nothing lent", good, MAP_A[:-1], 0)
     yield from refusal_starts()
     yield from refusal_conditions()
+    yield from refusal_sets()
+
+
+def refusal_sets():
+    """At a run any start of n or more is 13, chain by chain; the worksheet and the map come before, 15 behind."""
+    bad_map = map_file(4, (0, 1, 5, 0))  # crate 0
+    full = 65535
+    yield from ends("starts up to n - 1", at_each(from_set(5, starts=(2, 3)), head=V0), MAP_A, 2, [_, 20, full, full])
+    yield from ends("all starts of 16 places", at_each(from_set(3, starts=tuple(range(16))), head=V0), map_file(16), 1, list(range(16)))
+    for starts in ((4,), (255,), (0, 4), (3, 4), (0, 1, 2, 3, 4), (4, 5), (0, 255), tuple(range(16)), tuple(range(240, 256))):
+        yield from refused(13, f"starts {starts} of 4 places", at_each(from_set(2, starts=starts), head=V0), MAP_A)
+    yield from refused(13, "16 starts of 15 places", at_each(from_set(3, starts=tuple(range(16))), head=V0), map_file(15), 145)
+    yield from refused(13, "starts 0,255 of 255 places", at_each(from_set(3, starts=(0, 255)), head=V0), map_file(255), 2305)
+    yield from refused(13, "start 4 of the second set, which is unused", at_each(from_set(2, starts=(0, 2)), from_set(1, starts=(3, 4)), head=V0), MAP_A)
+    yield from refused(13, "start 4 of the last of 8 sets", at_each(*[from_set(1, starts=(0, 3))] * 7, from_set(6, starts=(0, 4)), head=V0), MAP_A)
+    yield from refused(13, "version 2, single start 4 behind anywhere", at_each(from_set(2, starts=()), from_set(1, starts=(4,)), head=V0), MAP_A)
+    for lent in (0, 45, 46):
+        yield from refused(13, f"starts 0,4, and lent {lent}", at_each(from_set(2, starts=(0, 4)), head=V0), MAP_A, lent)
+    yield from refused(15, "starts 0,3, and lent 45", at_each(from_set(2, starts=(0, 3)), head=V0), MAP_A, 45)
+    yield from refused(8, "the map's crate, and starts 0,4", at_each(from_set(2, starts=(0, 4)), head=V0), bad_map)
+    yield from refused(4, "no place, starts 0,1", at_each(from_set(2, starts=(0, 1)), head=V0), map_file(0))
+    for number, starts in ((17, (2, 2)), (17, (4, 0)), (13, (0, 256)), (13, (full,)), (9, tuple(range(17)))):
+        yield from refused(number, f"worksheet's starts {starts}, and the map's crate", at_each(from_set(2, starts=starts), head=V0), bad_map, 0)
+    late = at_each(from_set(2, starts=(4,)), from_set(2, starts=(5, 5)), head=V0)
+    yield from refused(17, "worksheet's starts 5,5, and start 4 of the chain before", late, MAP_A)
+    yield from refused(6, "worksheet of version 2 with a byte left over, and start 4", at_each(from_set(2, starts=(0, 4)), head=V0) + b"\0", b"")
 
 
 def refusal_conditions():
@@ -649,6 +822,7 @@ def lengths():
         ("kind 1", one_result([slots(1)], [b"\2" + chain(0)], entry(0)), MAP_A, 1, 19, 3, [2]),
         ("kind 1, no entry", one_result([], [], rlit(1)), MAP_A, 1, 19, 1, [1]),
         ("absent", at_each(slots(1, start=3)), MAP_A, 0, 46, 1, [_, _, _, 0]),
+        ("a set", at_each(from_set(2, starts=(0, 2)), head=V0), MAP_A, 0, 46, 3, [0, 3, 0, 3]),
     ):
         n = numbers(graph, 5, 1)[0]
         for lent in (0, 9, 10, size - 9, size - 1):

@@ -191,7 +191,8 @@ static void place_leaf(maker *k)
     unsigned i = below(k->chains);
     const chain *c = &k->chain[i];
     int set = c->starts >= 2 || (c->starts == 1 && one_in(3)) || (k->crooked && one_in(10));
-    if (k->worksheet)
+    int other = k->wild && one_in(40); /* as the other file has it: 9 */
+    if (k->worksheet != other)
         put(k->f, 1, 0x30), put(k->f, 1, k->wild && one_in(40) ? below(10) : i);
     else
         put(k->f, 1, set ? 0x13 : 0x10), put_chain(k, c, c->count, set);

@@ -12,7 +12,8 @@
 #include <sys/mman.h>
 #include "grafs.h"
 
-enum { PAGE = 4096, ROOM = 24 * PAGE, GUARD = 64, PLACES_OFFSET = 5, CHAINS_OFFSET = 6, KIND_OFFSET = 5, ANSWER_HEAD = 10, ROW = 9 };
+enum { PAGE = 4096, ROOM = 24 * PAGE, GUARD = 64, VERSION_OFFSET = 3, PLACES_OFFSET = 5, CHAINS_OFFSET = 6, KIND_OFFSET = 5, ANSWER_HEAD = 10, ROW = 9 };
+enum { LAST_NUMBER = 17, NUMBERS };
 enum { HEAP, TO_THE_END, FROM_THE_START, PLACEMENTS };
 
 typedef struct {
@@ -26,9 +27,9 @@ typedef struct {
 } reply;
 
 /* Tells libFuzzer what is new, as the library tells it nothing: by call, number and how far the bytes were read; by shape of what was written. */
-__attribute__((section("__libfuzzer_extra_counters"))) static uint8_t seen[2 * 17 * 128 + 1024];
+__attribute__((section("__libfuzzer_extra_counters"))) static uint8_t seen[2 * NUMBERS * 128 + 1024];
 
-static unsigned long long calls, numbers[2][17];
+static unsigned long long calls, numbers[2][NUMBERS];
 static const uint8_t any_start[] = { 'L', 'P', 'M', 1, 0, 0, 1, 0, 0 };           /* 256 places: every start is one */
 static const uint8_t no_chain[] = { 'L', 'P', 'W', 1, 0, 1, 0, 0, 0x21, 1, 0, 0, 0 };
 
@@ -116,7 +117,7 @@ static void call(bytes first, const bytes *map, size_t lent, reply *r)
 {
     static reply again;
     call_at(HEAP, first, map, lent, r);
-    expect(r->result < GRAFS_REFUSAL || (number_of(r->result) >= 1 && number_of(r->result) <= 16), "a refusal is 1 to 16");
+    expect(r->result < GRAFS_REFUSAL || (number_of(r->result) >= 1 && number_of(r->result) <= LAST_NUMBER), "a refusal is 1 to 17");
     for (int placement = TO_THE_END; placement < PLACEMENTS; placement++) {
         call_at(placement, first, map, lent, &again);
         expect(again.result == r->result, "the same number again");
@@ -147,7 +148,7 @@ static void judged_left_to_right(bytes first, const bytes *map, uint32_t number)
         else
             high = middle;
     }
-    seen[((map != NULL) * 17 + number) * 128 + (high < 96 ? high : 96 + high % 32)] = 1;
+    seen[((map != NULL) * NUMBERS + number) * 128 + (high < 96 ? high : 96 + high % 32)] = 1;
     expect(number != 0 || high == first.len, "an accepted file has no part that is accepted");
     if (number == 0) {
         uint8_t *longer = malloc(first.len + 1);
@@ -172,13 +173,42 @@ static void exact_length(bytes first, const bytes *map, const reply *r)
 
 static void shape(unsigned a, unsigned b)
 {
-    seen[2 * 17 * 128 + (a * 37 + b) % 1024] = 1;
+    seen[2 * NUMBERS * 128 + (a * 37 + b) % 1024] = 1;
+}
+
+/* A chain of an accepted worksheet: how many starts it lists (in version 1 one, 65,535 for anywhere), where they are, and where the next chain is. */
+typedef struct {
+    unsigned starts;
+    const uint8_t *start, *next;
+} chain;
+
+static chain chain_at(const uint8_t *worksheet, const uint8_t *p)
+{
+    unsigned two = worksheet[VERSION_OFFSET] == 2, starts = two ? p[4] : 1;
+    return (chain){ starts, p + 4 + two, p + 4 + two + 2 * starts };
+}
+
+/* What stands behind the chains of an accepted worksheet, and the most starts that one of them has. */
+static const uint8_t *behind_chains(const uint8_t *worksheet, unsigned *most)
+{
+    const uint8_t *p = worksheet + CHAINS_OFFSET + 1;
+    *most = 0;
+    for (unsigned i = 0; i < worksheet[CHAINS_OFFSET]; i++) {
+        chain c = chain_at(worksheet, p);
+        for (const uint8_t *start = c.start + 2; start < c.next; start += 2)
+            expect(start[0] > start[-2] && start[-1] == 0 && start[1] == 0, "starts of a set rise, up to 255");
+        *most = c.starts > *most ? c.starts : *most;
+        p = c.next;
+    }
+    expect(*most <= 16, "no more than 16 starts");
+    return p;
 }
 
 /* The reduction byte of an accepted worksheet's first entry, which says whether it has a condition; where there is none, a term's first byte. */
 static unsigned first_reduction(const uint8_t *worksheet)
 {
-    return worksheet[CHAINS_OFFSET + 2 + 6 * worksheet[CHAINS_OFFSET]];
+    unsigned most;
+    return behind_chains(worksheet, &most)[1];
 }
 
 /* Fuses; the worksheet is left in r where there was room. */
@@ -196,8 +226,11 @@ static void fuse_checked(bytes question, size_t lent, reply *r)
     }
     expect(r->result == (lent < whole.result ? GRAFS_REFUSAL + GRAFS_BUFFER_SHORT : whole.result), "15 where the length is short, and only there");
     exact_length(question, NULL, &whole);
+    unsigned most;
+    behind_chains(whole.out, &most);
+    expect(whole.out[VERSION_OFFSET] == (most >= 2 ? 2 : 1), "version 2 where some set has two or more, and only there");
     shape(whole.out[CHAINS_OFFSET], whole.result / 8);
-    shape(500, first_reduction(whole.out));
+    shape(500 + most, first_reduction(whole.out));
 }
 
 /* The number that a run must return, from what each file alone is refused by. */
@@ -210,11 +243,15 @@ static uint32_t number_expected(bytes worksheet, bytes map, size_t lent)
     if (by_map)
         return by_map;
     unsigned n = map.p[PLACES_OFFSET] + 256u * map.p[PLACES_OFFSET + 1];
+    const uint8_t *p = worksheet.p + CHAINS_OFFSET + 1;
     for (unsigned i = 0; i < worksheet.p[CHAINS_OFFSET]; i++) {
-        const uint8_t *start = worksheet.p + CHAINS_OFFSET + 1 + 6 * i + 4;
-        unsigned at = start[0] + 256u * start[1];
-        if (at >= n && at != 65535)
-            return GRAFS_START;
+        chain c = chain_at(worksheet.p, p);
+        for (const uint8_t *start = c.start; start < c.next; start += 2) {
+            unsigned at = start[0] + 256u * start[1];
+            if (at >= n && at != 65535)
+                return GRAFS_START;
+        }
+        p = c.next;
     }
     return lent < ANSWER_HEAD + ROW * (worksheet.p[KIND_OFFSET] ? 1 : n) ? GRAFS_BUFFER_SHORT : 0;
 }
@@ -272,7 +309,7 @@ static void counts(void)
 {
     for (int i = 0; i < 2; i++) {
         fprintf(stderr, i ? "run:" : "fuse:");
-        for (int number = 0; number <= 16; number++)
+        for (int number = 0; number <= LAST_NUMBER; number++)
             if (numbers[i][number])
                 fprintf(stderr, " %d: %llu", number, numbers[i][number]);
         fprintf(stderr, "\n");
@@ -302,7 +339,7 @@ static size_t mend_map(uint8_t *map, size_t len)
     return 9 + 8 * m;
 }
 
-/* libFuzzer's changes; three times in four the letters are set right, every other time the map is mended. */
+/* libFuzzer's changes; three times in four the letters and the version are set right, every other time the map is mended. */
 size_t LLVMFuzzerCustomMutator(uint8_t *data, size_t size, size_t most, unsigned seed)
 {
     size = LLVMFuzzerMutate(data, size, most);
@@ -311,8 +348,9 @@ size_t LLVMFuzzerCustomMutator(uint8_t *data, size_t size, size_t most, unsigned
     size_t first_len = data[3] + 256u * data[4];
     if (first_len > size - 5)
         first_len = size - 5;
+    int worksheet = data[0] % 3 == 1;
     if (seed % 4 && first_len >= 5)
-        memcpy(data + 5, data[0] % 3 == 1 ? "LPW\1\0" : "LPQ\1\0", 5);
+        memcpy(data + 5, !worksheet ? "LPQ\1\0" : data[5 + VERSION_OFFSET] == 2 ? "LPW\2\0" : "LPW\1\0", 5);
     if (seed / 4 % 2)
         size = 5 + first_len + mend_map(data + 5 + first_len, size - 5 - first_len);
     return size;

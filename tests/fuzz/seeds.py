@@ -1,5 +1,6 @@
 #!/usr/bin/env python3
-"""Writes the first inputs of the fuzz harness into a folder: document 01's trials, the limits and some files beyond them.
+"""Writes the first inputs of the fuzz harness into a folder: document 01's trials, conditions and sets of document 02, the limits and
+some files beyond them.
 
     python3 tests/fuzz/seeds.py FOLDER
 
@@ -30,6 +31,20 @@ def slots(*keys, start=0):
     return bytes([len(keys), *keys]).ljust(4, b"\0") + u16(start)
 
 
+def chain_set(*keys, starts=(0, 2), count=None):
+    """A chain from a set of starts."""
+    return bytes([0x13, len(keys), *keys]) + starts_of(starts, count)
+
+
+def set_slots(*keys, starts=(0, 2), count=None):
+    """A chain of a worksheet of version 2; no start for anywhere."""
+    return bytes([len(keys), *keys]).ljust(4, b"\0") + starts_of(starts, count)
+
+
+def starts_of(starts, count):
+    return bytes([len(starts) if count is None else count]) + b"".join(u16(start) for start in starts)
+
+
 def lit(x, tag=0x11):
     return bytes([tag]) + u32(x)
 
@@ -55,8 +70,8 @@ def question(kind, term):
     return b"LPQ" + u16(1) + bytes([kind]) + term
 
 
-def sheet(kind, chains, entries, final=b""):
-    return b"LPW" + u16(1) + bytes([kind, len(chains)]) + b"".join(chains) + bytes([len(entries)]) + b"".join(entries) + final
+def sheet(kind, chains, entries, final=b"", version=1):
+    return b"LPW" + u16(version) + bytes([kind, len(chains)]) + b"".join(chains) + bytes([len(entries)]) + b"".join(entries) + final
 
 
 def deep(depth, number=3):
@@ -101,6 +116,20 @@ QUESTIONS += [question(1, term) for term in (
     broad(9, lambda _one: reduced_where(3, lit(1), chain(2)), 0x22), reduced_where(6, lit(1), lit(1)), reduced_where(129, lit(1), lit(1)),
     reduced(3, reduced_where(3, lit(1), lit(1))), reduced_where(3, reduced(3, lit(1)), lit(1)), b"\x23", b"\x23\3", b"\x23\3" + lit(1))]
 QUESTIONS += [question(0, reduced_where(3, lit(1), lit(1)))]
+# sets of starts: legal ones, sets of one beside 0x10, the limits (the longest question), and what is refused
+sixteen = tuple(range(16))
+QUESTIONS += [question(0, term) for term in (
+    chain_set(2), chain_set(2, 5), chain_set(6, starts=(0, 1)), chain_set(1, starts=(3,)), chain_set(3, 4, starts=sixteen), chain_set(2, starts=(0, 255)),
+    op(3, chain(2), chain_set(2, starts=(0,))), op(1, chain(2), op(1, chain_set(2), chain_set(2, starts=(0, 2, 3)))), op(4, chain(2, start=2), chain_set(2)),
+    op(3, chain_set(2, starts=sixteen), chain_set(2, starts=sixteen[:15])), broad(32, lambda _one: chain_set(1, 2, 5, starts=sixteen)),
+    broad(32, lambda _one: chain_set(2, starts=(next(counter) % 4, 4))), broad(8, lambda _one: chain_set(1, starts=(next(counter) % 250, 255))),
+    broad(9, lambda _one: chain_set(1, starts=(next(counter) % 250, 255))), op(3, broad(8, lambda _one: eight[next(counter) % 8]), chain_set(1, starts=(0,))),
+    chain_set(5, 2), chain_set(7), chain_set(2, starts=()), chain_set(2, starts=sixteen, count=17), chain_set(2, starts=sixteen, count=255),
+    chain_set(2, starts=(2, 2)), chain_set(2, starts=(2, 1)), chain_set(2, starts=(0, 256)), chain_set(2, starts=(65535,)), chain_set(2, starts=(0, 5, 5, 256)),
+    chain_set(2, count=3), b"\x13", b"\x13\1\2\2", b"\x13\1\2\2\0\0\2")]
+QUESTIONS += [question(1, term) for term in (
+    reduced(3, chain_set(2)), reduced_where(3, op(9, chain_set(2), lit(2)), chain_set(2, 3)),
+    reduced(1, broad(32, lambda _one: chain_set(2, 2, 5, starts=sixteen))), op(4, reduced(3, chain(2)), reduced(3, chain_set(2)), 0x22), chain_set(2))]
 QUESTIONS += [b"LPQ", b"LPQ\2\0\0", b"LPX\1\0\0", question(2, lit(1)), question(0, chain(2)) + b"\0", question(0, b"\x10\1\7\0\0"), question(0, b"\x12\x0c")]
 
 SHEETS = [sheet(0, [slots(2)], [b"\0\x30\0"]), sheet(0, [slots(2, 5), slots(2, 5), slots(6, start=9)], [b"\0\x30\1"]), sheet(0, [], [b"\0" + lit(9)]),
@@ -121,12 +150,22 @@ SHEETS += [sheet(1, [slots(2), slots(1, start=2), slots(6)], [entry(3, b"\x30\0"
            sheet(1, [], [entry(3, deep(17), lit(1))], b"\x31\0"), sheet(1, [], [entry(3, broad(16, lit), broad(16, lit)), entry(1, lit(1))], b"\x31\0"),
            sheet(1, [], [entry(3, broad(16, lit), broad(16, lit)), entry(1, lit(1), lit(1))], b"\x31\0"),
            sheet(1, [], [entry(1, lit(1), lit(2))] * 8, b"\x31\7"), sheet(1, [], [b"\x83" + lit(1)], b"\x31\0"), sheet(1, [], [b"\x83"])]
+# version 2: sets, single starts, anywhere, the longest worksheet, and what is refused
+ones = [entry(3, lit(1), lit(1))] * 7 + [entry(3, lit(1))]
+for chains in ([set_slots(2)], [set_slots(2, starts=(0,))], [set_slots(2, starts=())], [], [set_slots(6, starts=sixteen)], [set_slots(2, starts=(3, 4))],
+               [set_slots(2), set_slots(2, 3), set_slots(6, starts=(1,)), set_slots(4, starts=())], [set_slots(1)] * 8, [set_slots(1)] * 9,
+               [set_slots(2, starts=(2, 2))], [set_slots(2), set_slots(2, starts=(0, 256))], [set_slots(2, starts=(65535,))],
+               [set_slots(2, starts=sixteen, count=17)], [set_slots(5, 2)], [slots(2)], [slots(2, start=65535)], [b"\1\2\0\1\2" + u16(0) + u16(2)]):
+    SHEETS += [sheet(0, chains, [b"\0\x30\0" if chains else b"\0" + lit(9)], version=2),
+               sheet(1, chains, [entry(3, b"\x30\0", b"\x30\0") if chains else entry(3, lit(9))], b"\x31\0", version=2)]
+SHEETS += [sheet(0, [set_slots(2)], [b"\0\x30\0"], version=version) for version in (0, 1, 3, 258)]
+SHEETS += [sheet(1, [set_slots(2, 2, 5, starts=sixteen)] * 8, ones, broad(25, lambda _one: lit(1, 0x21), 0x22), version=2)]
 
 
 def main():
     folder = sys.argv[1]
     os.makedirs(folder, exist_ok=True)
-    inputs = [(0, 560, q, b"") for q in QUESTIONS]
+    inputs = [(0, 1024, q, b"") for q in QUESTIONS]
     inputs += [(1, 2314, s, m) for s in SHEETS for m in MAPS]
     inputs += [(2, 2314, q, m) for q in QUESTIONS for m in MAPS]
     inputs += [(2, lent, QUESTIONS[0], MAP_A) for lent in (0, 45, 46, 47)]

@@ -337,7 +337,7 @@ static void some_question(file *f, unsigned n)
 {
     maker k = some_maker(f, n, 0);
     unsigned kind = below(2), depth = one_in(4) ? 16 : between(1, 16);
-    put_head(f, 'Q', 1), put(f, 1, kind);
+    put_head(f, 'Q', one_in(300) ? 2 : 1), put(f, 1, kind);
     if (kind == 0) {
         place_term(&k, some_leaves(&k, depth, 64), depth);
         return;
@@ -416,7 +416,7 @@ static void some_map(file *f, unsigned n)
     unsigned m = manner >= 1 && manner <= 3 ? n + below(4) : one_in(12) ? 1024 : below((one_in(4) ? 4 : 2) * n + 3);
     if (m > 1024)
         m = 1024;
-    put_head(f, 'M', 1), put(f, 2, n), put(f, 2, m);
+    put_head(f, 'M', one_in(300) ? 2 : 1), put(f, 2, n), put(f, 2, m);
     for (unsigned i = 0; i < m; i++) {
         unsigned from = below(n), to = below(n);
         if (manner == 1 && i < n)

@@ -127,6 +127,8 @@ try 'equal starts' "$set 02 0200 0200" "$map_a" 'refused 17'
 try 'starts that fall, and a bad map' "$set 03 0000 0200 0100" "$bad_map" 'refused 17'
 try 'a question of version 2' "4c5051 0200 00 13 01 02 02 0000 0200" "$map_a" 'refused 3'
 try 'a map of version 2' "$set 02 0000 0200" '4c504d 0200 0100 0000' 'refused 3'
+try 'a set of one less 0x10' "$each 12 04 13 01 02 01 0000 $from_0" "$map_a" 'rounds 3' '0 0' '1 0' '2 0' '3 0'
+try 'what the second start saves' "$one 20 03 12 04 $from_0 13 01 02 02 0000 0200" "$map_a" 'rounds 3' 'result 6'
 
 # ---------------------------------------------------------------------------------------------- files, and the order of judging
 try 'no question' missing "$map_a" 'refused 1'
@@ -154,6 +156,11 @@ try '64 terms, and a byte where the 65th is due' "$each $plus $(tree 63) ff" "$m
 try '64 terms, and nothing where the 65th is due' "$each $plus $(tree 63)" "$map_a" 'refused 1'
 try 'depth 17 and 6,000 bytes' "$each $(times 16 "$plus ") $chain $long" "$map_a" 'refused 11'
 try '6,000 bytes of no question' "$long" "$map_a" 'refused 2'
+# The longest question: 32 chains of three keys and 16 starts. On a map of no passages each is 65,535 at 16 places: 16 * 32 * 65,535.
+longest="$one 20 03 $(chain="13 03 020205 10 $(printf '%02x00 ' {0..15})"; tree 63)"
+try 'the longest question' "$longest" "$widest" 'rounds 1' 'result 33553920'
+try 'the longest question and 1 byte' "$longest 00" "$widest" 'refused 6'
+try 'the longest question and 6,000 bytes' "$longest $long" "$widest" 'refused 6'
 try '1,024 passages and 1 byte' "$seconds" "$fullest 00" 'refused 6'
 try '1,024 passages and 70,000 bytes' "$seconds" "$fullest $(times 70000 00)" 'refused 6'
 try '1,025 passages' "$seconds" "${fullest/0100 0004/0100 0104} 0000 0000 0100 0300" 'refused 5'

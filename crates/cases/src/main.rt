@@ -157,12 +157,13 @@ fn plan_end(fields: &[u8], file: &[u8]) -> usize
     if at == 0 { file.len() } else { at }
 }
 
-// A worksheet likewise, with the kind, the count of chains, of entries, and of terms and entries.
+// A worksheet likewise, with the kind, the version, the count of chains, of entries, and of terms and entries.
 fn write_plan(fields: &[u8], file: &[u8], out: &mut [u8]) -> u32 {
     let end = plan_end(fields, file);
     let reading = plan_form::read(&file[0..end]);
     let mut form = reading.form;
     form.kind = low(fields, 2);
+    form.version = low(fields, 3);
     form.paths = low(fields, 4);
     form.entries = low(fields, 5);
     form.count = number(fields, 6) as usize;

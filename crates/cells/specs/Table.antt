@@ -11,8 +11,7 @@ use Rattle.walks.specs.Lists.{All}
 use Rattle.walks.specs.Rounds.{State}
 use Rattle.meaning.specs.Query.{PathReduction}
 use Rattle.packed_path.specs.declared.PackedPath.{PackedPath}
-use Rattle.packed_path.specs.Packed.{path-of}
-use Rattle.packed_path.specs.Steps.{no-path}
+use Rattle.packed_path.specs.Packed.{no-path, path-of}
 use Rattle.cells.specs.declared.Cell.{Cell}
 
 -- the first `count` path reductions of a table; the one with index j

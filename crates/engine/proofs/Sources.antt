@@ -8,8 +8,8 @@ use borrow.Author.Tests.{le-ltb, lt-ltb}
 use lib.ListN.{length, getD, take, drop}
 use lib.Seq.{drop-cons}
 use Rattle.packed_path.specs.declared.PackedPath.{PackedPath}
-use Rattle.packed_path.specs.Packed.{path-of, sources-of}
-use Rattle.packed_path.specs.Steps.{first-of, no-path, rest-of}
+use Rattle.packed_path.specs.Packed.{no-path, path-of, sources-of}
+use Rattle.packed_path.specs.Steps.{first-of, rest-of}
 use Rattle.packed_path.proofs.Sources.{sources-first, sources-none}
 use Rattle.wire.specs.Header.{then}
 use Rattle.engine.specs.Run.{outside-code, sources-code}

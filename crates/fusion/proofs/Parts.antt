@@ -12,7 +12,7 @@ use Rattle.nodes.specs.declared.Node.{Node}
 use Rattle.nodes.specs.declared.Term.{Term}
 use Rattle.nodes.specs.Nodes.{node}
 use Rattle.packed_path.specs.declared.PackedPath.{PackedPath}
-use Rattle.packed_path.specs.Steps.{no-path, same-packed}
+use Rattle.packed_path.specs.Packed.{no-path, same-packed}
 use Rattle.fusion.specs.declared.Written.{Written}
 use Rattle.fusion.specs.Steps.{fused-term, index-of, put-part, put-term, reduces, size}
 

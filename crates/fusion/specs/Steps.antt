@@ -12,7 +12,7 @@ use Rattle.nodes.specs.declared.Term.the-variants.{EntryIndex, Entry}
 use Rattle.nodes.specs.Nodes.{node, padded}
 use Rattle.plan_form.specs.declared.Form.{Form}
 use Rattle.packed_path.specs.declared.PackedPath.{PackedPath}
-use Rattle.packed_path.specs.Steps.{same-packed}
+use Rattle.packed_path.specs.Packed.{same-packed}
 use Rattle.plan_form.specs.Form.{any-set, write-reply}
 use Rattle.query.specs.Query.{query-code}
 use Rattle.query_form.specs.declared.Reading.{Reading}

@@ -11,8 +11,7 @@ use Rattle.meaning.proofs.Paths.{path-refl, path-same}
 use Rattle.walks.specs.Lists.{All}
 use Rattle.walks.proofs.Tests.{T-of, and-left, and-right}
 use Rattle.packed_path.specs.declared.PackedPath.{PackedPath}
-use Rattle.packed_path.specs.Packed.{packed, path-of}
-use Rattle.packed_path.specs.Steps.{same-packed}
+use Rattle.packed_path.specs.Packed.{packed, path-of, same-packed}
 use Rattle.packed_path.proofs.Keys.{keys-back}
 use Rattle.packed_path.proofs.Sources.{sources-back}
 

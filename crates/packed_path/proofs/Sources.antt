@@ -9,8 +9,8 @@ use lib.ListN.{length}
 use Rattle.meaning.specs.Query.{member}
 use Rattle.walks.specs.Lists.{All}
 use Rattle.packed_path.specs.declared.PackedPath.{PackedPath}
-use Rattle.packed_path.specs.Packed.{bytes-of, number-of, sources-of, with-sources}
-use Rattle.packed_path.specs.Steps.{begins, first-of, rest-of, with-first}
+use Rattle.packed_path.specs.Packed.{bytes-of, number-of, sources-of, with-first, with-sources}
+use Rattle.packed_path.specs.Steps.{begins, first-of, rest-of}
 
 -- bytes come back from their number
 pub bytes-back : (bs : List ℕ) → All (λ b. b < 256) bs → bytes-of (length bs) (number-of bs) ≡ bs

@@ -1,6 +1,8 @@
 -- A PATH REDUCTION AS NUMBERS: of every legal one the numbers give it back (`path-back`, proofs/Packed).
 use Prim.Native.Nat.{ℕ, zero, suc, _+_, _*_, _/_, _%_}
+use mathlib.Core.Bool.{Bool, _&&_}
 use mathlib.Core.List.{List, [], _∷_}
+use lib.Dec.{eqb}
 use lib.ListN.{length, getD, take}
 use Rattle.meaning.specs.Query.{PathReduction}
 use Rattle.packed_path.specs.declared.PackedPath.{PackedPath}
@@ -39,3 +41,20 @@ sources-of p = bytes-of (p .count) (p .low + 18446744073709551616 * p .high)
 
 unfoldable pub path-of : PackedPath → PathReduction
 path-of p = record { keys = keys-in (p .keys); sources = sources-of p }
+
+-- are they the same, field by field?
+unfoldable pub same-packed : PackedPath → PackedPath → Bool
+same-packed a b = eqb (a .keys) (b .keys) && (eqb (a .low) (b .low) && (eqb (a .count) (b .count) && eqb (a .high) (b .high)))
+
+-- one source more, before the others
+unfoldable pub with-first : ℕ → PackedPath → PackedPath
+with-first source p = record {
+  keys = p .keys;
+  count = p .count + 1;
+  low = source + 256 * (p .low % 72057594037927936);
+  high = p .low / 72057594037927936 + 256 * (p .high % 72057594037927936);
+}
+
+-- what stands in a table where no path reduction does
+abbrev pub no-path : PackedPath
+no-path = record { keys = 0; count = 0; low = 0; high = 0 }

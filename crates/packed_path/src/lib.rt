@@ -1,8 +1,8 @@
 // A path reduction (document 01: chain) as a small struct of numbers, one for questions, worksheets and runs, compared field by field.
 ghost use mathlib.Core.Path.{_≡_};
 ghost use Prim.Native.Nat.{_<_, _≤_};
-ghost use Rattle.packed_path.specs.Packed.{sources-of};
-ghost use Rattle.packed_path.specs.Steps.{begins, first-of, no-path, rest-of, same-packed, with-first};
+ghost use Rattle.packed_path.specs.Packed.{no-path, same-packed, sources-of, with-first};
+ghost use Rattle.packed_path.specs.Steps.{begins, first-of, rest-of};
 
 // `keys` is the key count and three keys, a byte each, the count lowest and unused ones 0; `count` is how many sources there are, 0 for anywhere; the sources
 // are a byte each, the first lowest: eight in `low`, eight in `high`.

@@ -9,7 +9,7 @@ use lib.Dec.{eqb, eqb·suc-suc}
 use lib.ListN.{getD}
 use Rattle.wire.specs.Header.{then}
 use Rattle.fields.specs.Fields.{key-code}
-use Rattle.packed_path.specs.Steps.{with-first}
+use Rattle.packed_path.specs.Packed.{with-first}
 use Rattle.path_fields.specs.Paths.{keys-code, sources-at, start-code, starts-code}
 
 -- one key, and those after it

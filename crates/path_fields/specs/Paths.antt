@@ -7,8 +7,7 @@ use lib.Dec.{ltb, eqb}
 use lib.ListN.{getD}
 use Rattle.fields.specs.Fields.{code-of, key-code, source-code}
 use Rattle.packed_path.specs.declared.PackedPath.{PackedPath}
-use Rattle.packed_path.specs.Packed.{keys-number}
-use Rattle.packed_path.specs.Steps.{with-first}
+use Rattle.packed_path.specs.Packed.{keys-number, with-first}
 use Rattle.wire.specs.Header.{then}
 use Rattle.wire.specs.Wire.{at16}
 

@@ -15,8 +15,7 @@ use Rattle.meaning.specs.Plan.{Plan, version-of}
 use Rattle.meaning.specs.Query.{PathReduction}
 use Rattle.nodes.specs.Text.{set-text, start-text}
 use Rattle.packed_path.specs.declared.PackedPath.{PackedPath}
-use Rattle.packed_path.specs.Packed.{packed, sources-of}
-use Rattle.packed_path.specs.Steps.{no-path}
+use Rattle.packed_path.specs.Packed.{no-path, packed, sources-of}
 use Rattle.term_text.proofs.Sources.{starts-size}
 use Rattle.walks.specs.Lists.{All}
 use Rattle.plan_form.specs.Form.{all-listed-text, any-set, held-code, listed-text}

@@ -17,8 +17,7 @@ use Rattle.plan.specs.Plan.{plan-code, plan-scan}
 use Rattle.plan.specs.Text.{entry-count, kind-of, reduction-byte}
 use Rattle.plan.specs.Tree.{plan-of}
 use Rattle.packed_path.specs.declared.PackedPath.{PackedPath}
-use Rattle.packed_path.specs.Packed.{packed}
-use Rattle.packed_path.specs.Steps.{no-path}
+use Rattle.packed_path.specs.Packed.{no-path, packed}
 use Rattle.wire.specs.Header.{header-bytes}
 use Rattle.wire.specs.Wire.{Reply, fitted, le32, unless}
 use Rattle.plan_form.specs.declared.Form.{Form}

@@ -4,7 +4,7 @@ use mathlib.Core.Bool.{cond}
 use mathlib.Core.List.{List}
 use lib.Dec.{ltb, eqb}
 use lib.ListN.{length, replicate}
-use Rattle.packed_path.specs.Steps.{no-path}
+use Rattle.packed_path.specs.Packed.{no-path}
 use Rattle.progress.specs.declared.Progress.{Progress}
 
 -- the state after a refusal

@@ -12,7 +12,7 @@ use Rattle.nodes.specs.Nodes.{node, padded}
 use Rattle.nodes.specs.Tree.{query-nodes}
 use Rattle.query.specs.Query.{query-code, query-scan}
 use Rattle.query.specs.Tree.{query-of}
-use Rattle.packed_path.specs.Steps.{no-path}
+use Rattle.packed_path.specs.Packed.{no-path}
 use Rattle.wire.specs.Header.{header-bytes}
 use Rattle.wire.specs.Wire.{Reply, fitted, unless}
 use Rattle.query_form.specs.declared.Form.{Form}

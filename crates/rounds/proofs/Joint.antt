@@ -18,8 +18,7 @@ use Rattle.meaning.specs.Query.{PathReduction}
 use Rattle.meaning.specs.Run.{pull}
 use Rattle.graph.specs.Graph.{graph-of}
 use Rattle.packed_path.specs.declared.PackedPath.{PackedPath}
-use Rattle.packed_path.specs.Packed.{path-of}
-use Rattle.packed_path.specs.Steps.{no-path}
+use Rattle.packed_path.specs.Packed.{no-path, path-of}
 use Rattle.cells.specs.Table.{path-at, paths-in}
 use Rattle.cell_laws.proofs.Path.{Given, T-true}
 use Rattle.rounds.specs.Run.{AllStand, Begun, Ended, Ran, Stands, Turned, quiet-after}

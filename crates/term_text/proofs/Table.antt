@@ -21,8 +21,7 @@ use Rattle.terms.specs.Terms.{kept-path, slot-of}
 use Rattle.progress.specs.Progress.{blank}
 use Rattle.terms.proofs.Laws.{accepted-as}
 use Rattle.packed_path.specs.declared.PackedPath.{PackedPath}
-use Rattle.packed_path.specs.Packed.{packed}
-use Rattle.packed_path.specs.Steps.{no-path}
+use Rattle.packed_path.specs.Packed.{no-path, packed}
 use Rattle.packed_path.proofs.Packed.{same-as}
 
 -- the state w holds the path reductions cs, and has met at most eight reductions

@@ -9,7 +9,7 @@ use borrow.Author.Tests.{eqb-true, eqb-false, ne-eqb}
 use lib.Dec.{leb, eqb}
 use lib.ListN.{getD}
 use Rattle.packed_path.specs.declared.PackedPath.{PackedPath}
-use Rattle.packed_path.specs.Steps.{no-path, same-packed}
+use Rattle.packed_path.specs.Packed.{no-path, same-packed}
 use Rattle.terms.specs.declared.Step.{Step}
 use Rattle.terms.specs.declared.TermKind.{TermKind}
 use Rattle.progress.specs.declared.Progress.{Progress}

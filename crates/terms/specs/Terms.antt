@@ -11,7 +11,7 @@ use Rattle.progress.specs.declared.Progress.{Progress}
 use Rattle.progress.specs.Progress.{blank}
 use Rattle.fields.specs.Fields.{code-of}
 use Rattle.packed_path.specs.declared.PackedPath.{PackedPath}
-use Rattle.packed_path.specs.Steps.{no-path, same-packed}
+use Rattle.packed_path.specs.Packed.{no-path, same-packed}
 use Rattle.path_fields.specs.Paths.{path-at, path-code, set-at, set-code}
 
 -- a term that contains no other

@@ -1,7 +1,7 @@
 -- `packed_path::same` meets its contract. Assumes nothing.
 use mathlib.Core.Path.{refl}
 use borrow.Author.Tests.{eq-eqb, ne-eqb}
-use Rattle.packed_path.specs.Steps.{same-packed}
+use Rattle.packed_path.specs.Packed.{same-packed}
 use Rattle.packed_path.proofs.same.Statement.{statement}
 use Rattle.packed_path.proofs.same.Tie as tie
 

@@ -2,7 +2,7 @@
 use mathlib.Core.Path.{refl}
 use native.Mathlib.Omega.{arith}
 use borrow.Author.Needs.{needs}
-use Rattle.packed_path.specs.Steps.{with-first}
+use Rattle.packed_path.specs.Packed.{with-first}
 use Rattle.packed_path.proofs.Sources.{moved-up}
 use Rattle.packed_path.proofs.with_first.Statement.{statement}
 use Rattle.packed_path.proofs.with_first.Tie as tie

@@ -7,7 +7,7 @@ use borrow.Author.Needs.{needs}
 use lib.ListN.{length, take}
 use Rattle.draft.specs.Steps.{draft, put-list}
 use Rattle.draft.proofs.Texts.{left, put-more, put-done}
-use Rattle.packed_path.specs.Steps.{no-path}
+use Rattle.packed_path.specs.Packed.{no-path}
 use Rattle.plan_form.specs.Form.{all-listed-text, listed-text}
 use Rattle.plan_form.proofs.Written.{rows-short}
 use Rattle.plan_form.proofs.put_rows.Statement.{statement}

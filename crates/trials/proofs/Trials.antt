@@ -4,27 +4,30 @@ use mathlib.Core.List.{map}
 use Rattle.meaning.specs.Run.{pull, push, run, stopped}
 use Rattle.query.specs.Query.{query-code, query-scan}
 use Rattle.query.specs.Tree.{query-of}
-use Rattle.plan.specs.Plan.{body-scan, plan-code, entries-scan, entry-scan, expressions-scan, final-scan, moved, plan-scan, listed-code, listed-scan}
-use Rattle.plan.specs.Plan.{listed-step, listed-word}
+use Rattle.plan.specs.Plan.{body-scan, plan-code, entries-scan, entry-scan, expressions-scan, final-scan, moved, plan-scan, listed-at, listed-code}
+use Rattle.plan.specs.Plan.{listed-end, listed-keys-code, listed-scan, listed-starts-code, listed-step}
 use Rattle.fusion.specs.Fusion.{fuse-reply}
-use Rattle.term_text.specs.Tree.{query-term-of, written-path, written-reduction}
-use Rattle.path_fields.specs.Paths.{keys-code, path-code, path-word}
-use Rattle.terms.specs.Terms.{advanced, kept-path, leaf-step, literal-tag, path-step, read, reduce-step, index-step, literal-step, slot-of, term-step}
+use Rattle.term_text.specs.Tree.{query-term-of, starts-of, written-path, written-reduction}
+use Rattle.packed_path.specs.Steps.{same-packed, with-first}
+use Rattle.path_fields.specs.Paths.{counted-sources, key-fields-code, keys-at, keys-code, one-source, path-at, path-code, set-at, set-code, sources-at}
+use Rattle.path_fields.specs.Paths.{starts-code}
+use Rattle.terms.specs.Terms.{advanced, apply-step, kept-path, leaf-step, literal-tag, path-step, read, reduce-step, index-step, literal-step, set-step}
+use Rattle.terms.specs.Terms.{slot-of, term-step}
 use Rattle.progress.specs.Progress.{blank, ended, started}
 use Rattle.value.specs.declared.Value.{Value}
 use Rattle.value.specs.Value.{combine, compute}
 use Rattle.walks.specs.Keys.{key-row}
 use Rattle.walks.specs.Rounds.{best, first, gather, marked, rounds, state}
 use Rattle.wire.specs.Header.{header-code}
-use Rattle.trials.specs.Samples.{Reading, Run, outcome-by, queries, runs, samples, plans}
+use Rattle.trials.specs.Samples.{Reading, Run, fusings, outcome-by, queries, runs, samples, plans}
 use Rattle.trials.specs.Trials.{finding, stated, trials}
 
--- THE MARKED TRIALS HOLD: by pull and by push, what readers say, what fusing gives
-pub marked-trials : map finding trials ≡ map stated trials
+-- THE MARKED TRIALS HOLD, and the samples of fusing: by pull and by push, what readers say, what fusing gives
+pub marked-trials : (map finding trials ≡ map stated trials) × (map finding fusings ≡ map stated fusings)
 unfolding run stopped rounds first state marked gather best key-row query-scan header-code ended started blank read term-step leaf-step literal-tag
-    path-step path-code keys-code kept-path slot-of advanced path-word reduce-step fuse-reply query-of query-term-of written-path written-reduction
-    compute combine
-marked-trials = refl
+    path-step path-code key-fields-code keys-code kept-path slot-of same-packed advanced path-at keys-at one-source reduce-step apply-step set-step set-code
+    starts-code set-at counted-sources sources-at with-first fuse-reply query-of query-term-of written-path written-reduction starts-of compute combine
+marked-trials = (refl, refl)
 
 -- operators and reductions
 pub samples-hold : map (λ (p : Value × Value). p .0) samples ≡ map (λ (p : Value × Value). p .1) samples
@@ -39,7 +42,8 @@ runs-hold = (refl, refl)
 -- the numbers that readers of questions and worksheets give
 pub numbers-hold : (map (λ (r : Reading). query-code (r .bytes)) queries ≡ map (λ (r : Reading). r .number) queries)
     × (map (λ (r : Reading). plan-code (r .bytes)) plans ≡ map (λ (r : Reading). r .number) plans)
-unfolding query-scan header-code ended started blank read term-step leaf-step literal-tag path-step path-code keys-code kept-path slot-of advanced
-    path-word reduce-step index-step literal-step key-row plan-scan listed-scan listed-step listed-code listed-word body-scan moved entries-scan entry-scan
-    expressions-scan final-scan
+unfolding query-scan header-code ended started blank read term-step leaf-step literal-tag path-step path-code key-fields-code keys-code kept-path slot-of
+    same-packed advanced path-at keys-at one-source reduce-step index-step literal-step set-step set-code starts-code set-at counted-sources sources-at
+    with-first key-row plan-scan listed-scan listed-step listed-code listed-keys-code listed-starts-code listed-at listed-end body-scan moved entries-scan
+    entry-scan expressions-scan final-scan
 numbers-hold = (refl, refl)

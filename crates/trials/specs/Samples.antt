@@ -1,16 +1,17 @@
--- Samples of document 01 beside the marked trials, each worked out by hand: operators and reductions, runs, and the numbers that readers give.
+-- Samples of document 01 and of document 02, a and b, beside the marked trials, each worked out by hand: operators and reductions, runs, the numbers that
+-- readers give, and the bytes that fusing gives.
 use Prim.Native.Nat.{ℕ}
-use mathlib.Core.List.{List, [], _∷_}
+use mathlib.Core.List.{List, [], _∷_, _++_}
 use mathlib.Core.Option.{Option, none, some}
 use Rattle.meaning.specs.Meaning.{Outcome}
 use Rattle.meaning.specs.Plan.{fuse}
-use Rattle.meaning.specs.Query.{Query, VertexTerm, each, number, operator, over, over-where, path, single}
+use Rattle.meaning.specs.Query.{Query, VertexTerm, each, number, operator, over, over-where, path, path-set, single}
 use Rattle.meaning.specs.Run.{Way, run, stopped}
 use Rattle.value.specs.declared.Value.{Value}
 use Rattle.value.specs.declared.Value.the-variants.{Absent, Number}
 use Rattle.value.specs.Value.{operate, reduce}
 use Rattle.walks.specs.Walks.{Graph, edge}
-use Rattle.trials.specs.Trials.{graph-a}
+use Rattle.trials.specs.Trials.{Expected, Trial, expected, fuses, graph-a}
 
 -- operators and reductions: the last number that fits, the first that does not, an absent operand, ties
 
@@ -73,8 +74,15 @@ outcome-by way s = limited (way (s .graph)) (s .graph) (s .query) (s .limit)
 abbrev sample : Graph → Query → Option ℕ → ℕ → List Value → Run
 sample g q limit rounds xs = record { graph = g; query = q; limit = limit; outcome = record { rounds = rounds; rows = xs } }
 
+-- a path reduction from one source, from anywhere, and from a set (0x13)
 abbrev from : List ℕ → ℕ → VertexTerm
-from ks s = path (record { keys = ks; source = s })
+from ks s = path (record { keys = ks; sources = s ∷ [] })
+
+abbrev from-anywhere : List ℕ → VertexTerm
+from-anywhere ks = path (record { keys = ks; sources = [] })
+
+abbrev from-any : List ℕ → List ℕ → VertexTerm
+from-any ks ss = path-set (record { keys = ks; sources = ss })
 
 -- the sum over vertices of the least weight from 0, less the greatest sum of fewest edges and least weight: 12 - 7
 abbrev two-paths : Query
@@ -85,6 +93,10 @@ two-paths =
 abbrev farther : ℕ → ℕ → Query
 farther o k = single (over-where o (operator 9 (from (2 ∷ []) 0) (number k)) (from (2 ∷ []) 0))
 
+-- the lesser of the seconds from 0 and from 2
+abbrev lesser : VertexTerm
+lesser = operator 1 (from (2 ∷ []) 0) (from (2 ∷ []) 2)
+
 -- 0→1 9 s, 0→2 1 s, 2→1 1 s, all of size 3: in round 2 only the weight at 1 changes
 abbrev detour : Graph
 detour = record { vertices = 3; edges = edge 0 1 9 3 ∷ edge 0 2 1 3 ∷ edge 2 1 1 3 ∷ [] }
@@ -93,8 +105,8 @@ detour = record { vertices = 3; edges = edge 0 1 9 3 ∷ edge 0 2 1 3 ∷ edge 2
 abbrev pub runs : List Run
 runs =
     -- keys 3 and 4, from anywhere: the least and the greatest vertex that a walk starts at
-    sample graph-a (each (from (3 ∷ []) 65535)) none 3 (Number 0 ∷ Number 0 ∷ Number 0 ∷ Number 0 ∷ [])
-    ∷ sample graph-a (each (from (4 ∷ []) 65535)) none 2 (Number 0 ∷ Number 2 ∷ Number 2 ∷ Number 3 ∷ [])
+    sample graph-a (each (from-anywhere (3 ∷ []))) none 3 (Number 0 ∷ Number 0 ∷ Number 0 ∷ Number 0 ∷ [])
+    ∷ sample graph-a (each (from-anywhere (4 ∷ []))) none 2 (Number 0 ∷ Number 2 ∷ Number 2 ∷ Number 3 ∷ [])
     ∷ sample graph-a (each (from (4 ∷ []) 2)) none 3 (Absent ∷ Number 2 ∷ Number 2 ∷ Number 2 ∷ [])
     -- three keys: of the walks of least weight those of fewest edges
     ∷ sample graph-a (each (from (2 ∷ 1 ∷ 6 ∷ []) 0)) none 3 (Number 65535 ∷ Number 10 ∷ Number 4 ∷ Number 7 ∷ [])
@@ -110,6 +122,16 @@ runs =
     ∷ sample graph-a (farther 3 9) none 3 (Absent ∷ [])
     ∷ sample graph-a (single (over-where 3 (from (2 ∷ []) 2) (number 7))) none 3 (Number 14 ∷ [])
     ∷ sample graph-a (single (over-where 1 (number 1) (from (2 ∷ []) 2))) none 3 (Number 0 ∷ [])
+    -- "A walk may begin at any of them." (document 02, b): keys 2 from 0 and 2, "rounds included"; the greatest start; crate sizes
+    ∷ sample graph-a (each (from-any (2 ∷ []) (0 ∷ 2 ∷ []))) none 3 (Number 0 ∷ Number 3 ∷ Number 0 ∷ Number 3 ∷ [])
+    ∷ sample graph-a (each (from-any (2 ∷ []) (0 ∷ 2 ∷ []))) (some 1) 1 (Number 0 ∷ Number 3 ∷ Number 0 ∷ Absent ∷ [])
+    ∷ sample graph-a (each (from-any (4 ∷ []) (0 ∷ 2 ∷ []))) none 3 (Number 0 ∷ Number 2 ∷ Number 2 ∷ Number 2 ∷ [])
+    ∷ sample graph-a (each (from-any (6 ∷ []) (0 ∷ 2 ∷ []))) none 4 (Number 65535 ∷ Number 4 ∷ Number 4 ∷ Number 4 ∷ [])
+    -- at each vertex that both starts lead to, the lesser of the two; by `min` it is absent at 0, where 2 does not lead
+    ∷ sample graph-a (single (over 4 (operator 7 (from-any (2 ∷ []) (0 ∷ 2 ∷ [])) lesser))) none 3 (Number 1 ∷ [])
+    ∷ sample graph-a (each lesser) none 3 (Absent ∷ Number 3 ∷ Number 0 ∷ Number 3 ∷ [])
+    -- "A set of one is the same chain as 0x10 with that start."
+    ∷ sample graph-a (each (from-any (2 ∷ []) (0 ∷ []))) none 3 (Number 0 ∷ Number 5 ∷ Number 2 ∷ Number 5 ∷ [])
     -- "With no chain that is round 1."
     ∷ sample graph-a (single (number 9)) none 1 (Number 9 ∷ [])
     -- "stopped after a given 16-bit number of rounds, 0 allowed; it then does that many, quiet or not"
@@ -125,6 +147,24 @@ pub record Reading : Type 0 where
 
 abbrev headed : ℕ → List ℕ → ℕ → Reading
 headed letter l k = record { bytes = 0x4c ∷ 0x50 ∷ letter ∷ 0x01 ∷ 0x00 ∷ l; number = k }
+
+-- starts below 256, low byte first; 1 to 15
+abbrev low : List ℕ → List ℕ
+low [] = []
+low (s ∷ ss) = s ∷ 0x00 ∷ low ss
+
+abbrev to-15 : List ℕ
+to-15 = 1 ∷ 2 ∷ 3 ∷ 4 ∷ 5 ∷ 6 ∷ 7 ∷ 8 ∷ 9 ∷ 10 ∷ 11 ∷ 12 ∷ 13 ∷ 14 ∷ 15 ∷ []
+
+-- a question of one chain 0x13 of key 2, from its set count on; a worksheet of one chain of key 2, from behind its key bytes to its entry count
+abbrev one-set : List ℕ → ℕ → Reading
+one-set l = headed 0x51 (0x00 ∷ 0x13 ∷ 0x01 ∷ 0x02 ∷ l)
+
+abbrev one-path : ℕ → List ℕ → ℕ → Reading
+one-path version l k = record {
+  bytes = 0x4c ∷ 0x50 ∷ 0x57 ∷ version ∷ 0x00 ∷ 0x00 ∷ 0x01 ∷ 0x01 ∷ 0x02 ∷ 0x00 ∷ 0x00 ∷ (l ++ (0x01 ∷ 0x00 ∷ 0x30 ∷ 0x00 ∷ []));
+  number = k;
+}
 
 -- samples of questions
 abbrev pub queries : List Reading
@@ -153,6 +193,27 @@ queries =
     ∷ headed 0x51 (0x01 ∷ 0x23 ∷ 0x06 ∷ []) 9
     ∷ headed 0x51 (0x01 ∷ 0x23 ∷ 0x03 ∷ 0x21 ∷ 0x01 ∷ 0x00 ∷ 0x00 ∷ 0x00 ∷ []) 9
     ∷ headed 0x51 (0x00 ∷ 0x23 ∷ 0x03 ∷ []) 9
+    -- "a set count 1 to 16, the 16-bit starts strictly rising": read; the set count missing, 0 and 17
+    ∷ one-set (0x01 ∷ low (255 ∷ [])) 0
+    ∷ one-set (0x02 ∷ low (0 ∷ 2 ∷ [])) 0
+    ∷ one-set (0x10 ∷ low (0 ∷ to-15)) 0
+    ∷ one-set [] 1
+    ∷ one-set (0x00 ∷ []) 9
+    ∷ one-set (0x11 ∷ low (0 ∷ to-15)) 9
+    -- a start missing, its high byte missing, the second missing, a byte left over; 256, and "65,535 inside a set is 13"
+    ∷ one-set (0x01 ∷ []) 1
+    ∷ one-set (0x01 ∷ 0x00 ∷ []) 1
+    ∷ one-set (0x02 ∷ 0x00 ∷ 0x00 ∷ []) 1
+    ∷ one-set (0x01 ∷ 0x00 ∷ 0x00 ∷ 0x00 ∷ []) 6
+    ∷ one-set (0x02 ∷ 0x00 ∷ 0x00 ∷ 0x00 ∷ 0x01 ∷ []) 13
+    ∷ one-set (0x01 ∷ 0xff ∷ 0xff ∷ []) 13
+    -- '17 "starts order" when a start doesn't exceed the one before': equal, lower; start by start, so before the 13 of a later one
+    ∷ one-set (0x02 ∷ low (1 ∷ 1 ∷ [])) 17
+    ∷ one-set (0x02 ∷ low (1 ∷ 0 ∷ [])) 17
+    ∷ one-set (0x03 ∷ 0x01 ∷ 0x00 ∷ 0x01 ∷ 0x00 ∷ 0x00 ∷ 0x01 ∷ []) 17
+    -- keys before the set count; a set is a place term
+    ∷ headed 0x51 (0x00 ∷ 0x13 ∷ 0x02 ∷ 0x05 ∷ 0x02 ∷ 0x11 ∷ []) 10
+    ∷ headed 0x51 (0x01 ∷ 0x13 ∷ 0x01 ∷ 0x02 ∷ 0x01 ∷ 0x00 ∷ 0x00 ∷ []) 9
     ∷ []
 
 -- samples of worksheets
@@ -173,4 +234,47 @@ plans =
     ∷ headed 0x57 (0x01 ∷ 0x00 ∷ 0x01 ∷ 0x80 ∷ []) 9
     ∷ headed 0x57 (0x01 ∷ 0x00 ∷ 0x01 ∷ 0x86 ∷ []) 9
     ∷ headed 0x57 (0x00 ∷ 0x00 ∷ 0x01 ∷ 0x81 ∷ []) 9
+    -- version 2: "a set count (0 for anywhere) and its starts", up to 16 of them
+    ∷ one-path 2 (0x00 ∷ []) 0
+    ∷ one-path 2 (0x01 ∷ low (0 ∷ [])) 0
+    ∷ one-path 2 (0x02 ∷ low (0 ∷ 2 ∷ [])) 0
+    ∷ one-path 2 (0x10 ∷ low (0 ∷ to-15)) 0
+    ∷ one-path 2 (0x11 ∷ low (0 ∷ to-15)) 9
+    ∷ one-path 2 (0x01 ∷ 0xff ∷ 0xff ∷ []) 13
+    ∷ one-path 2 (0x02 ∷ low (1 ∷ 1 ∷ [])) 17
+    -- "Both are read": neither 0 nor 3; the bytes of one version under the other
+    ∷ one-path 1 (0x00 ∷ 0x00 ∷ []) 0
+    ∷ one-path 0 (0x00 ∷ 0x00 ∷ []) 3
+    ∷ one-path 3 (0x00 ∷ []) 3
+    ∷ one-path 1 (0x00 ∷ []) 13
+    ∷ one-path 1 (0x02 ∷ low (0 ∷ 2 ∷ [])) 9
+    ∷ one-path 2 (0x00 ∷ 0x00 ∷ []) 9
+    ∷ one-path 2 (0x01 ∷ 0x00 ∷ []) 13
+    ∷ []
+
+-- bytes of questions behind the version, and of worksheets from it on
+abbrev fusing : List ℕ → List ℕ → Expected → Trial
+fusing bs ws = fuses (0x4c ∷ 0x50 ∷ 0x51 ∷ 0x01 ∷ 0x00 ∷ bs) (0x4c ∷ 0x50 ∷ 0x57 ∷ ws) graph-a
+
+-- samples of fusing: "version 2 .. when some set has two or more; else version 1"
+abbrev pub fusings : List Trial
+fusings =
+    -- keys 2 from 0 and 2, as it is
+    fusing (0x00 ∷ 0x13 ∷ 0x01 ∷ 0x02 ∷ 0x02 ∷ low (0 ∷ 2 ∷ []))
+    (0x02 ∷ 0x00 ∷ 0x00 ∷ 0x01 ∷ 0x01 ∷ 0x02 ∷ 0x00 ∷ 0x00 ∷ 0x02 ∷ 0x00 ∷ 0x00 ∷ 0x02 ∷ 0x00
+    ∷ 0x01 ∷ 0x00 ∷ 0x30 ∷ 0x00 ∷ [])
+    (expected (Number 0 ∷ Number 3 ∷ Number 0 ∷ Number 3 ∷ []) (some 3))
+    -- those from anywhere and those from 0 added, less these: set counts 0, 1 and 2
+    ∷ fusing
+    (0x00 ∷ 0x12 ∷ 0x04 ∷ 0x12 ∷ 0x03 ∷ 0x10 ∷ 0x01 ∷ 0x02 ∷ 0xff ∷ 0xff ∷ 0x10 ∷ 0x01 ∷ 0x02 ∷ 0x00 ∷ 0x00
+    ∷ 0x13 ∷ 0x01 ∷ 0x02 ∷ 0x02 ∷ low (0 ∷ 2 ∷ []))
+    (0x02 ∷ 0x00 ∷ 0x00 ∷ 0x03 ∷ 0x01 ∷ 0x02 ∷ 0x00 ∷ 0x00 ∷ 0x00 ∷ 0x01 ∷ 0x02 ∷ 0x00 ∷ 0x00 ∷ 0x01 ∷ 0x00 ∷ 0x00
+    ∷ 0x01 ∷ 0x02 ∷ 0x00 ∷ 0x00 ∷ 0x02 ∷ 0x00 ∷ 0x00 ∷ 0x02 ∷ 0x00 ∷ 0x01 ∷ 0x00
+    ∷ 0x12 ∷ 0x04 ∷ 0x12 ∷ 0x03 ∷ 0x30 ∷ 0x00 ∷ 0x30 ∷ 0x01 ∷ 0x30 ∷ 0x02 ∷ [])
+    (expected (Number 0 ∷ Number 2 ∷ Number 2 ∷ Number 2 ∷ []) (some 3))
+    -- "A set of one is the same chain as 0x10 with that start.": one chain, in version 1
+    ∷ fusing (0x00 ∷ 0x12 ∷ 0x03 ∷ 0x13 ∷ 0x01 ∷ 0x02 ∷ 0x01 ∷ 0x00 ∷ 0x00 ∷ 0x10 ∷ 0x01 ∷ 0x02 ∷ 0x00 ∷ 0x00 ∷ [])
+    (0x01 ∷ 0x00 ∷ 0x00 ∷ 0x01 ∷ 0x01 ∷ 0x02 ∷ 0x00 ∷ 0x00 ∷ 0x00 ∷ 0x00 ∷ 0x01 ∷ 0x00
+    ∷ 0x12 ∷ 0x03 ∷ 0x30 ∷ 0x00 ∷ 0x30 ∷ 0x00 ∷ [])
+    (expected (Number 0 ∷ Number 10 ∷ Number 4 ∷ Number 10 ∷ []) (some 3))
     ∷ []

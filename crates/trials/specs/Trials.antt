@@ -18,7 +18,7 @@ pub record Expected : Type 0 where
   pub rows : List Value
   pub rounds : Option ℕ
 
-abbrev expected : List Value → Option ℕ → Expected
+abbrev pub expected : List Value → Option ℕ → Expected
 expected xs r = record { rows = xs; rounds = r }
 
 -- what a trial asks
@@ -61,7 +61,7 @@ graph n es = record { vertices = n; edges = es }
 
 -- a trial of one path reduction: its keys and source, the rounds and the values
 abbrev path-answers : Graph → List ℕ → ℕ → Option ℕ → List Value → Trial
-path-answers g ks s r xs = answers g (each (path (record { keys = ks; source = s }))) (expected xs r)
+path-answers g ks s r xs = answers g (each (path (record { keys = ks; sources = s ∷ [] }))) (expected xs r)
 
 -- "Map A: 4 places; 0→1 5 s size 10; 0→2 2 s size 4; 2→1 3 s size 20; 1→3 0 s size 7."
 abbrev pub graph-a : Graph

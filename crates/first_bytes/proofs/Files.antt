@@ -23,8 +23,8 @@ use Rattle.first_bytes.proofs.Query as query
 refused-both : (k l : ℕ) (x y : Reply) → k ≡ l → (l ≡ 0 → ⊥) → unless k x ≡ unless l y
 refused-both k l x y e n = rw (e, ne-eqb l 0 n) refl
 
--- a question by 455 bytes or more
-pub long-query : (s : List ℕ) (k room : ℕ) → 455 ≤ k → fuse-reply (take k s) room ≡ fuse-reply s room
+-- a question by 2,439 bytes or more
+pub long-query : (s : List ℕ) (k room : ℕ) → 2439 ≤ k → fuse-reply (take k s) room ≡ fuse-reply s room
 unfolding fuse-reply
 long-query s k room h = go (leb (length s) k) refl
   where

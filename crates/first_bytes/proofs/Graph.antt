@@ -19,7 +19,7 @@ pub record Alike (s t : List ℕ) : Type 0 where
   pub longer : 8202 ≤ length t
 
 module _ (s t : List ℕ) (a : Alike s t) where
-  header-same : header-code 0x4d 9 t ≡ header-code 0x4d 9 s
+  header-same : header-code 0x4d 1 9 t ≡ header-code 0x4d 1 9 s
   unfolding header-code
   header-same =
       rw (
@@ -54,7 +54,7 @@ module _ (s t : List ℕ) (a : Alike s t) where
   code-same = rw (header-same, vertices-same, edges-same) (go (eqb head 0) (eqb (counts-code n m) 0) refl refl)
     where
       head : ℕ
-      head = header-code 0x4d 9 s
+      head = header-code 0x4d 1 9 s
 
       n : ℕ
       n = at16 s 5

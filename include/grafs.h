@@ -38,9 +38,9 @@ extern "C" {
 #define GRAFS_QUESTION_MAX 1286
 #define GRAFS_MAP_MAX 8201
 
-/* Lent so many bytes, no call refuses by GRAFS_BUFFER_SHORT. No worksheet has more than 8 bytes, 8 chains of at most 37 and 72 terms and reduction
- * bytes of at most 7. */
-#define GRAFS_WORKSHEET_MAX 808
+/* Lent so many bytes, no call refuses by GRAFS_BUFFER_SHORT. The longest worksheet has 8 bytes, 8 chains of 37, 8 reduction bytes, 40 literals of 5
+ * and 24 operators of 2; `fuse` writes none of more than 512. */
+#define GRAFS_WORKSHEET_MAX 560
 #define GRAFS_ANSWER_MAX 2314
 
 /* A thread that has so many bytes of stack left can make the call. Measured: some 25,000 and 54,000 bytes; the rest is margin. */

@@ -323,17 +323,14 @@ static size_t longest_plan(void)
     return 8 + LONGEST_CHAIN * GRAFS_CHAINS_MAX + most;
 }
 
-/* In a worksheet a chain has 37 bytes in the table and 2 where it stands, 34 more than a literal; a reduction has the byte of its entry, and an index's 2.
- * What is proved of every worksheet has 7 bytes for each term and each entry's byte. */
+/* In a worksheet a chain has 37 bytes in the table and 2 where it stands, 34 more than a literal; a reduction has the byte of its entry, and an index's 2. */
 static void try_lengths(void)
 {
     size_t question = 6 + longest_term(1 + LONGEST_CHAIN, 2), plan = longest_plan();
     size_t fused = 8 + (LONGEST_CHAIN + 2 - 5) * GRAFS_CHAINS_MAX + longest_term(5, 3);
-    size_t proved = 8 + LONGEST_CHAIN * GRAFS_CHAINS_MAX + 7 * (GRAFS_TERMS_MAX + GRAFS_REDUCTIONS_MAX);
     expect(question == GRAFS_QUESTION_MAX, "no question is longer", question);
     expect(fused == 512 && fused <= GRAFS_WORKSHEET_MAX, "no fused worksheet is longer", fused);
-    expect(plan == 560 && plan <= GRAFS_WORKSHEET_MAX, "no worksheet is longer", plan);
-    expect(proved == GRAFS_WORKSHEET_MAX, "what is proved of every worksheet", proved);
+    expect(plan == GRAFS_WORKSHEET_MAX, "no worksheet is longer", plan);
 }
 
 /* ---------------------------------------------------------------------------------------------------------------------- samples */

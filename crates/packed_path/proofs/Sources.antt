@@ -5,6 +5,7 @@ use mathlib.Core.Bool.{Bool, true, false, _||_}
 use mathlib.Core.List.{List, [], _∷_}
 use native.Mathlib.Omega.{arith}
 use borrow.Author.Tests.{eq-eqb, ne-eqb}
+use lib.Dec.{eqb}
 use lib.ListN.{length}
 use Rattle.meaning.specs.Query.{member}
 use Rattle.walks.specs.Lists.{All}
@@ -113,6 +114,18 @@ member-first p v h e = rw (sources-first p h, eq-eqb (first-of p) v e) refl
 
 pub member-rest : (p : PackedPath) (v : ℕ) → 0 < p .count → (first-of p ≡ v → ⊥) → member v (sources-of p) ≡ member v (sources-of (rest-of p))
 member-rest p v h e = rw (sources-first p h, ne-eqb (first-of p) v e) refl
+
+-- the last one
+or-false : (a : Bool) → a || false ≡ a
+or-false true = refl
+or-false false = refl
+
+less-one : (p : PackedPath) → p .count ≡ 1 → rest-of p .count ≡ 0
+unfolding rest-of
+less-one p e = omega arith
+
+pub member-last : (p : PackedPath) (v : ℕ) → p .count ≡ 1 → member v (sources-of p) ≡ eqb (first-of p) v
+member-last p v e = rw (sources-first p (omega arith), sources-none (rest-of p) (less-one p e)) (or-false (eqb (first-of p) v))
 
 pub begins-member : (p : PackedPath) (v : ℕ) → 0 < p .count → begins (sources-of p) v ≡ member v (sources-of p)
 begins-member p v h = rw (sources-first p h) refl

@@ -82,11 +82,11 @@ pub fn starts_at(p: PackedPath, v: u64) -> bool
         return true;
     }
     let mut left = p;
-    while 0 < left.count {
+    while 1 < left.count {
         if first(left) == v {
             return true;
         }
         left = rest(left);
     }
-    false
+    first(left) == v
 }

@@ -10,7 +10,8 @@ use Rattle.wire.proofs.Codes.{past, then-both}
 use Rattle.fields.specs.Fields.{kind-code, opening-code}
 
 -- an accepted opening has an accepted header and the kind 0 or 1
-pub opening-found : (letter newest : ℕ) (s : List ℕ) → opening-code letter newest s ≡ 0 → (header-code letter newest 5 s ≡ 0) × (getD s 5 256 ≤ 1)
+pub opening-found : (letter newest : ℕ) (s : List ℕ) → opening-code letter newest s ≡ 0
+    → (header-code letter newest 5 s ≡ 0) × (getD s 5 256 ≤ 1)
 opening-found letter newest s e =
     let p = then-both (header-code letter newest 5 s) (kind-code (getD s 5 256)) e in
     let q = past (ltb 255 (getD s 5 256)) 0 _ (p .1) in

@@ -10,7 +10,7 @@ use lib.Dec.{leb, ltb, eqb}
 use lib.ListN.{length, getD, set}
 use Rattle.fields.specs.Fields.{code-of, key-code, opening-code, source-code}
 use Rattle.packed_path.specs.declared.PackedPath.{PackedPath}
-use Rattle.packed_path.specs.Steps.{with-first}
+use Rattle.packed_path.specs.Packed.{with-first}
 use Rattle.path_fields.specs.Paths.{counted-sources, key-fields-code, keys-at, keys-code, path-at, path-code, set-at, set-code, sources-at}
 use Rattle.path_fields.specs.Paths.{starts-code}
 use Rattle.terms.specs.declared.Step.{Step}

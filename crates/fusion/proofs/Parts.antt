@@ -61,7 +61,8 @@ part-more part table k list len l n i z r h m =
     ∙ ap (λ (d : Written). put-part part table (k + reduces (getD l i z .term)) d (left l n (i + 1))) (put-room list len t r)
 
 -- no node is left
-pub part-done : (part : ℕ) (table : List PackedPath) (k : ℕ) (d : Written) (l : List Node) (n i : ℕ) → n ≤ i → put-part part table k d (left l n i) ≡ d
+pub part-done : (part : ℕ) (table : List PackedPath) (k : ℕ) (d : Written) (l : List Node) (n i : ℕ) → n ≤ i
+    → put-part part table k d (left l n i) ≡ d
 unfolding put-part
 part-done part table k d l n i h = let e : n - i ≡ 0 = omega arith in rw e refl
 

@@ -25,9 +25,9 @@ unfoldable pub index-of : PackedPath → List PackedPath → ℕ
 index-of p [] = 0
 index-of p (x ∷ l) = cond (same-packed x p) 0 (suc (index-of p l))
 
--- what a node of a query is in the entries of its plan: "0x30 and a chain's index for a chain", whichever of its two bytes it has, "a reduction byte and an expression", with 128
--- added where there is a condition (o is one of the five: the remainder keeps the byte below 256); "operators and literals keep their bytes"; a literal or
--- operator of a result term is in none
+-- what a node of a query is in the entries of its plan: "0x30 and a chain's index for a chain", whichever of its two bytes it has, "a reduction byte and an
+-- expression", with 128 added where there is a condition (o is one of the five: the remainder keeps the byte below 256); "operators and literals keep their
+-- bytes"; a literal or operator of a result term is in none
 unfoldable pub entry-term : List PackedPath → Term → Term
 entry-term table Empty = Empty
 entry-term table (Path p) = PathIndex (index-of p table)

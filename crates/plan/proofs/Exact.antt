@@ -117,14 +117,15 @@ read-complete p l =
     let a = listed-complete s v (p .paths) (started 7) [] (body-bytes (p .body)) refl (started-table 7) (all-listed p l) refl (omega (arith, l .few-paths)) in
     let w1 : Progress = listed-scan n v s (started 7) in
     let e1 : drop (w1 .at) s ≡ body-bytes (p .body) ++ [] =
-    ap (λ (i : ℕ). drop i s) (a .at) ∙ drop-on s 7 (length (all-listed-bytes v (p .paths))) (all-listed-bytes v (p .paths)) (body-bytes (p .body)) refl refl
+    ap (λ (i : ℕ). drop i s) (a .at)
+    ∙ drop-on s 7 (length (all-listed-bytes v (p .paths))) (all-listed-bytes v (p .paths)) (body-bytes (p .body)) refl refl
     ∙ sym (append-nil (body-bytes (p .body))) in
     let b = body-complete s (p .body) w1 (p .paths) [] (a .code) (a .table) (a .terms) (a .reductions) e1 (l .body-legal) (l .few-terms) in
     let len = length-append (all-listed-bytes v (p .paths)) (body-bytes (p .body)) in
     let whole =
     plan-scanned s (kind-of (p .body)) n
-    (header-accepted 0x57 2 5 v (kind-of (p .body) ∷ n ∷ (all-listed-bytes v (p .paths) ++ body-bytes (p .body))) (l .known-version .0) (l .known-version .1)
-    (omega arith))
+    (header-accepted 0x57 2 5 v (kind-of (p .body) ∷ n ∷ (all-listed-bytes v (p .paths) ++ body-bytes (p .body))) (l .known-version .0)
+    (l .known-version .1) (omega arith))
     refl (kind-small (p .body)) refl (l .few-paths)
     ∙ ended-whole s (body-scan (kind-of (p .body)) s w1) (omega (arith, b .at, a .at)) in
     subst (λ (w : Progress). Scanned w p) (sym whole) (record { accepted = b .code; terms = b .terms; reductions = b .reductions; table = b .table })

@@ -267,8 +267,8 @@ module _ (s : List ℕ) (version : ℕ) where
   module _ (c : PathReduction) (fits : Listed version c) (i : ℕ) (rest : List ℕ) (e : drop i s ≡ listed-bytes version c ++ rest) where
     behind : drop (i + 4) s ≡ listed-starts version (c .sources) ++ rest
     behind =
-        drop-on s i 4 (length (c .keys) ∷ getD (c .keys) 0 0 ∷ getD (c .keys) 1 0 ∷ getD (c .keys) 2 0 ∷ []) (listed-starts version (c .sources) ++ rest) e
-        refl
+        let four = length (c .keys) ∷ getD (c .keys) 0 0 ∷ getD (c .keys) 1 0 ∷ getD (c .keys) 2 0 ∷ [] in
+        drop-on s i 4 four (listed-starts version (c .sources) ++ rest) e refl
 
     listed-accepted : listed-code version s i ≡ 0
     unfolding listed-code
@@ -370,7 +370,8 @@ module _ (s : List ℕ) (version : ℕ) where
       let e2 : drop (listed-step version s w .at) s ≡ all-listed-bytes version ds ++ rest =
       ap (λ (i : ℕ). drop i s) (a .at)
       ∙ drop-on s (w .at) (length (listed-bytes version d)) (listed-bytes version d) (all-listed-bytes version ds ++ rest) e1 refl in
-      let b = listed-complete ds (listed-step version s w) (cs ++ (d ∷ [])) rest (a .code) (a .table) (f .1) e2 (omega (arith, length-append cs (d ∷ []))) in
+      let b = listed-complete ds (listed-step version s w) (cs ++ (d ∷ [])) rest (a .code) (a .table) (f .1) e2
+      (omega (arith, length-append cs (d ∷ []))) in
       let more = append-snoc cs d ds in
       let size = length-append (listed-bytes version d) (all-listed-bytes version ds) in
       rw (eq-eqb (w .code) 0 z)
@@ -403,7 +404,9 @@ module _ (s : List ℕ) (version : ℕ) where
 
   -- what is read: k legal path reductions whose bytes stand next
   abbrev Lists : ℕ → Progress → Type 0
-  Lists k w = (ds : List PathReduction) × (rest : List ℕ) × (length ds ≡ k) × All (Listed version) ds × (drop (w .at) s ≡ all-listed-bytes version ds ++ rest)
+  Lists k w =
+      (ds : List PathReduction) × (rest : List ℕ) × (length ds ≡ k) × All (Listed version) ds
+      × (drop (w .at) s ≡ all-listed-bytes version ds ++ rest)
 
   pub listed-sound : Bytes s → 1 ≤ version → (k : ℕ) (w : Progress) (cs : List PathReduction) → w .code ≡ 0 → Table w cs → length cs + k ≤ 8
       → listed-scan k version s w .code ≡ 0 → Lists k w
@@ -419,7 +422,8 @@ module _ (s : List ℕ) (version : ℕ) where
       stops n f p = f (accepted-as (ap (listed-scan k version s) p ∙ listed-refused k (blank n) f) on)
 
       go : (a b : Bool) → leb (length s) (w .at) ≡ a → eqb (listed-code version s (w .at)) 0 ≡ b
-          → ((w : Progress) (cs : List PathReduction) → w .code ≡ 0 → Table w cs → length cs + k ≤ 8 → listed-scan k version s w .code ≡ 0 → Lists k w)
+          → ((w : Progress) (cs : List PathReduction) → w .code ≡ 0 → Table w cs → length cs + k ≤ 8 → listed-scan k version s w .code ≡ 0
+          → Lists k w)
           → Lists (suc k) w
       go true b p q ih = absurd (stops 1 (λ x. omega arith) (rw p refl))
       go false false p q ih = absurd (stops (listed-code version s (w .at)) (eqb-false (listed-code version s (w .at)) 0 q) (rw (p, q) refl))

@@ -1,5 +1,5 @@
--- NO LEGAL PLAN IS LONGER THAN 560 BYTES, in either version: 8, in version 2 37 for each of 8 path reductions, and 256 behind the entry count. An expression of k
--- operators has k + 1 leaves, so at most 7k + 5 bytes. Assumes nothing.
+-- NO LEGAL PLAN IS LONGER THAN 560 BYTES, in either version: 8, in version 2 37 for each of 8 path reductions, and 256 behind the entry count. An expression
+-- of k operators has k + 1 leaves, so at most 7k + 5 bytes. Assumes nothing.
 use Prim.Native.Nat.{ℕ, suc, _+_, _*_, _≤_}
 use mathlib.Core.Path.{_≡_, refl}
 use mathlib.Core.Bool.{Bool, true, false, cond}

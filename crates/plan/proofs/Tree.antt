@@ -59,7 +59,8 @@ module _ (version : ℕ) (s : List ℕ) where
       let behind = drop-on s at 4 (length (c .keys) ∷ ks) (l ++ rest) e refl in
       path-by at ∙ rw (tag-there s at (length (c .keys)) (ks ++ (l ++ rest)) e, d, same) (starts (eqb version 1) refl behind)
     where
-      starts : (b : Bool) → eqb version 1 ≡ b → drop (at + 4) s ≡ cond b (le16 (start-of (c .sources))) (length (c .sources) ∷ starts-bytes (c .sources)) ++ rest
+      starts : (b : Bool) → eqb version 1 ≡ b
+          → drop (at + 4) s ≡ cond b (le16 (start-of (c .sources))) (length (c .sources) ∷ starts-bytes (c .sources)) ++ rest
           → cond b (whole (record { keys = c .keys; sources = one-start (at16 s (at + 4)) }) (at + 6))
           (whole (record { keys = c .keys; sources = starts-of (getD s (at + 4) 0) s (at + 5) }) (at + 5 + 2 * getD s (at + 4) 0))
           ≡ whole c

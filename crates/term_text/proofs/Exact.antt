@@ -28,8 +28,8 @@ use Rattle.terms.proofs.Laws.{accepted-as}
 use Rattle.term_text.specs.Text.{expression-bytes, index-tag, of-kind, path-bytes, query-bytes, set-bytes, start-of, starts-bytes}
 use Rattle.wire.proofs.Past.{getD-any}
 use Rattle.term_text.proofs.Fields.{code-range, code-zero, drop-at, nth, present}
-use Rattle.term_text.proofs.Paths.{OneFits, SetFits, path-accepted, path-count, path-found, path-numbered, set-accepted, set-count, set-found, set-keys}
-use Rattle.term_text.proofs.Paths.{set-numbered}
+use Rattle.term_text.proofs.Paths.{OneFits, SetFits, path-accepted, path-count, path-found, path-numbered, set-accepted, set-count}
+use Rattle.term_text.proofs.Paths.{set-found, set-keys, set-numbered}
 use Rattle.term_text.proofs.Sources.{starts-size}
 use Rattle.term_text.proofs.Shape.{After, Behind, Complete, Found, Piece, Sound, apply-complete, literal-complete, none-found}
 use Rattle.term_text.proofs.Shape.{one-complete, one-found, term-found, two-complete, two-found}

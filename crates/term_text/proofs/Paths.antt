@@ -29,7 +29,8 @@ SetFits c = PathFits 256 c × (1 ≤ length (c .sources))
 
 module _ (s : List ℕ) where
   -- ACCEPTED BYTES ARE THOSE OF A LEGAL PATH REDUCTION: with one start, and with a set
-  pub path-found : Bytes s → (i : ℕ) → path-code s i ≡ 0 → (c : PathReduction) × OneFits c × (drop i s ≡ path-bytes c ++ drop (i + 3 + getD s i 256) s)
+  pub path-found : Bytes s → (i : ℕ) → path-code s i ≡ 0
+      → (c : PathReduction) × OneFits c × (drop i s ≡ path-bytes c ++ drop (i + 3 + getD s i 256) s)
   unfolding path-code
   path-found bytes i e =
       let n : ℕ = getD s i 256 in

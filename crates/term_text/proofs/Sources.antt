@@ -1,5 +1,5 @@
--- The sources of a path reduction in bytes: one start or anywhere, and sets of starts. Those of legal ones are accepted and give their numbers, and accepted bytes
--- are those of legal ones. Assumes nothing.
+-- The sources of a path reduction in bytes: one start or anywhere, and sets of starts. Those of legal ones are accepted and give their numbers, and accepted
+-- bytes are those of legal ones. Assumes nothing.
 use Prim.Native.Nat.{ℕ, zero, suc, _+_, _*_, _/_, _%_, _≤_, _<_, min}
 use mathlib.Core.Path.{_≡_, refl, sym, ap, ap₂, _∙_, subst}
 use mathlib.Core.Bool.{Bool, true, false, cond, _&&_}
@@ -130,7 +130,8 @@ module _ (s : List ℕ) where
       drop-two i = drop-drop 2 i s
 
   -- RISING STARTS ARE ACCEPTED
-  pub starts-zero : (ss : List ℕ) (least i : ℕ) (rest : List ℕ) → drop i s ≡ starts-bytes ss ++ rest → All (λ x. x < 256) ss → T (rising least ss)
+  pub starts-zero : (ss : List ℕ) (least i : ℕ) (rest : List ℕ) → drop i s ≡ starts-bytes ss ++ rest → All (λ x. x < 256) ss
+      → T (rising least ss)
       → starts-code (length ss) least s i ≡ 0
   unfolding starts-code
   starts-zero [] least i rest e h r = refl
@@ -167,7 +168,8 @@ module _ (s : List ℕ) where
       rw (count, few) (starts-numbered keys ss (i + 1) rest (sym (drop-drop 1 i s) ∙ ap (drop 1) e) (f .0) (f .2))
 
   -- and come back as they are
-  pub starts-back : (ss : List ℕ) (i : ℕ) (rest : List ℕ) → drop i s ≡ starts-bytes ss ++ rest → All (λ x. x < 256) ss → starts-of (length ss) s i ≡ ss
+  pub starts-back : (ss : List ℕ) (i : ℕ) (rest : List ℕ) → drop i s ≡ starts-bytes ss ++ rest → All (λ x. x < 256) ss
+      → starts-of (length ss) s i ≡ ss
   unfolding starts-of
   starts-back [] i rest e h = refl
   starts-back (x ∷ ss) i rest e h =

@@ -97,7 +97,8 @@ path-back : (s : List ℕ) (c : PathReduction) → OneFits c → Gives written-p
 path-back s c f at rest e =
     let n = length (c .keys) in
     let l = le16 (start-of (c .sources)) in
-    let d1 : drop (at + 2) s ≡ c .keys ++ (l ++ rest) = drop-on s at 2 (0x10 ∷ n ∷ []) ((c .keys ++ l) ++ rest) e refl ∙ append-assoc (c .keys) l rest in
+    let d1 : drop (at + 2) s ≡ c .keys ++ (l ++ rest) =
+    drop-on s at 2 (0x10 ∷ n ∷ []) ((c .keys ++ l) ++ rest) e refl ∙ append-assoc (c .keys) l rest in
     let d2 = drop-on s (at + 2) n (c .keys) (l ++ rest) d1 refl in
     let source : at16 s (at + 2 + n) ≡ start-of (c .sources) =
     rw (nth s (at + 2 + n) 0 (at + 2 + n) 0 (omega arith), nth s (at + 2 + n) 1 (at + 2 + n + 1) 0 refl, d2)
@@ -119,7 +120,8 @@ set-back s c f at rest e =
     let n = length (c .keys) in
     let k = length (c .sources) in
     let l = k ∷ starts-bytes (c .sources) in
-    let d1 : drop (at + 2) s ≡ c .keys ++ (l ++ rest) = drop-on s at 2 (0x13 ∷ n ∷ []) ((c .keys ++ l) ++ rest) e refl ∙ append-assoc (c .keys) l rest in
+    let d1 : drop (at + 2) s ≡ c .keys ++ (l ++ rest) =
+    drop-on s at 2 (0x13 ∷ n ∷ []) ((c .keys ++ l) ++ rest) e refl ∙ append-assoc (c .keys) l rest in
     let d2 : drop (at + 2 + n) s ≡ l ++ rest = drop-on s (at + 2) n (c .keys) (l ++ rest) d1 refl in
     let d3 : drop (at + 3 + n) s ≡ starts-bytes (c .sources) ++ rest =
     ap (λ (j : ℕ). drop j s) (let z : at + 3 + n ≡ at + 2 + n + 1 = omega arith in z)

@@ -8,7 +8,7 @@ use Rattle.plan.specs.Plan.{body-scan, plan-code, entries-scan, entry-scan, exp
 use Rattle.plan.specs.Plan.{listed-end, listed-keys-code, listed-scan, listed-starts-code, listed-step}
 use Rattle.fusion.specs.Fusion.{fuse-reply}
 use Rattle.term_text.specs.Tree.{query-term-of, starts-of, written-path, written-reduction}
-use Rattle.packed_path.specs.Steps.{same-packed, with-first}
+use Rattle.packed_path.specs.Packed.{same-packed, with-first}
 use Rattle.path_fields.specs.Paths.{counted-sources, key-fields-code, keys-at, keys-code, one-source, path-at, path-code, set-at, set-code, sources-at}
 use Rattle.path_fields.specs.Paths.{starts-code}
 use Rattle.terms.specs.Terms.{advanced, apply-step, kept-path, leaf-step, literal-tag, path-step, read, reduce-step, index-step, literal-step, set-step}

@@ -51,4 +51,6 @@ returns-2 c =
     (omega (arith, index-none (a .p) (a .t1) (l .i) (omega arith), l .inv .1), omega arith)
 
 pub position-of-spec : {M : Type 1} → statement M
-position-of-spec = tie.close (tie.spec Inv-loop μ-loop loop-holds mul-other array-copy-out-other (λ c κs. search needs) returns add-i loop-less loop-again returns-2)
+position-of-spec =
+    tie.close
+    (tie.spec Inv-loop μ-loop loop-holds mul-other array-copy-out-other (λ c κs. search needs) returns add-i loop-less loop-again returns-2)

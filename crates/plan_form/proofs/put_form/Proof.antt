@@ -35,15 +35,17 @@ unfolding put-list form-bytes
 returns c =
     let last = c .before .before in
     let rows = c .before .before .before .before .before .before .before .before .before .before in
-    let a = c .before .before .before .before .before .before .before .before .before .before .before .before .before .before .before .before .before .before .before .before .before .before .before .args in
-    let room = c .before .before .before .before .before .before .before .before .before .before .before .before .before .before .before .before .before .before .before .before .before .before .before .pre in
+    let two = rows .before .before .before .before in
+    let head = two .before .before .before .before in
+    let a = head .before .before .before .before .before .args in
+    let room = head .before .before .before .before .before .pre in
     let f = a .form in
     let all = all-listed-text (f .version) (take (f .paths) (f .table)) in
     let rest = nodes-text (take (f .count) (f .nodes)) in
     let start = put-list (put-list (draft (a .d .now) 0) (header-bytes 0x57 (f .version))) (f .kind ∷ f .paths ∷ []) in
     let made : draft (last .put-nodes .last .0) (last .put-nodes .result) ≡ put-list (draft (a .d .now) 0) (form-bytes f) =
     last .put-nodes .ensures .0
-    ∙ rw (c .before .before .before .before .before .before .put .ensures, rows .put-rows .ensures .0, c .before .before .before .before .before .before .before .before .before .before .before .before .before .before .put-two .ensures, c .before .before .before .before .before .before .before .before .before .before .before .before .before .before .before .before .before .before .header .ensures)
+    ∙ rw (c .before .before .before .before .before .before .put .ensures, rows .put-rows .ensures .0, two .put-two .ensures, head .header .ensures)
     (sym (put-append all (f .entries ∷ rest) start)) in
     let few = length-append all (f .entries ∷ rest) in (
       drafted (form-bytes f) (a .d .now) (omega (arith, last .put-nodes .ensures .1, rows .put-rows .ensures .1, few, room)) (last .put-nodes .last .0)

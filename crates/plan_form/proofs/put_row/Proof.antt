@@ -25,8 +25,9 @@ same-length c = search needs
 returns : tie.Need-returns
 unfolding put-list listed-text
 returns c =
+    let high = c .before .before .before .before .before .before .before in
     rw (eq-eqb _ _ (c .before .before .before .before .if1 .taken))
-    (c .before .before .put-start .ensures ∙ rw (c .before .before .before .before .before .before .before .put162 .ensures, c .before .before .before .before .before .before .before .before .before .before .before .put16 .ensures) refl)
+    (c .before .before .put-start .ensures ∙ rw (high .put162 .ensures, high .before .before .before .before .put16 .ensures) refl)
 
 put-set-requires : tie.Need-put-set-requires
 put-set-requires c κs = search needs
@@ -37,8 +38,9 @@ same-length-2 c = search needs
 returns-2 : tie.Need-returns-2
 unfolding put-list listed-text
 returns-2 c =
+    let high = c .before .before .before .before .before .before .before in
     rw (ne-eqb _ _ (c .before .before .before .before .if1 .left))
-    (c .before .before .put-set .ensures ∙ rw (c .before .before .before .before .before .before .before .put162 .ensures, c .before .before .before .before .before .before .before .before .before .before .before .put16 .ensures) refl)
+    (c .before .before .put-set .ensures ∙ rw (high .put162 .ensures, high .before .before .before .before .put16 .ensures) refl)
 
 pub put-row-spec : {M : Type 1} → statement M
 put-row-spec =

@@ -49,8 +49,9 @@ returns-2 c =
     let judged = c .before .before .before .before in
     let found = judged .before .front in
     let put = c .before .before .before .before .before .before .before .before .put-form in
-    let held = sym (c .before .before .before .before .before .before .before .before .before .before .before .held-code-of .ensures) ∙ c .before .before .before .before .before .before .before .before .before .before .if1 .left in
-    let room = length (c .before .before .before .before .before .before .before .before .before .before .before .before .before .before .args .out .now) in
+    let first = c .before .before .before .before .before .before .before .before .before .before in
+    let held = sym (first .before .held-code-of .ensures) ∙ first .if1 .left in
+    let room = length (first .before .before .before .before .args .out .now) in
     let text = found .ensures ∙ put .ensures .0 in
     rw (
       held,

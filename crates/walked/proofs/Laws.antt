@@ -1,7 +1,7 @@
--- What the code's proofs cite: one key more, one edge more, the figures key by key, one vertex more. Assumes nothing.
+-- What the code's proofs cite: one source more, one key more, one edge more, the figures key by key, one vertex more. Assumes nothing.
 use Prim.Native.Nat.{ℕ, zero, suc, _+_, _-_, _*_, _/_, _<_, _≤_, min}
 use mathlib.Core.Path.{_≡_, refl, sym, ap, _∙_}
-use mathlib.Core.Bool.{Bool, true, false, cond, _&&_}
+use mathlib.Core.Bool.{Bool, true, false, cond, _&&_, _||_}
 use mathlib.Core.List.{List, [], _∷_, foldl, foldl-append}
 use mathlib.Core.Option.{Option, none, some}
 use native.Mathlib.Numerals.{add-one}
@@ -10,7 +10,7 @@ use native.Mathlib.Decide.{decLe}
 use native.Mathlib.Nat.{not-suc-le-zero, zero-add}
 use borrow.Author.Tests.{eq-eqb, ne-eqb}
 use denote.Laws.{Is}
-use denote.Struct.Field.{u8-field}
+use denote.Struct.Field.{u8-field, u16-field}
 use lib.Dec.{eqb, ltb}
 use lib.ListN.{length, getD, take, drop, set, length-map, length-take, drop-of-length-le}
 use lib.Seq.{drop-cons, getD-take, getD-set-same, getD-set-other, sets, sets-eq}
@@ -22,6 +22,7 @@ use Rattle.walked.specs.declared.Kept.{Kept}
 use Rattle.walked.specs.declared.Figures.{Figures}
 use Rattle.walked.specs.declared.PathReduction.{PathReduction}
 use Rattle.walked.specs.Walked.{
+  among,
   best,
   better,
   figure-of,
@@ -34,6 +35,7 @@ use Rattle.walked.specs.Walked.{
   put-first,
   same-figures,
   sift,
+  sources-of,
   standing,
   unchanged,
   value-at,
@@ -47,6 +49,49 @@ use Rattle.walked.proofs.PathReduction as path-reduction
 and-false : (b : Bool) → (b && false) ≡ false
 and-false true = refl
 and-false false = refl
+
+or-true : (b : Bool) → (b || true) ≡ true
+or-true true = refl
+or-true false = refl
+
+or-false : (b : Bool) → (b || false) ≡ b
+or-false true = refl
+or-false false = refl
+
+-- the first n sources, one by one
+module _ (path : PathReduction) (w : Walk) (n : ℕ) (room : length (path .sources) ≡ 16) (few : n ≡ min (path .starts) 16) where
+  abbrev first : List ℕ
+  first = take n (path .sources)
+
+  first-length : length first ≡ n
+  first-length = omega (arith, length-take n (path .sources))
+
+  -- those before number i are others
+  abbrev pub Past : ℕ → Type 0
+  Past i = among (drop i first) (w .source) ≡ among first (w .source)
+
+  source-at : (i : ℕ) → i < n → drop i first ≡ getD (path .sources) i 0 ∷ drop (i + 1) first
+  source-at i h =
+      drop-cons first i 0 (omega (arith, first-length))
+      ∙ rw (getD-take n (path .sources) i 0 h, add-one i)
+
+  -- source number i is another; it is the walk's
+  pub from-next : (i : ℕ) → i < n → (getD (path .sources) i 0 ≡ w .source → ⊥) → Past i → Past (i + 1)
+  from-next i h e f =
+      let p : among (drop (i + 1) first) (w .source) ≡ among (drop i first) (w .source)
+      = rw (source-at i h, ne-eqb (getD (path .sources) i 0) (w .source) e) refl in
+      p ∙ f
+
+  pub from-here : (i : ℕ) → i < n → getD (path .sources) i 0 ≡ w .source → Past i → true ≡ may-start (sources-of path) w
+  from-here i h e f =
+      let p : among first (w .source) ≡ true = sym f ∙ rw (source-at i h, eq-eqb (getD (path .sources) i 0) (w .source) e) in
+      rw (sym few) (rw p (sym (or-true (eqb (length first) 0))))
+
+  -- none is
+  pub from-none : (i : ℕ) → n ≤ i → Past i → eqb n 0 ≡ may-start (sources-of path) w
+  from-none i h f =
+      let p : among first (w .source) ≡ false = sym f ∙ rw (drop-of-length-le first {i = i} (omega (arith, first-length))) in
+      rw (sym few) (rw (p, first-length) (sym (or-false (eqb n 0))))
 
 module _ (keys best : List ℕ) (w : Walk) where
   -- with no key passed each walk agrees
@@ -118,14 +163,14 @@ abbrev best-after : ℕ → Value → List Walk → Value
 best-after key = foldl (λ found w. better key found (figure-of key w))
 
 judged-best : (k : Kept) (found : Value) (ws : List Walk)
-    → foldl (judged k) found ws ≡ best-after (key-of k) found (sift (is-kept k) (sift (may-start (k .path .source)) ws))
+    → foldl (judged k) found ws ≡ best-after (key-of k) found (sift (is-kept k) (sift (may-start (sources-of (k .path))) ws))
 unfolding judged
 judged-best k found [] = refl
-judged-best k found (w ∷ ws) = go (may-start (k .path .source) w) (is-kept k w) refl refl (λ f. judged-best k f ws)
+judged-best k found (w ∷ ws) = go (may-start (sources-of (k .path)) w) (is-kept k w) refl refl (λ f. judged-best k f ws)
   where
-    go : (a b : Bool) → may-start (k .path .source) w ≡ a → is-kept k w ≡ b
-        → ((f : Value) → foldl (judged k) f ws ≡ best-after (key-of k) f (sift (is-kept k) (sift (may-start (k .path .source)) ws)))
-        → foldl (judged k) (judged k found w) ws ≡ best-after (key-of k) found (sift (is-kept k) (sift (may-start (k .path .source)) (w ∷ ws)))
+    go : (a b : Bool) → may-start (sources-of (k .path)) w ≡ a → is-kept k w ≡ b
+        → ((f : Value) → foldl (judged k) f ws ≡ best-after (key-of k) f (sift (is-kept k) (sift (may-start (sources-of (k .path))) ws)))
+        → foldl (judged k) (judged k found w) ws ≡ best-after (key-of k) found (sift (is-kept k) (sift (may-start (sources-of (k .path))) (w ∷ ws)))
     go true true e h f = rw (e, h) (f (better (key-of k) found (figure-of (key-of k) w)))
     go true false e h f = rw (e, h) (f found)
     go false b e h f = rw e (f found)
@@ -134,7 +179,7 @@ judged-best k found (w ∷ ws) = go (may-start (k .path .source) w) (is-kept k w
 pub found-best : (rows : List ℕ) (path : PathReduction) (vertex most : ℕ) (bs : List ℕ) (i left : ℕ) (w : Walk) → left ≡ min most 64 → w
     ≡ standing vertex
     → foldl (judged (record { path = path; best = bs; passed = i })) Absent (walks rows left w)
-    ≡ best (getD (path .keys) i 0) (sift (λ w. agrees (path .keys) bs w i) (walks-to rows (path .source) vertex most))
+    ≡ best (getD (path .keys) i 0) (sift (λ w. agrees (path .keys) bs w i) (walks-to rows (sources-of path) vertex most))
 found-best rows path vertex most bs i left w e h =
     rw (e, h) (judged-best (record { path = path; best = bs; passed = i }) Absent (walks rows (min most 64) (standing vertex)))
 
@@ -313,11 +358,16 @@ module _ (rows : List ℕ) (path : PathReduction) (before : ℕ) where
       let y : b ≡ figures-at rows path v (before + 1) = q ∙ rw g in
       ap (λ (t : Figures). same-figures t b) x ∙ ap (same-figures (figures-at rows path v before)) y
 
--- a path reduction that a function is handed has room for three keys
+-- a path reduction that a function is handed has room for three keys and for sixteen sources
 pub keys-fit : (path : PathReduction) (vs : List Val) → Is path-reduction.the-row path vs → length (path .keys) ≡ 3
 keys-fit path vs g =
     let a = g .1 .1 .0 in
     sym (length-map (path .keys) (u8-field .into)) ∙ a .1 .0 .1
+
+pub sources-fit : (path : PathReduction) (vs : List Val) → Is path-reduction.the-row path vs → length (path .sources) ≡ 16
+sources-fit path vs g =
+    let a = g .1 .1 .1 .1 .0 in
+    sym (length-map (path .sources) (u16-field .into)) ∙ a .1 .0 .1
 
 -- the value of a path reduction, of what `figures_at` gives
 pub value-padded : (rows : List ℕ) (path : PathReduction) (vertex most n : ℕ) (f : Figures) → length (path .keys) ≡ 3 → n ≡ min (path .count) 3
@@ -326,5 +376,5 @@ pub value-padded : (rows : List ℕ) (path : PathReduction) (vertex most n : ℕ
 unfolding figures-at value-at
 value-padded rows path vertex most n f k e h =
     rw h
-    (last-padded (take (min (path .count) 3) (path .keys)) (walks-to rows (path .source) vertex most) n
+    (last-padded (take (min (path .count) 3) (path .keys)) (walks-to rows (sources-of path) vertex most) n
     (omega (arith, length-take (min (path .count) 3) (path .keys))) (omega arith))

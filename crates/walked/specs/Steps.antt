@@ -7,7 +7,7 @@ use lib.ListN.{getD}
 use Rattle.value.specs.declared.Value.{Value}
 use Rattle.walked.specs.declared.Walk.{Walk}
 use Rattle.walked.specs.declared.Kept.{Kept}
-use Rattle.walked.specs.Walked.{better, figure-of, may-start, walks}
+use Rattle.walked.specs.Walked.{better, figure-of, may-start, sources-of, walks}
 
 -- has the walk the best figure of each of the first i keys?
 unfoldable pub agrees : List ℕ → List ℕ → Walk → ℕ → Bool
@@ -21,7 +21,7 @@ is-kept k w = agrees (k .path .keys) (k .best) w (k .passed)
 -- what is found with one walk more
 unfoldable pub judged : Kept → Value → Walk → Value
 judged k found w =
-    cond (may-start (k .path .source) w)
+    cond (may-start (sources-of (k .path)) w)
     (cond (is-kept k w) (better (getD (k .path .keys) (k .passed) 0) found (figure-of (getD (k .path .keys) (k .passed) 0) w)) found) found
 
 -- what is found with all walks that end with w and have at most `left` edges before it

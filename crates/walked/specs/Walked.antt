@@ -80,18 +80,27 @@ figures (key ∷ keys) ws = elim (best key ws) [
   | Number x ↦ put-first x (figures keys (sift (λ w. eqb (figure-of key w) x) ws))
 ]
 
--- "from its start (or from anywhere)"
-abbrev pub may-start : ℕ → Walk → Bool
-may-start source w = eqb source 65535 || eqb source (w .source)
+-- is a vertex one of them?
+abbrev pub among : List ℕ → ℕ → Bool
+among [] v = false
+among (s ∷ ss) v = eqb s v || among ss v
+
+-- "A walk may begin at any of them." (document 02, b); with none it may anywhere
+abbrev pub may-start : List ℕ → Walk → Bool
+may-start sources w = eqb (length sources) 0 || among sources (w .source)
+
+-- the sources of a path reduction, at most 16
+abbrev pub sources-of : PathReduction → List ℕ
+sources-of path = take (min (path .starts) 16) (path .sources)
 
 -- "A chain takes all walks from its start (or from anywhere) to a place": those of at most `most` edges, and never of more than 64
-abbrev pub walks-to : List ℕ → ℕ → ℕ → ℕ → List Walk
-walks-to rows source vertex most = sift (may-start source) (walks rows (min most 64) (standing vertex))
+abbrev pub walks-to : List ℕ → List ℕ → ℕ → ℕ → List Walk
+walks-to rows sources vertex most = sift (may-start sources) (walks rows (min most 64) (standing vertex))
 
 -- the figures of the first `count` keys over them
 abbrev pub all-figures : List ℕ → PathReduction → ℕ → ℕ → Option (List ℕ)
 all-figures rows path vertex most =
-    figures (take (min (path .count) 3) (path .keys)) (walks-to rows (path .source) vertex most)
+    figures (take (min (path .count) 3) (path .keys)) (walks-to rows (sources-of path) vertex most)
 
 -- the same with 0 for a key that is not there
 abbrev pub three-figures : Option (List ℕ) → Figures

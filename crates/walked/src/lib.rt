@@ -1,5 +1,6 @@
 // The value of a path reduction by walking outright, for tests: all walks to a vertex, of at most so many edges, are walked from
-// their end backwards, once for each key. Written from document 01, "Meaning", alone; it has no rounds and no table of figures.
+// their end backwards, once for each key. Written from document 01, "Meaning", and document 02, b, alone; it has no rounds and no table
+// of figures.
 use value::Value;
 ghost use mathlib.Core.Path.{_≡_};
 ghost use Prim.Native.Nat.{_+_, _*_, _≤_, _<_, min};
@@ -7,11 +8,13 @@ ghost use lib.ListN.{getD};
 ghost use Rattle.walked.specs.Walked as spec;
 ghost use Rattle.walked.specs.Steps as steps;
 
-// A path reduction (document 01: chain): the first `count` of the keys, and "a 16-bit start (0 to 255, or 65,535 for anywhere)".
+// A path reduction (document 01: chain): the first `count` of the keys, and the first `starts` of the sources, "a set count (0 for
+// anywhere) and its starts" (document 02, b).
 pub struct PathReduction {
     pub keys: [u8; 3],
     pub count: usize,
-    pub source: u16,
+    pub sources: [u16; 16],
+    pub starts: usize,
 }
 
 // The figures of the keys (0 for a key that is not there), where there is a walk.
@@ -34,8 +37,6 @@ pub struct Kept {
     pub best: [u64; 3],
     pub passed: usize,
 }
-
-const ANYWHERE: u16 = 65535;
 
 // No walk of more edges is walked.
 const MOST: usize = 64;
@@ -149,14 +150,20 @@ fn is_kept(k: Kept, w: Walk) -> bool
     true
 }
 
-// "from its start (or from anywhere)"
-fn may_start(source: u16, w: Walk) -> bool
-    ensures { λ r. ⌜ r ≡ spec.may-start source w ⌝ }
+// "A walk may begin at any of them" (document 02, b), or anywhere where there are none.
+fn may_start(path: PathReduction, w: Walk) -> bool
+    ensures { λ r. ⌜ r ≡ spec.may-start (spec.sources-of path) w ⌝ }
 {
-    if source == ANYWHERE {
-        return true;
+    let sources = path.sources;
+    let count = least(path.starts, 16);
+    let mut i: usize = 0;
+    while i < count {
+        if sources[i] == w.source {
+            return true;
+        }
+        i += 1;
     }
-    source == w.source
+    count == 0
 }
 
 // What is found with the walk w: its figure counts where it may start there and is kept so far.
@@ -167,7 +174,7 @@ fn judged(k: Kept, found: Value, w: Walk) -> Value
     let path = k.path;
     let keys = path.keys;
     let i = k.passed;
-    if may_start(path.source, w) {
+    if may_start(path, w) {
         if is_kept(k, w) {
             let key = keys[i];
             return better(key, found, figure_of(key, w));

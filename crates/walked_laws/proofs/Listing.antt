@@ -16,7 +16,7 @@ use Rattle.walks.specs.Walks.{Edge, Leads, Network, Within, along, edge, figure
 use Rattle.walks.proofs.Pigeons.{In}
 use Rattle.walks.proofs.Tests.{T-of}
 use Rattle.walked.specs.declared.Walk.{Walk}
-use Rattle.walked.specs.Walked.{figure-of, longer, may-start, sift, standing, walks, with-edge}
+use Rattle.walked.specs.Walked.{among, figure-of, longer, may-start, sift, standing, walks, with-edge}
 use Rattle.walked_laws.proofs.Best.{Like, Shown, by-key, in-sift, sift-in}
 
 in-append : (a b : List Walk) (x : Walk) → In x (a ++ b) → In x a ⊎ In x b
@@ -159,17 +159,17 @@ module _ (N : Network) (rows : List ℕ) (R : Rows N rows) where
       size = omega (arith, back-capacity (standing v) p s v l (omega arith), narrow p)
 
   -- THE WALKS LISTED, that may start where they do, show the walks of at most r edges
-  pub shown : (source v r : ℕ) → ((s : ℕ) (p : List ℕ) → Leads N s p v → N .source s ≡ (eqb source 65535 || eqb source s))
-      → Shown N (sift (may-start source) (walks rows r (standing v))) (Within N r v)
-  shown source v r starts = record { sound = from; full = to }
+  pub shown : (sources : List ℕ) (v r : ℕ) → ((s : ℕ) (p : List ℕ) → Leads N s p v → N .source s ≡ (eqb (length sources) 0 || among sources s))
+      → Shown N (sift (may-start sources) (walks rows r (standing v))) (Within N r v)
+  shown sources v r starts = record { sound = from; full = to }
     where
       T-true : (b : Bool) → T b → b ≡ true
       T-true true t = refl
       T-true false t = absurd t
 
-      from : (x : Walk) → In x (sift (may-start source) (walks rows r (standing v))) → (s : ℕ) × (w : List ℕ) × Within N r v s w × Like N x s w
+      from : (x : Walk) → In x (sift (may-start sources) (walks rows r (standing v))) → (s : ℕ) × (w : List ℕ) × Within N r v s w × Like N x s w
       from x i =
-          let j = in-sift (may-start source) (walks rows r (standing v)) x i in
+          let j = in-sift (may-start sources) (walks rows r (standing v)) x i in
           let q = walks-sound r (standing v) x (j .0) in (
             x .source,
             q .0,
@@ -177,10 +177,10 @@ module _ (N : Network) (rows : List ℕ) (R : Rows N rows) where
             λ k h. ap (figure-of k) (q .3) ∙ like v (q .0) (x .source) (q .1) k h,
           )
 
-      to : (s : ℕ) (w : List ℕ) → Within N r v s w → (x : Walk) × In x (sift (may-start source) (walks rows r (standing v))) × Like N x s w
+      to : (s : ℕ) (w : List ℕ) → Within N r v s w → (x : Walk) × In x (sift (may-start sources) (walks rows r (standing v))) × Like N x s w
       to s w h =
           let q = walks-full r (standing v) w s (h .1) (h .2) in
           let x = back rows (standing v) w in
-          let m : may-start source x ≡ true = ap (λ (t : ℕ). eqb source 65535 || eqb source t) (q .1) ∙ sym (starts s w (h .1))
+          let m : may-start sources x ≡ true = ap (λ (t : ℕ). eqb (length sources) 0 || among sources t) (q .1) ∙ sym (starts s w (h .1))
           ∙ T-true (N .source s) (h .0) in
-          (x, sift-in (may-start source) (walks rows r (standing v)) x (q .0) m, like v w s (h .1))
+          (x, sift-in (may-start sources) (walks rows r (standing v)) x (q .0) m, like v w s (h .1))

@@ -1,14 +1,14 @@
 -- THE SECOND PROGRAM OF THE TESTS COMPUTES WHAT DOCUMENT 01 MEANS: on a graph, the figures and the value of a path reduction that crate `walked`
 -- finds by listing walks are those over walks of at most r edges, for r up to 64. Assumes nothing.
 use Prim.Native.Nat.{ℕ, zero, suc, _+_, _*_, _<_, _≤_, min}
-use mathlib.Core.Path.{_≡_, refl}
-use mathlib.Core.Bool.{Bool, true, false, cond, _&&_, _||_}
+use mathlib.Core.Path.{_≡_, refl, ap}
+use mathlib.Core.Bool.{_&&_, _||_}
 use mathlib.Core.List.{List, [], _∷_}
 use mathlib.Core.Option.{Option, none, some}
 use native.Mathlib.Omega.{arith}
 use native.Mathlib.Nat.{not-suc-le-zero, le-of-suc-le-suc}
-use borrow.Author.Tests.{lt-ltb}
-use lib.Dec.{T, eqb, leb, ltb}
+use borrow.Author.Tests.{lt-ltb, ne-eqb}
+use lib.Dec.{T, eqb, leb}
 use lib.ListN.{length, getD, take}
 use Rattle.value.specs.declared.Value.the-variants.{Number}
 use Rattle.walks.specs.Keys.{all-known, in-order, legal-keys}
@@ -17,12 +17,12 @@ use Rattle.walks.specs.Walks.{Edge, Graph, Leads, Network, WalkSet, Within, edg
 use Rattle.walks.proofs.Tests.{and-left, and-right}
 use Rattle.meaning.specs.Limits.{GraphFits}
 use Rattle.meaning.specs.Meaning.{PathWithin}
-use Rattle.meaning.specs.Query.{network-of, starts}
+use Rattle.meaning.specs.Query.{member, network-of, starts}
 use Rattle.meaning.specs.Query as query
 use Rattle.walked.specs.declared.PathReduction.{PathReduction}
 use Rattle.walked.specs.declared.Walk.{Walk}
 use Rattle.walked.specs.Walked as spec
-use Rattle.walked.specs.Walked.{all-figures, figures, last-of, value-at, walks-to}
+use Rattle.walked.specs.Walked.{all-figures, among, figures, last-of, sources-of, value-at, walks-to}
 use Rattle.walked.proofs.Laws.{figures-length}
 use Rattle.walked_laws.proofs.Best.{Shown, figures-shown}
 use Rattle.walked_laws.proofs.Listing.{Rows, shown}
@@ -50,7 +50,11 @@ numbers-at (e ∷ es) (suc i) h =
 
 -- a path reduction as crate `walked` takes it, and as a query has it
 abbrev pub query-path : PathReduction → query.PathReduction
-query-path path = record { keys = take (min (path .count) 3) (path .keys); source = path .source }
+query-path path = record { keys = take (min (path .count) 3) (path .keys); sources = sources-of path }
+
+member-among : (v : ℕ) (ss : List ℕ) → member v ss ≡ among ss v
+member-among v [] = refl
+member-among v (s ∷ ss) = ap (_||_ (eqb s v)) (member-among v ss)
 
 -- legal keys: one at least, and all known
 some-key : (ks : List ℕ) → T (legal-keys ks) → 1 ≤ length ks
@@ -89,20 +93,20 @@ module _ (g : Graph) (fits : GraphFits g) (path : PathReduction) where
   start-fits s (i ∷ p) v h l = start-fits s p (edge-at (g .edges) i .from) (fits .ends-fit i (l .0) .0) (l .3)
 
   may : (v : ℕ) → v < g .vertices → (s : ℕ) (p : List ℕ) → Leads N s p v
-      → starts (g .vertices) (path .source) s ≡ (eqb (path .source) 65535 || eqb (path .source) s)
-  may v h s p l = go (eqb (path .source) 65535)
+      → starts (g .vertices) (sources-of path) s ≡ (eqb (length (sources-of path)) 0 || among (sources-of path) s)
+  may v h s p l = go (sources-of path)
     where
-      go : (b : Bool) → cond b (ltb s (g .vertices)) (eqb (path .source) s) ≡ (b || eqb (path .source) s)
-      go true = lt-ltb s (g .vertices) (start-fits s p v h l)
-      go false = refl
+      go : (ss : List ℕ) → starts (g .vertices) ss s ≡ (eqb (length ss) 0 || among ss s)
+      go [] = lt-ltb s (g .vertices) (start-fits s p v h l)
+      go (x ∷ ss) = rw (ne-eqb (length (x ∷ ss)) 0 (λ e. omega arith)) (member-among s (x ∷ ss))
 
   module _ (legal : T (legal-keys (query-path path .keys))) (v r : ℕ) (vertex : v < g .vertices) (few : r ≤ 64) where
     -- THE FIGURES
     pub walked-figures : Figures N (query-path path .keys) (Within N r v) (all-figures (numbers (g .edges)) path v r)
-    walked-figures = any-keys N (query-path path .keys) legal (walks-to (numbers (g .edges)) (path .source) v r) (Within N r v) show
+    walked-figures = any-keys N (query-path path .keys) legal (walks-to (numbers (g .edges)) (sources-of path) v r) (Within N r v) show
       where
-        show : Shown N (walks-to (numbers (g .edges)) (path .source) v r) (Within N r v)
-        show = let e : min r 64 ≡ r = omega arith in rw e (shown N (numbers (g .edges)) rows-are (path .source) v r (may v vertex))
+        show : Shown N (walks-to (numbers (g .edges)) (sources-of path) v r) (Within N r v)
+        show = let e : min r 64 ≡ r = omega arith in rw e (shown N (numbers (g .edges)) rows-are (sources-of path) v r (may v vertex))
 
     -- THE VALUE
     pub walked-value : PathWithin g r (query-path path) v (value-at (numbers (g .edges)) path v r)

@@ -5,7 +5,7 @@ use native.Mathlib.Omega.{arith}
 use borrow.Author.Needs.{needs}
 use lib.ListN.{length, take, length-set}
 use Rattle.walked.specs.declared.Walk.{Walk}
-use Rattle.walked.specs.Walked.{figures, figures-at, three-figures, walks-to}
+use Rattle.walked.specs.Walked.{figures, figures-at, sources-of, three-figures, walks-to}
 use Rattle.walked.proofs.Laws.{found-best, goes-first, goes-last, goes-next, goes-none, goes-on, keys-fit}
 use Rattle.walked.proofs.figures_at.Statement.{statement}
 use Rattle.walked.proofs.figures_at.Tie as tie
@@ -14,7 +14,7 @@ abbrev Inv-loop : tie.InvT-loop
 Inv-loop rows path vertex most best₀ count i₀ best i =
     (i ≤ count)
     × (length best ≡ 3)
-    × (goes-on (path .keys) count (walks-to rows (path .source) vertex most) best i ≡ figures-at rows path vertex most)
+    × (goes-on (path .keys) count (walks-to rows (sources-of path) vertex most) best i ≡ figures-at rows path vertex most)
 
 abbrev μ-loop : tie.MeasureT-loop
 μ-loop rows path vertex most best₀ count i₀ best i = count - i
@@ -26,7 +26,7 @@ loop-holds : tie.Need-loop-holds Inv-loop μ-loop
 unfolding figures-at
 loop-holds c =
     let a = c .before .before .args in
-    let ws = walks-to (a .rows .now) (a .path .source) (a .vertex) (a .most) in (
+    let ws = walks-to (a .rows .now) (sources-of (a .path)) (a .vertex) (a .most) in (
       search needs,
       refl,
       goes-first (a .path .keys) (c .least .result) ws (omega (arith, c .least .ensures))
@@ -58,7 +58,7 @@ returns c =
     let l = c .before .before .before .before .before .before .loop in
     let n = c .before .before .before .before .before .before .before .least in
     let fits = keys-fit (a .path) _ (c .before .before .before .before .before .before .before .before .before .good .1 .0) in
-    let ws = walks-to (a .rows .now) (a .path .source) (a .vertex) (a .most) in
+    let ws = walks-to (a .rows .now) (sources-of (a .path)) (a .vertex) (a .most) in
     let b = sym (found-best (a .rows .now) (a .path) (a .vertex) (a .most) (l .best) (l .i) _ _ (c .before .before .before .least2 .ensures)
     (c .before .before .before .before .standing .ensures)) ∙ sym (c .before .before .best-of .ensures) in
     sym (goes-none (a .path .keys) (n .result) ws (l .best) (l .i) (omega arith) (omega (arith, n .ensures)) (b ∙ c .enum-told .given .1)) ∙ l .inv .2
@@ -81,7 +81,7 @@ loop-again c =
     let l = c .before .before .before .before .before .before .before .loop in
     let n = c .before .before .before .before .before .before .before .before .least in
     let fits = keys-fit (a .path) _ (c .before .before .before .before .before .before .before .before .before .before .good .1 .0) in
-    let ws = walks-to (a .rows .now) (a .path .source) (a .vertex) (a .most) in
+    let ws = walks-to (a .rows .now) (sources-of (a .path)) (a .vertex) (a .most) in
     let b = sym (found-best (a .rows .now) (a .path) (a .vertex) (a .most) (l .best) (l .i) _ _ (c .before .before .before .before .least2 .ensures)
     (c .before .before .before .before .before .standing .ensures)) ∙ sym (c .before .before .before .best-of .ensures) in (
       search needs,
@@ -94,7 +94,7 @@ returns-2 : tie.Need-returns-2 Inv-loop μ-loop
 returns-2 c =
     let a = c .before .before .before .before .args in
     let l = c .before .loop in
-    sym (goes-last (a .path .keys) (c .before .before .least .result) (walks-to (a .rows .now) (a .path .source) (a .vertex) (a .most)) (l .best) (l .i)
+    sym (goes-last (a .path .keys) (c .before .before .least .result) (walks-to (a .rows .now) (sources-of (a .path)) (a .vertex) (a .most)) (l .best) (l .i)
     (omega arith)) ∙ l .inv .2
 
 pub figures-at-spec : {M : Type 1} → statement M

@@ -6,7 +6,7 @@
  * Both calls end for all bytes and read their inputs only. The buffers of one call must not overlap. A null pointer may go with length 0.
  *
  * Threads: calls may be made from any number of threads at once; nothing is kept between calls, and nothing is shared but what the callers lend.
- * Memory: no heap. The archive has no data of its own that can be written, and calls nothing but memcpy and memset.
+ * Memory: no heap. The archive has no data of its own that can be written, and calls nothing but memcpy, memmove and memset.
  * Stack: GRAFS_FUSE_STACK and GRAFS_RUN_STACK below.
  *
  * Names: a program that has a `run` or a `fuse` of its own defines GRAFS_PREFIXED before it includes this file and links libgrafs_prefixed.a
@@ -43,8 +43,8 @@ extern "C" {
 #define GRAFS_WORKSHEET_MAX 560
 #define GRAFS_ANSWER_MAX 2314
 
-/* A thread that has so many bytes of stack left can make the call. Measured: some 25,000 and 54,000 bytes; the rest is margin. */
-#define GRAFS_FUSE_STACK 49152
+/* A thread that has so many bytes of stack left can make the call. Measured: some 38,000 and 62,000 bytes; the rest is margin. */
+#define GRAFS_FUSE_STACK 65536
 #define GRAFS_RUN_STACK 98304
 
 /* What a start is for 'anywhere', where it stands alone. No set has it. */

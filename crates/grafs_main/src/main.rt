@@ -124,9 +124,8 @@ fn answer(query: &[u8], graph: &[u8]) {
 }
 
 // A longer file is answered as its first bytes are (crate first_bytes, `long-query` and `long-graph`):
-// - a question as 455 of them or more. Of 64 terms, at most 7 bytes each behind the first 6, nothing lies past 454; what stands there is refused for being
-// there, as a
-//   65th term (12) or as left over (6), if nothing before it is refused.
+// - a question as 2,439 of them or more. Of 64 terms, at most 38 bytes each behind the first 6, nothing lies past 2,438; what stands there is refused for
+//   being there, as a 65th term (12) or as left over (6), if nothing before it is refused.
 // - a map as 8,202 or more: none is longer than 9 + 8 * 1,024, so one with a byte more is refused by its head or for its length (6).
 fn main() {
     let mut query = io::buffer();

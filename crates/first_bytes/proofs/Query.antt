@@ -17,7 +17,7 @@ use Rattle.terms.specs.declared.Step.{Step}
 use Rattle.terms.specs.declared.TermKind.{TermKind}
 use Rattle.terms.specs.declared.TermKind.the-variants.{OfVertex, OfResult, OfEntry, OfFinal}
 use Rattle.progress.specs.declared.Progress.{Progress}
-use Rattle.terms.specs.Terms.{advanced, alone, apply-step, index-step, kept-path, leaf-step, literal-step, literal-tag, path-step, read, reduce-step, set-step}
+use Rattle.terms.specs.Terms.{advanced, apply-step, index-step, kept-path, leaf-step, literal-step, literal-tag, path-step, read, reduce-step, set-step}
 use Rattle.terms.specs.Terms.{slot-of, refused-step, term-step}
 use Rattle.progress.specs.Progress.{blank, ended, started}
 use Rattle.term_text.proofs.Fields.{code-range}

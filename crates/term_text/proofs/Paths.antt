@@ -2,19 +2,19 @@
 -- Assumes nothing.
 use Prim.Native.Nat.{ℕ, _+_, _*_, _/_, _%_, _≤_}
 use mathlib.Core.Path.{_≡_, refl, sym, ap, _∙_}
-use mathlib.Core.List.{List, [], _∷_, _++_, append-assoc}
+use mathlib.Core.List.{List, _∷_, _++_, append-assoc}
 use native.Mathlib.Omega.{arith}
 use lib.ListN.{length, getD, drop}
 use lib.Seq.{drop-drop}
 use Rattle.meaning.specs.Limits.{PathFits}
 use Rattle.meaning.specs.Query.{PathReduction}
 use Rattle.wire.specs.Header.{then}
-use Rattle.wire.specs.Wire.{Bytes, at16, le16}
+use Rattle.wire.specs.Wire.{Bytes, le16}
 use Rattle.wire.proofs.Codes.{then-both, then-zero}
 use Rattle.wire.proofs.Past.{getD-any}
 use Rattle.fields.specs.Fields.{code-of, source-code}
 use Rattle.packed_path.specs.Packed.{packed}
-use Rattle.path_fields.specs.Paths.{counted-sources, key-fields-code, one-source, path-at, path-code, set-at, set-code, starts-code}
+use Rattle.path_fields.specs.Paths.{key-fields-code, path-at, path-code, set-at, set-code, starts-code}
 use Rattle.term_text.specs.Text.{path-bytes, set-bytes, start-of, starts-bytes}
 use Rattle.term_text.proofs.Fields.{behind-keys, code-range, code-zero, drop-at, key-count, key-fields-accepted, key-fields-found, keys-numbered, nth}
 use Rattle.term_text.proofs.Fields.{present, two-bytes}

@@ -2,27 +2,25 @@
 -- bytes are those of legal ones. Assumes nothing.
 use Prim.Native.Nat.{ℕ, zero, suc, _+_, _*_, _/_, _%_, _≤_, _<_, min}
 use mathlib.Core.Path.{_≡_, refl, sym, ap, ap₂, _∙_, subst}
-use mathlib.Core.Bool.{Bool, true, false, cond, _&&_}
-use mathlib.Core.List.{List, [], _∷_, _++_, append-assoc}
+use mathlib.Core.Bool.{Bool, true, false, cond}
+use mathlib.Core.List.{List, [], _∷_, _++_}
 use native.Mathlib.Omega.{arith}
-use borrow.Author.Tests.{eqb-true, le-ltb, lt-ltb, ltb-false, ltb-true, eqb-false, ne-eqb}
+use borrow.Author.Tests.{eqb-true, le-ltb, lt-ltb, ltb-false, ltb-true, ne-eqb}
 use lib.Dec.{T, leb, ltb, eqb, leb→le, le→leb}
 use lib.ListN.{length, getD, drop}
 use lib.Seq.{drop-drop}
 use Rattle.meaning.specs.Limits.{SourcesFit, rising}
 use Rattle.walks.specs.Lists.{All}
 use Rattle.walks.proofs.Tests.{and-both, and-left, and-right}
-use Rattle.wire.specs.Header.{then}
-use Rattle.wire.specs.Wire.{Bytes, at16, le16}
+use Rattle.wire.specs.Wire.{Bytes, le16}
 use Rattle.wire.proofs.Codes.{then-both, then-zero}
-use Rattle.wire.proofs.Past.{getD-any}
 use Rattle.fields.specs.Fields.{source-code}
 use Rattle.packed_path.specs.Packed.{with-sources}
 use Rattle.packed_path.proofs.Sources.{sources-more}
 use Rattle.path_fields.specs.Paths.{counted-sources, one-source, sources-at, start-code, starts-code}
 use Rattle.term_text.specs.Text.{start-of, starts-bytes}
 use Rattle.term_text.specs.Tree.{one-start, starts-of}
-use Rattle.term_text.proofs.Fields.{drop-at, not-zero, nth, present, two-bytes}
+use Rattle.term_text.proofs.Fields.{drop-at, not-zero, nth, present}
 
 -- ---- one start, or anywhere
 

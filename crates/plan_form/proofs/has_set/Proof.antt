@@ -1,15 +1,12 @@
 -- `plan_form::has_set` meets its contract. Assumes nothing.
 use Prim.Native.Nat.{_-_, _≤_}
 use mathlib.Core.Path.{_≡_, sym, ap, _∙_}
-use mathlib.Core.Bool.{Bool, _||_}
 use native.Mathlib.Omega.{arith}
 use native.Mathlib.Nat.{sub-zero}
 use borrow.Author.Needs.{needs}
 use borrow.Author.Tests.{le-leb, lt-leb}
 use lib.ListN.{take}
 use Rattle.draft.proofs.Texts.{take-least}
-use Rattle.packed_path.specs.declared.PackedPath.{PackedPath}
-use mathlib.Core.List.{List}
 use Rattle.plan_form.specs.Form.{any-set}
 use Rattle.plan_form.proofs.Written.{set-next, set-none, sets-left}
 use Rattle.plan_form.proofs.has_set.Statement.{statement}

@@ -1,7 +1,7 @@
 -- `plan_form::write` meets its contract. Assumes nothing.
 use mathlib.Core.Path.{ap, sym, refl, _∙_}
 use native.Mathlib.Omega.{arith}
-use borrow.Author.Tests.{eq-eqb, ne-eqb}
+use borrow.Author.Tests.{ne-eqb}
 use borrow.Author.Needs.{needs}
 use lib.ListN.{length}
 use Rattle.draft.proofs.Texts.{delivered}

@@ -1,8 +1,10 @@
 -- Samples of fusing, by computation: a condition's path reductions stand before those of the value, and its expression in the entry; a set of one is the path
 -- reduction of 0x10, and a larger set asks for version 2. Assumes nothing.
 use mathlib.Core.Path.{_≡_, refl}
+use mathlib.Core.Bool.{true, false}
 use mathlib.Core.List.{[], _∷_}
 use mathlib.Core.Option.{some}
+use Rattle.meaning.specs.Limits.{rising}
 use Rattle.meaning.specs.Plan.{apply, each-vertex, fuse, leaf, literal, one-result}
 use Rattle.meaning.specs.Query.{PathReduction, Query, each, number, operator, over-where, path, path-set, single}
 
@@ -37,3 +39,7 @@ counters = record { keys = 2 ∷ []; sources = 0 ∷ 2 ∷ [] }
 pub fused-two : fuse (each (operator 3 (path seconds) (path-set counters)))
     ≡ record { version = 2; paths = seconds ∷ counters ∷ []; body = each-vertex (apply 3 (leaf 0) (leaf 1)) }
 fused-two = refl
+
+-- "strictly rising": a start is not above itself
+pub rises-strictly : (rising 0 (0 ∷ 2 ∷ 3 ∷ []) ≡ true) × (rising 0 (2 ∷ 2 ∷ []) ≡ false) × (rising 0 (2 ∷ 1 ∷ []) ≡ false)
+rises-strictly = (refl, refl, refl)

@@ -1,9 +1,9 @@
-// Random plans and random queries on random tiny graphs, from a fixed seed. A plan is run by pull, by push, and stopped after a random
-// number of rounds; a query is fused, and its plan is run the same way. The answers expected are worked out on the file's own bytes:
-// a path reduction's value from walking every walk outright (crate `walked`), an operator joins the values of its two terms, a
-// vertex reduction goes over all vertices, with a condition over those where it is a number other than 0. So a query is compared
-// UNFUSED, as document 01 has it: "each chain where it is written". Some files are damaged instead: they are refused, or the reader of
-// plans takes what is run or written. Prints what the cases were like, and how many calls differ.
+// Random plans of both versions and random queries on random tiny graphs, from a fixed seed. A plan is run by pull, by push, and stopped
+// after a random number of rounds; a query is fused, and its plan is run the same way. The answers expected are worked out on the file's
+// own bytes: a path reduction's value from walking every walk outright (crate `walked`), from any of its sources, an operator joins the
+// values of its two terms, a vertex reduction goes over all vertices, with a condition over those where it is a number other than 0. So
+// a query is compared UNFUSED, as document 01 has it: "each chain where it is written". Some files are damaged instead: they are
+// refused, or the reader of plans takes what is run or written. Prints what the cases were like, and how many calls differ.
 use engine::Limit;
 use value::Row;
 use value::Value;
@@ -26,14 +26,17 @@ const GRAPH: u64 = 0x014d504c;
 
 const QUERY: u64 = 0x0151504c;
 
-const PLAN: u64 = 0x0157504c;
+// Without the version.
+const PLAN: u64 = 0x57504c;
 
 const ANSWER: u64 = 0x0141504c;
 
-// The weight of a sixth byte.
+// The weight of a fourth byte, and of a sixth.
+const FOURTH: u64 = 16777216;
+
 const SIXTH: u64 = 1099511627776;
 
-// The weight of the source in the six bytes of a path reduction.
+// The weight of the sources in a path reduction.
 const SOURCE: u64 = 4294967296;
 
 // All operators; minus (4) and divide (6), which often give absent, are seldom.
@@ -45,18 +48,28 @@ const COMPARING: [u8; 4] = [4, 7, 8, 9];
 // A file or a buffer, longer than any that is written: 560 bytes are enough for a plan.
 type File = [u8; 560];
 
+// A path reduction is a number here. Its low four bytes: "key count, three key bytes with unused ones 0". Above them up to four sources,
+// a byte each and the least lowest: one more than the source. With none, which is anywhere, they are 0.
+type Table = [u64; 8];
+
+struct Paths {
+    count: usize,
+    list: Table,
+}
+
 // The numbers of up to six edges, four an edge: from, to, weight, capacity. An edge that is not there leads to no vertex.
 type Rows = [u16; 24];
 
-// A case. What it may be like: whether its file is a query, how many vertices and at most how many rounds, the kind, how many path
-// reductions its terms are chosen from, how many entries a plan of kind 1 has, how many terms more than its root each expression may
-// have, the deepest depth, of eight terms how many are operators. Its file as far as it is written: where the next byte goes, how many
-// terms may still be added to those that are due, how many terms, path reductions and vertex reductions are written, the least depth
-// left that was met, the last term's tag or the byte of an entry just begun, where the last expression starts, and the last condition (0
-// for none).
+// A case. What it may be like: whether its file is a query, the version of a plan, how many vertices and at most how many rounds, the
+// kind, how many path reductions its terms are chosen from, how many entries a plan of kind 1 has, how many terms more than its root
+// each expression may have, the deepest depth, of eight terms how many are operators. Its file as far as it is written: where the next
+// byte goes, how many terms may still be added to those that are due, how many terms, path reductions and vertex reductions are written,
+// the least depth left that was met, the last term's tag or the byte of an entry just begun, where the last expression starts, and the
+// last condition (0 for none).
 struct Case {
     seed: u64,
     query: bool,
+    version: u64,
     n: u16,
     most: u16,
     kind: u64,
@@ -104,6 +117,10 @@ struct Score {
     absent: u64,
     zero: u64,
     above: u64,
+    second: u64,
+    sets: u64,
+    long_sets: u64,
+    outside: u64,
     differences: u64,
 }
 
@@ -212,27 +229,149 @@ fn number_at(q: &File, at: usize, size: usize) -> u64 {
     x
 }
 
-// The position of path reduction j of a plan: "key count, three key bytes with unused ones 0, 16-bit start". These six bytes as a
-// number stand for a path reduction everywhere here.
-fn slot(j: u8) -> usize {
-    7 + 6 * j as usize
+// A path reduction of the number of its keys and the number of its sources.
+fn with_keys(keys: u64, set: u64) -> u64 {
+    keys % SOURCE + SOURCE * (set % SOURCE)
 }
 
-// The path reduction at a position in a query, without the unused keys.
+// How many sources there are.
+fn set_size(set: u64) -> u64
+    ensures { λ r. ⌜ r ≤ 4 ⌝ }
+{
+    if set == 0 {
+        return 0;
+    }
+    if set < 65536 {
+        return if set < 256 { 1 } else { 2 };
+    }
+    if set < FOURTH { 3 } else { 4 }
+}
+
+// The source that the lowest byte stands for.
+fn source(set: u64) -> u16 {
+    fewer(set % 256, 1) as u16
+}
+
+// "a 16-bit start (0 to 255, or 65,535 for anywhere)"
+fn start_at(q: &File, at: usize) -> u64
+    ensures { λ r. ⌜ r ≤ 255 ⌝ }
+{
+    let x = number_at(q, at, 2);
+    if x == ANYWHERE { 0 } else { 1 + x % 255 }
+}
+
+// So many starts, as the sources of a path reduction.
+fn starts_at(q: &File, at: usize, count: u8) -> u64 {
+    let mut set: u64 = 0;
+    let mut i = count as usize;
+    while 0 < i {
+        i -= 1;
+        set = set % FOURTH * 256 + start_at(q, plus(at, 2 * i));
+    }
+    set
+}
+
+fn put_starts(out: &mut File, at: usize, set: u64) -> usize {
+    let mut a = at;
+    let mut rest = set;
+    while 0 < rest {
+        a = put(out, a, wide(source(rest)), 2);
+        rest = rest / 256;
+    }
+    a
+}
+
+// The path reduction at a position in a plan: its keys, then in version 1 a start, in version 2 "a set count (0 for anywhere) and its
+// starts". How many bytes it takes.
+fn listed_at(q: &File, at: usize) -> u64 {
+    let a = plus(at, 4);
+    let set = if byte(q, 3) == 1 {
+        start_at(q, a)
+    } else {
+        starts_at(q, plus(a, 1), byte(q, a))
+    };
+    with_keys(number_at(q, at, 4), set)
+}
+
+fn listed_size(q: &File, at: usize) -> usize {
+    if byte(q, 3) == 1 {
+        return 6;
+    }
+    5 + 2 * byte(q, plus(at, 4)) as usize
+}
+
+fn put_listed(out: &mut File, at: usize, version: u64, path: u64) -> usize {
+    let a = put(out, at, path % SOURCE, 4);
+    let set = path / SOURCE;
+    if version != 1 {
+        let b = put(out, a, set_size(set), 1);
+        return put_starts(out, b, set);
+    }
+    if set == 0 {
+        return put(out, a, ANYWHERE, 2);
+    }
+    put_starts(out, a, set)
+}
+
+// The position of path reduction j of a plan.
+fn slot(q: &File, j: u8) -> usize {
+    let mut at: usize = 7;
+    let mut i: u8 = 0;
+    while i < j {
+        at = plus(at, listed_size(q, at));
+        i += 1;
+    }
+    at
+}
+
+// The path reduction of the term at a position in a query, without the unused keys: 0x10 with a start, 0x13 with a set count and its
+// starts.
 fn path_at(q: &File, at: usize) -> u64 {
-    let size = 1 + byte(q, at) as usize;
-    number_at(q, at, size) % SOURCE + number_at(q, plus(at, size), 2) % 65536 * SOURCE
+    let a = plus(at, 1);
+    let size = 1 + byte(q, a) as usize;
+    let b = plus(a, size);
+    let set = if byte(q, at) == 0x10 {
+        start_at(q, b)
+    } else {
+        starts_at(q, plus(b, 1), byte(q, b))
+    };
+    with_keys(number_at(q, a, size), set)
+}
+
+// From anywhere it is written as 0x10, from two sources or more as 0x13, from one as either.
+fn put_path(out: &mut File, at: usize, path: u64, as_set: bool) -> usize {
+    let set = path / SOURCE;
+    let keys = 256 * (path % SOURCE);
+    let size = 2 + (path % 256) as usize;
+    if set == 0 {
+        let a = put(out, at, 0x10 + keys, size);
+        return put(out, a, ANYWHERE, 2);
+    }
+    if as_set || 256 <= set {
+        let a = put(out, at, 0x13 + keys, size);
+        let b = put(out, a, set_size(set), 1);
+        return put_starts(out, b, set);
+    }
+    let a = put(out, at, 0x10 + keys, size);
+    put_starts(out, a, set)
 }
 
 fn path_of(x: u64) -> PathReduction {
+    let set = x / SOURCE;
+    let mut sources = [0u16; 16];
+    sources[0] = source(set);
+    sources[1] = source(set / 256);
+    sources[2] = source(set / 65536);
+    sources[3] = source(set / FOURTH);
     PathReduction {
         keys: [
             (x / 256 % 256) as u8,
             (x / 65536 % 256) as u8,
-            (x / 16777216 % 256) as u8,
+            (x / FOURTH % 256) as u8,
         ],
         count: (x % 256) as usize,
-        source: (x / SOURCE % 65536) as u16,
+        sources,
+        starts: set_size(set) as usize,
     }
 }
 
@@ -267,8 +406,10 @@ fn term_size(q: &File, at: usize) -> usize {
     if tag % 128 < 0x10 {
         return 1;
     }
+    let keys = byte(q, plus(at, 1)) as usize;
     match tag {
-        0x10 => 4 + byte(q, plus(at, 1)) as usize,
+        0x10 => 4 + keys,
+        0x13 => 3 + keys + 2 * byte(q, plus(at, 2 + keys)) as usize,
         0x11 | 0x21 => 5,
         _ => 2,
     }
@@ -303,6 +444,7 @@ fn random_case(seed: u64, query: bool) -> Case {
     Case {
         seed: b,
         query,
+        version: if b / 8 % 4 == 0 { 1 } else { 2 },
         n,
         most: 2 * n,
         kind: kind / 4,
@@ -352,49 +494,99 @@ fn random_graph(graph: &mut File, rows: &mut Rows, n: u16, seed: u64) -> u64 {
     s
 }
 
-// No vertex in one of 64, anywhere in three quarters.
-fn random_source(seed: u64, n: u16) -> u64
-    ensures { λ r. ⌜ r ≤ 65535 ⌝ }
-{
+// With a lesser source before those there, where the bit is 1.
+fn with_source(set: u64, v: u8, bit: u64) -> u64 {
+    if bit == 0 {
+        return set;
+    }
+    set % FOURTH * 256 + wide8(v) + 1
+}
+
+// Any of the vertices, one at least; seldom with one more that is no vertex.
+fn random_set(seed: u64, n: u16) -> u64 {
+    let all = match n {
+        1 => 1,
+        2 => 3,
+        3 => 7,
+        _ => 15,
+    };
+    let bits = 1 + below(seed / 64, all);
+    let none = if seed % 64 == 0 { wide(n) + 1 } else { 0 };
+    let a = with_source(none, 3, bits / 8 % 2);
+    let b = with_source(a, 2, bits / 4 % 2);
+    let c = with_source(b, 1, bits / 2 % 2);
+    with_source(c, 0, bits % 2)
+}
+
+// Anywhere in a quarter and any vertices in half, where there may be several; else anywhere in three quarters. Of the rest one in sixteen
+// is no vertex.
+fn random_sources(seed: u64, n: u16, several: bool) -> u64 {
     let x = seed % 64;
-    if x == 0 {
-        return wide(n);
+    if 48 < x {
+        return 1 + below(seed / 64, wide(n));
     }
-    if x < 48 {
-        return ANYWHERE;
+    if x == 48 {
+        return wide(n) + 1;
     }
-    below(seed / 64, wide(n))
+    if several {
+        return if x < 16 { 0 } else { random_set(seed / 64, n) };
+    }
+    0
 }
 
 // One to three keys: before the last one of 1 to 4, the last of 1 to 6.
-fn random_path(seed: u64, n: u16) -> u64 {
+fn random_path(seed: u64, n: u16, several: bool) -> u64 {
     let last = 1 + seed / 3 % 6;
     let first = 1 + seed / 18 % 4;
     let second = 1 + seed / 72 % 4;
     let keys = match seed % 3 {
         0 => 1 + 256 * last,
         1 => 2 + 256 * first + 65536 * last,
-        _ => 3 + 256 * first + 65536 * second + 16777216 * last,
+        _ => 3 + 256 * first + 65536 * second + FOURTH * last,
     };
-    std::num::wrapping_add_u64(keys, SOURCE * random_source(seed / 288, n))
+    with_keys(keys, random_sources(seed / 288, n, several))
 }
 
-// A plan as far as the count of its entries; "Kind 0 has e = 1", with no reduction.
-fn random_table(table: &mut File, c: Case, seed: u64) -> Case {
-    let count = c.paths % 9;
-    let kind = c.kind % 2;
-    let mut at = put(table, 0, PLAN + SIXTH * (kind + 256 * count), 7);
+// The path reductions that terms are chosen from; in a plan of version 1 none has several sources. Returns the seed.
+fn random_paths(table: &mut Table, c: Case, seed: u64) -> u64 {
+    let count = (c.paths % 9) as usize;
     let mut s = seed;
-    let mut j: u64 = 0;
+    let mut j: usize = 0;
     while j < count {
         s = next(s);
-        at = put(table, at, random_path(s, c.n), 6);
+        table[j] = random_path(s, c.n, c.query || c.version == 2);
         j += 1;
     }
-    let mut r = c;
-    r.seed = s;
-    r.at = put(table, at, c.entries % 4 + (1 - kind), 2 - kind as usize);
-    r
+    s
+}
+
+// As many of them as there are.
+fn drawn(table: &Table, c: Case) -> Paths {
+    Paths {
+        count: (c.paths % 9) as usize,
+        list: *table,
+    }
+}
+
+// A plan as far as its path reductions. Returns where the next byte goes.
+fn put_paths(out: &mut File, p: Paths, version: u64, kind: u64) -> usize {
+    let list = p.list;
+    let count = lesser(p.count, 8);
+    let head = PLAN + FOURTH * (version % 256);
+    let mut at = put(out, 0, head + SIXTH * (kind % 2 + 256 * count as u64), 7);
+    let mut j: usize = 0;
+    while j < count {
+        at = put_listed(out, at, version, list[j]);
+        j += 1;
+    }
+    at
+}
+
+// And as far as the count of its entries; "Kind 0 has e = 1", with no reduction.
+fn put_counted(out: &mut File, p: Paths, c: Case) -> usize {
+    let kind = c.kind % 2;
+    let at = put_paths(out, p, c.version, kind);
+    put(out, at, c.entries % 4 + (1 - kind), 2 - kind as usize)
 }
 
 // Mostly small, else at the end of 32 bits or anywhere.
@@ -456,28 +648,24 @@ fn random_tag(c: Case, result: bool, left: u64) -> u8 {
     leaf_tag(seed / 1024, c, result, most)
 }
 
-// A literal's number, a reduction, the index of an entry or of a path reduction, or an operator, by the term's tag.
+// A literal's number, a reduction, the index of an entry or of a path reduction (in a query with 8 more where a set of one is written as
+// a set), or an operator, by the term's tag.
 fn random_code(seed: u64, c: Case, tag: u8) -> u64 {
     match tag {
         0x11 | 0x21 => random_literal(seed),
         0x20 | 0x23 => 1 + seed % 5,
         0x31 => below(seed, c.entries),
-        0x10 | 0x30 => below(seed, c.paths),
+        0x30 => below(seed, c.paths),
+        0x10 => below(seed, c.paths) + 8 * (seed / 1024 % 2),
         _ => wide8(OPERATORS[(seed % 16) as usize]),
     }
 }
 
 // A term of this tag and code, without those below it; a path reduction is from the table. Returns where the next byte goes.
-fn put_term(out: &mut File, table: &File, at: usize, tag: u8, code: u64) -> usize {
+fn put_term(out: &mut File, table: &Table, at: usize, tag: u8, code: u64) -> usize {
     if tag == 0x10 {
-        let path = number_at(table, slot((code % 256) as u8), 6);
-        let a = put(
-            out,
-            at,
-            0x10 + 256 * (path % SOURCE),
-            2 + (path % 256) as usize,
-        );
-        return put(out, a, path / SOURCE, 2);
+        let path = table[(code % 8) as usize];
+        return put_path(out, at, path, 8 <= code);
     }
     let size = match tag {
         0x11 | 0x21 => 5,
@@ -507,7 +695,7 @@ fn reduces(tag: u8) -> bool {
 }
 
 // One term more, with so much depth left, without those below it.
-fn put_one(out: &mut File, table: &File, c: Case, tag: u8, code: u64, left: u64) -> Case {
+fn put_one(out: &mut File, table: &Table, c: Case, tag: u8, code: u64, left: u64) -> Case {
     let mut r = begun(c, tag, put_term(out, table, c.at, tag, code));
     r.terms = count(c.terms, true);
     r.path_terms = count(c.path_terms, tag % 32 == 16);
@@ -517,7 +705,7 @@ fn put_one(out: &mut File, table: &File, c: Case, tag: u8, code: u64, left: u64)
 }
 
 // A condition that compares a path reduction with a literal.
-fn put_comparison(out: &mut File, table: &File, c: Case, left: u64) -> Case {
+fn put_comparison(out: &mut File, table: &Table, c: Case, left: u64) -> Case {
     let inner = fewer(left, 1);
     let seed = next(c.seed);
     let operator = COMPARING[(c.seed / 64 % 4) as usize];
@@ -539,7 +727,7 @@ fn compares(c: Case, left: u64) -> bool {
 }
 
 // One term more, with so much depth left, without those below it, or a whole condition.
-fn put_next(out: &mut File, table: &File, c: Case, result: bool, left: u64) -> Case {
+fn put_next(out: &mut File, table: &Table, c: Case, result: bool, left: u64) -> Case {
     let mut r = c;
     r.seed = next(c.seed);
     if compares(r, left) {
@@ -550,7 +738,7 @@ fn put_next(out: &mut File, table: &File, c: Case, result: bool, left: u64) -> C
 }
 
 // A term and all that it contains, with so much depth left; only an operator on results contains results.
-fn make(out: &mut File, table: &File, c: Case, result: bool, left: u64) -> Case {
+fn make(out: &mut File, table: &Table, c: Case, result: bool, left: u64) -> Case {
     if left == 0 {
         return c;
     }
@@ -584,7 +772,7 @@ fn random_reduction(seed: u64) -> u8 {
 }
 
 // An entry more, with its share of terms: its byte, the condition's expression where it has one, then the value's.
-fn make_entry(out: &mut File, table: &File, c: Case) -> Case {
+fn make_entry(out: &mut File, table: &Table, c: Case) -> Case {
     let tag = random_reduction(c.seed);
     let mut r = begun(with_share(c), tag, put(out, c.at, wide8(tag), 1));
     if has_condition(tag) {
@@ -594,26 +782,26 @@ fn make_entry(out: &mut File, table: &File, c: Case) -> Case {
 }
 
 // The expression whose values are asked for, with its share of terms.
-fn make_last(out: &mut File, table: &File, c: Case, result: bool) -> Case {
+fn make_last(out: &mut File, table: &Table, c: Case, result: bool) -> Case {
     let mut r = with_share(c);
     r.free = fewer(r.free, 1);
     r.root = c.at;
     make(out, table, r, result, c.depth)
 }
 
-// Where the first expression goes: behind the head of a query, or where the path reductions of a plan end.
-fn put_head(out: &mut File, c: Case) -> usize {
+// Where the first expression goes: behind the head of a query, or behind the path reductions of a plan and the count of its entries.
+fn put_head(out: &mut File, table: &Table, c: Case) -> usize {
     if c.query {
         return put(out, 0, QUERY + SIXTH * (c.kind % 2), 6);
     }
-    c.at
+    put_counted(out, drawn(table, c), c)
 }
 
-// A query, or a plan whose path reductions are written: the entries of kind 1, then the expression whose values are asked for.
-fn make_file(out: &mut File, table: &File, c: Case) -> Case {
+// A query, or a plan: its head, the entries of a plan of kind 1, then the expression whose values are asked for.
+fn make_file(out: &mut File, table: &Table, c: Case) -> Case {
     let count = c.entries % 4;
     let mut r = c;
-    r.at = put_head(out, c);
+    r.at = put_head(out, table, c);
     let mut k: u64 = 0;
     while k < count {
         r = make_entry(out, table, r);
@@ -628,26 +816,39 @@ const EQUAL: u8 = 0;
 
 const NO_VERTEX: u8 = 1;
 
-const CHANGED: u8 = 2;
+const SEVERAL: u8 = 2;
 
-// Is a path reduction the number x, has it a source that is none of the n vertices (anywhere counts as vertex 0, which is always there),
-// or do walks of one edge more than x change a figure?
-fn is_so(test: u8, path: u64, x: u64, rows: &Rows, n: u16) -> bool {
-    if test == EQUAL {
-        return path == x;
-    }
-    if test == CHANGED {
-        return !walked::unchanged(rows, n, path_of(path), x as usize);
-    }
-    wide(n) <= path / SOURCE % ANYWHERE
+const CHANGED: u8 = 3;
+
+// Is one of the sources none of the n vertices? The greatest comes last.
+fn no_vertex(set: u64, n: u16) -> bool {
+    let last = match set_size(set) {
+        4 => set / FOURTH,
+        3 => set / 65536,
+        2 => set / 256,
+        _ => set,
+    };
+    wide(n) < last % 256
 }
 
-// Is it so of a path reduction of the plan?
-fn any(table: &File, test: u8, x: u64, rows: &Rows, n: u16) -> bool {
-    let count = byte(table, 6);
-    let mut j: u8 = 0;
+// Is a path reduction the number x, has it a source that is none of the n vertices, two sources or more, or do walks of one edge more than
+// x change a figure?
+fn is_so(test: u8, path: u64, x: u64, rows: &Rows, n: u16) -> bool {
+    match test {
+        EQUAL => path == x,
+        NO_VERTEX => no_vertex(path / SOURCE, n),
+        SEVERAL => 256 <= path / SOURCE,
+        _ => !walked::unchanged(rows, n, path_of(path), x as usize),
+    }
+}
+
+// Is it so of one of them?
+fn any(p: Paths, test: u8, x: u64, rows: &Rows, n: u16) -> bool {
+    let list = p.list;
+    let count = lesser(p.count, 8);
+    let mut j: usize = 0;
     while j < count {
-        if is_so(test, number_at(table, slot(j), 6), x, rows, n) {
+        if is_so(test, list[j], x, rows, n) {
             return true;
         }
         j += 1;
@@ -656,29 +857,34 @@ fn any(table: &File, test: u8, x: u64, rows: &Rows, n: u16) -> bool {
 }
 
 // With the path reduction of a term of a query, if it is not there.
-fn with_path(table: File, q: &File, at: usize, rows: &Rows) -> File {
-    let path = path_at(q, plus(at, 1));
-    if byte(q, at) != 0x10 {
-        return table;
+fn with_path(p: Paths, q: &File, at: usize, rows: &Rows) -> Paths {
+    let tag = byte(q, at);
+    if tag != 0x10 {
+        if tag != 0x13 {
+            return p;
+        }
     }
-    if any(&table, EQUAL, path, rows, 0) {
-        return table;
+    let path = path_at(q, at);
+    if any(p, EQUAL, path, rows, 0) {
+        return p;
     }
-    let count = byte(&table, 6);
-    let mut r = table;
-    put(&mut r, slot(count), path, 6);
-    put(&mut r, 6, wide8(count) + 1, 1);
-    r
+    let i = p.count;
+    let mut list = p.list;
+    if i < 8 {
+        list[i] = path;
+        return Paths { count: i + 1, list };
+    }
+    p
 }
 
-// A plan as far as its path reductions: as it is written, or for a query from term to term. "Fusing puts equal chains together, in
-// order of first writing".
-fn gathered(table: File, c: Case, q: &File, rows: &Rows) -> File {
+// The path reductions of a plan: as it is written, or for a query from term to term. "Fusing puts equal chains together, in order of
+// first writing".
+fn gathered(table: &Table, c: Case, q: &File, rows: &Rows) -> Paths {
+    let mut r = drawn(table, c);
     if !c.query {
-        return table;
+        return r;
     }
-    let mut r = [0u8; 560];
-    put(&mut r, 0, PLAN + SIXTH * (c.kind % 2), 6);
+    r.count = 0;
     let count = c.terms % 65;
     let mut at: usize = 6;
     let mut i: u64 = 0;
@@ -690,12 +896,20 @@ fn gathered(table: File, c: Case, q: &File, rows: &Rows) -> File {
     r
 }
 
+// A plan as far as they go. "Fusing writes version 2 .. when some set has two or more; else version 1."
+fn fused_head(p: Paths, c: Case, rows: &Rows) -> File {
+    let mut out = [0u8; 560];
+    let version = if any(p, SEVERAL, 0, rows, 0) { 2 } else { 1 };
+    put_paths(&mut out, p, version, c.kind);
+    out
+}
+
 // The value of a path reduction or a literal at a vertex.
 fn leaf(q: &File, at: usize, rows: &Rows, vertex: usize, most: u16) -> Value {
     let a = plus(at, 1);
     let path = match byte(q, at) {
-        0x10 => path_at(q, a),
-        0x30 => number_at(q, slot(byte(q, a)), 6),
+        0x10 | 0x13 => path_at(q, at),
+        0x30 => listed_at(q, slot(q, byte(q, a))),
         _ => {
             return Value::Number(number_at(q, a, 4));
         }
@@ -708,7 +922,7 @@ fn entry_of(q: &File, at: usize) -> usize {
     let a = plus(at, 1);
     match byte(q, at) {
         0x20 | 0x23 => a,
-        0x31 => behind(q, plus(slot(byte(q, 6)), 1), byte(q, a)),
+        0x31 => behind(q, plus(slot(q, byte(q, 6)), 1), byte(q, a)),
         _ => 0,
     }
 }
@@ -803,10 +1017,10 @@ fn wanted(code: u32, c: Case, rounds: u16, most: u16, q: &File, rows: &Rows) -> 
 
 // "the smallest r, one or more, for which each figure of each chain at each place is the same over walks of at most r passages as
 // over walks of at most r - 1"; 0, which no run reports, if there is none up to 2n.
-fn rounds_of(table: &File, rows: &Rows, n: u16, most: u16) -> u16 {
+fn rounds_of(p: Paths, rows: &Rows, n: u16, most: u16) -> u16 {
     let mut r: u16 = 0;
     while r < most {
-        if !any(table, CHANGED, wide(r), rows, n) {
+        if !any(p, CHANGED, wide(r), rows, n) {
             return r + 1;
         }
         r += 1;
@@ -815,10 +1029,10 @@ fn rounds_of(table: &File, rows: &Rows, n: u16, most: u16) -> u16 {
 }
 
 // 13 comes before 15.
-fn expected_code(table: &File, rows: &Rows, n: u16, size: usize, lent: usize) -> u32
+fn expected_code(p: Paths, rows: &Rows, n: u16, size: usize, lent: usize) -> u32
     requires { ⌜ size ≤ 46 ⌝ }
 {
-    if any(table, NO_VERTEX, 0, rows, n) {
+    if any(p, NO_VERTEX, 0, rows, n) {
         return 65549;
     }
     if lent < size {
@@ -828,15 +1042,15 @@ fn expected_code(table: &File, rows: &Rows, n: u16, size: usize, lent: usize) ->
 }
 
 // What the runs of a file should return. Seldom a byte less is lent than the answer takes, else up to three bytes more.
-fn expect(c: Case, graph: &File, rows: &Rows, table: &File) -> Expected {
+fn expect(c: Case, graph: &File, rows: &Rows, p: Paths) -> Expected {
     let size = 10 + 9 * row_count(c);
     let lent = size - 1 + lesser((c.seed % 16) as usize, 4);
     Expected {
-        code: expected_code(table, rows, c.n, size, lent),
+        code: expected_code(p, rows, c.n, size, lent),
         file: c.at,
         graph: 9 + 8 * byte(graph, 7) as usize,
         lent,
-        rounds: rounds_of(table, rows, c.n, c.most),
+        rounds: rounds_of(p, rows, c.n, c.most),
         stop: below(c.seed / 16, wide(c.most) + 1) as u16,
     }
 }
@@ -914,13 +1128,13 @@ fn runs_differ(e: Expected, file: File, graph: File, whole: File, stopped: File)
 }
 
 // A query is fused: into a long buffer, into one as long as the plan, into one a byte short. The plan starts as gathered, and is run.
-fn fused_differ(e: Expected, q: File, table: File, graph: File, whole: File, stopped: File) -> u64 {
+fn fused_differ(e: Expected, q: File, head: File, graph: File, whole: File, stopped: File) -> u64 {
     let mut f = e;
     f.lent = 560;
     let ran = lend(FUSE, f, q, graph);
     let made = ran.out;
     let size = ran.code as usize;
-    let a = differ(&made, &table, slot(byte(&table, 6)));
+    let a = differ(&made, &head, slot(&head, byte(&head, 6)));
     f.code = ran.code;
     f.lent = size;
     let b = differs(FUSE, f, q, graph, made);
@@ -946,15 +1160,24 @@ fn damage(file: &mut File, len: usize, seed: u64) -> usize {
     len
 }
 
-// 1 where a refusal is by no number of those that may be (up to 14 for a query, up to 16 for a plan) or changes the buffer; or where the
-// reader of plans does not take what was fused or run.
+// May a reader refuse by this number? Each but 15, of a query also but 16.
+fn may_refuse(query: bool, number: u32) -> bool {
+    match number {
+        1..=14 => true,
+        16 => !query,
+        17 => true,
+        _ => false,
+    }
+}
+
+// 1 where a refusal is by no number of those that may be or changes the buffer; or where the reader of plans does not take what was
+// fused or run.
 fn damaged_differ(e: Expected, query: bool, ran: Ran, file: File, graph: File) -> u64 {
     let code = ran.code;
     let out = ran.out;
     let blank = [FILL; 560];
     if 65536 <= code {
-        let most = if query { 14 } else { 16 };
-        if most <= std::num::wrapping_sub_u32(code, 65537) {
+        if !may_refuse(query, std::num::wrapping_sub_u32(code, 65536)) {
             return 1;
         }
         return differ(&out, &blank, 560);
@@ -986,12 +1209,12 @@ fn with_differences(score: Score, differences: u64) -> Score {
 }
 
 // What the file of a case is like, with so many different path reductions, and its answer, whose first row starts with the byte `first`.
-fn scored(score: Score, c: Case, e: Expected, paths: u8, first: u8) -> Score {
+fn scored(score: Score, c: Case, e: Expected, paths: u64, first: u8) -> Score {
     let mut r = score;
     r.refused = count(score.refused, 65536 <= e.code);
     r.numbers = count(score.numbers, first == 1);
     r.long = count(score.long, c.n < e.rounds);
-    r.shared = count(score.shared, wide8(paths) < c.path_terms);
+    r.shared = count(score.shared, paths < c.path_terms);
     r.several = count(score.several, 1 < c.reductions);
     r.eight = count(score.eight, paths == 8);
     r.full = count(score.full, c.terms == 64);
@@ -1018,13 +1241,36 @@ fn with_condition(score: Score, c: Case, q: &File, rows: &Rows) -> Score {
     r
 }
 
-fn try_file(score: Score, c: Case, rows: &Rows, table: File, file: File, graph: File) -> Score {
-    let e = expect(c, &graph, rows, &table);
+// The version of its plan, and what a file with sets of two or more is like: more rounds than vertices, refused for a source.
+fn with_sets(score: Score, c: Case, e: Expected, version: u8, sets: bool) -> Score {
+    let mut r = score;
+    r.second = count(score.second, version == 2);
+    if sets {
+        r.sets = count(score.sets, true);
+        r.long_sets = count(score.long_sets, c.n < e.rounds);
+        r.outside = count(score.outside, e.code == 65549);
+    }
+    r
+}
+
+fn try_file(score: Score, c: Case, rows: &Rows, p: Paths, file: File, graph: File) -> Score {
+    let e = expect(c, &graph, rows, p);
     let whole = wanted(e.code, c, e.rounds, c.most, &file, rows);
     let stopped = wanted(e.code, c, e.stop, e.stop, &file, rows);
-    let r = with_condition(scored(score, c, e, table[6], whole[10]), c, &file, rows);
+    let head = if c.query {
+        fused_head(p, c, rows)
+    } else {
+        file
+    };
+    let sets = with_sets(score, c, e, head[3], any(p, SEVERAL, 0, rows, 0));
+    let r = with_condition(
+        scored(sets, c, e, p.count as u64, whole[10]),
+        c,
+        &file,
+        rows,
+    );
     if c.query {
-        return with_differences(r, fused_differ(e, file, table, graph, whole, stopped));
+        return with_differences(r, fused_differ(e, file, head, graph, whole, stopped));
     }
     with_differences(r, runs_differ(e, file, graph, whole, stopped))
 }
@@ -1051,11 +1297,12 @@ fn try_damaged(score: Score, query: bool, len: usize, file: File, graph: File) -
 fn try_case(score: Score, query: bool) -> Score {
     let mut graph = [0u8; 560];
     let mut rows = [65535u16; 24];
-    let mut table = [0u8; 560];
+    let mut table = [0u64; 8];
+    let mut file = [0u8; 560];
     let blank = random_case(score.seed, query);
     let seed = random_graph(&mut graph, &mut rows, blank.n, blank.seed);
-    let begun = random_table(&mut table, blank, seed);
-    let mut file = table;
+    let mut begun = blank;
+    begun.seed = random_paths(&mut table, blank, seed);
     let c = make_file(&mut file, &table, begun);
     let mut r = score;
     r.seed = next(c.seed);
@@ -1064,7 +1311,7 @@ fn try_case(score: Score, query: bool) -> Score {
         let len = damage(&mut file, c.at, r.seed);
         return try_damaged(r, query, len, file, graph);
     }
-    try_file(r, c, &rows, gathered(table, c, &file, &rows), file, graph)
+    try_file(r, c, &rows, gathered(&table, c, &file, &rows), file, graph)
 }
 
 fn try_all(query: bool) -> Score {
@@ -1085,6 +1332,10 @@ fn try_all(query: bool) -> Score {
         absent: 0,
         zero: 0,
         above: 0,
+        second: 0,
+        sets: 0,
+        long_sets: 0,
+        outside: 0,
         differences: 0,
     };
     let mut i: u64 = 0;
@@ -1122,6 +1373,10 @@ fn print(score: Score) {
     line(
         b"\na condition, the last one absent at place 0, 0 there, above 1:",
         [score.conditions, score.absent, score.zero, score.above],
+    );
+    line(
+        b"\na worksheet of version 2, a chain from two starts or more, more rounds than places with one, 13 with one:",
+        [score.second, score.sets, score.long_sets, score.outside],
     );
     line(
         b"\ntwo reductions or more, 64 terms, depth 16, calls that differ:",

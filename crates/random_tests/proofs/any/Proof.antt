@@ -5,22 +5,22 @@ use Rattle.random_tests.proofs.any.Statement.{statement}
 use Rattle.random_tests.proofs.any.Tie as tie
 
 abbrev Inv-loop : tie.InvT-loop
-Inv-loop table test x rows n count j₀ j = j ≤ count
+Inv-loop test x rows n list count j₀ j = (j ≤ count) × (count ≤ 8)
 
 abbrev μ-loop : tie.MeasureT-loop
-μ-loop table test x rows n count j₀ j = count - j
+μ-loop test x rows n list count j₀ j = count - j
 
-byte-requires : tie.Need-byte-requires Inv-loop μ-loop
-byte-requires c κs = search needs
+lesser-requires : tie.Need-lesser-requires Inv-loop μ-loop
+lesser-requires c κs = search needs
 
 loop-holds : tie.Need-loop-holds Inv-loop μ-loop
 loop-holds c = search needs
 
-slot-requires : tie.Need-slot-requires Inv-loop μ-loop
-slot-requires c κs = search needs
+mul-is-so : tie.Need-mul-is-so Inv-loop μ-loop
+mul-is-so c = search needs
 
-number-at-requires : tie.Need-number-at-requires Inv-loop μ-loop
-number-at-requires c κs = search needs
+array-read-is-so : tie.Need-array-read-is-so Inv-loop μ-loop
+array-read-is-so c = search needs
 
 is-so-requires : tie.Need-is-so-requires Inv-loop μ-loop
 is-so-requires c κs = search needs
@@ -46,10 +46,10 @@ any-spec =
     (tie.spec
     Inv-loop
     μ-loop
-    byte-requires
+    lesser-requires
     loop-holds
-    slot-requires
-    number-at-requires
+    mul-is-so
+    array-read-is-so
     is-so-requires
     returns
     add-j

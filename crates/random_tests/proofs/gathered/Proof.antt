@@ -5,22 +5,16 @@ use Rattle.random_tests.proofs.gathered.Statement.{statement}
 use Rattle.random_tests.proofs.gathered.Tie as tie
 
 abbrev Inv-loop : tie.InvT-loop
-Inv-loop q rows r₀ count at₀ i₀ r at i = (i ≤ count) × (count ≤ 64)
+Inv-loop table q rows r₀ count at₀ i₀ r at i = (i ≤ count) × (count ≤ 64)
 
 abbrev μ-loop : tie.MeasureT-loop
-μ-loop q rows r₀ count at₀ i₀ r at i = count - i
+μ-loop table q rows r₀ count at₀ i₀ r at i = count - i
+
+drawn-requires : tie.Need-drawn-requires Inv-loop μ-loop
+drawn-requires c κs = search needs
 
 returns : tie.Need-returns Inv-loop μ-loop
 returns c = search needs
-
-mul-put : tie.Need-mul-put Inv-loop μ-loop
-mul-put c = search needs
-
-add-put : tie.Need-add-put Inv-loop μ-loop
-add-put c = search needs
-
-put-requires : tie.Need-put-requires Inv-loop μ-loop
-put-requires c κs = search needs
 
 loop-holds : tie.Need-loop-holds Inv-loop μ-loop
 loop-holds c = search needs
@@ -52,10 +46,8 @@ gathered-spec =
     (tie.spec
     Inv-loop
     μ-loop
+    drawn-requires
     returns
-    mul-put
-    add-put
-    put-requires
     loop-holds
     with-path-requires
     term-size-requires

@@ -7,6 +7,7 @@ ghost use Prim.Native.Nat.{_+_, _≤_, _<_, max};
 ghost use mathlib.Core.Bool.{cond};
 ghost use lib.Dec.{eqb};
 ghost use lib.ListN.{length};
+ghost use Rattle.terms.specs.Steps.{blank-front, expression, forwarded, Holds, HoldsAll, Keeps, refused-front};
 ghost use Rattle.terms.specs.Terms.{alone, refused-step, slot-of, kept-path, advanced, path-step, reduce-step, index-step, set-step};
 ghost use Rattle.terms.specs.Terms.{leaf-step, literal-step, apply-step, literal-tag, term-step, read};
 
@@ -304,4 +305,171 @@ pub fn read_term(s: &[u8], w: Progress, kind: TermKind, left: usize) -> Progress
         return first;
     }
     read_term(s, first, inner, left - 1)
+}
+
+// ---- expressions of worksheets
+
+// How far the reading of a worksheet has come, without its table: no expression changes that, and it is long to hand on at each term.
+pub struct Front {
+    pub code: u8,
+    pub at: usize,
+    pub terms: usize,
+    pub paths: usize,
+    pub reductions: usize,
+}
+
+// A term of an expression read without those that it contains; after an operator two follow.
+pub struct FrontStep {
+    pub front: Front,
+    pub applies: bool,
+}
+
+// The front after a refusal.
+pub fn blank_front(code: u8) -> Front
+    ensures { λ r. ⌜ r ≡ blank-front code ⌝ }
+{
+    Front {
+        code,
+        at: 0,
+        terms: 0,
+        paths: 0,
+        reductions: 0,
+    }
+}
+
+// No term, for the reason that the number gives.
+fn refuse_front(code: u8) -> FrontStep
+    ensures { λ r. ⌜ r ≡ refused-front code ⌝ }
+{
+    FrontStep {
+        front: blank_front(code),
+        applies: false,
+    }
+}
+
+// One term more, up to `next`.
+fn forward(f: Front, next: usize, applies: bool) -> FrontStep
+    requires { ⌜ f .terms < 64 ⌝ }
+    ensures { λ r. ⌜ r ≡ forwarded f next applies ⌝ }
+{
+    FrontStep {
+        front: Front {
+            code: f.code,
+            at: next,
+            terms: f.terms + 1,
+            paths: f.paths,
+            reductions: f.reductions,
+        },
+        applies,
+    }
+}
+
+// A literal.
+fn literal_front(s: &[u8], f: Front) -> FrontStep
+    requires { ⌜ (f .at < length (now s)) × (f .terms < 64) × (f .code ≡ 0) ⌝ }
+    ensures { λ r. ⌜ HoldsAll r f (λ kind. literal-step (now (s .entry))) ⌝ }
+{
+    let last = f.at + 4;
+    if 255 < fields::byte(s, last) {
+        return refuse_front(1);
+    }
+    forward(f, last + 1, false)
+}
+
+// An operator.
+fn apply_front(s: &[u8], f: Front) -> FrontStep
+    requires { ⌜ (f .at < length (now s)) × (f .terms < 64) × (f .code ≡ 0) ⌝ }
+    ensures { λ r. ⌜ HoldsAll r f (λ kind. apply-step kind (now (s .entry))) ⌝ }
+{
+    let at = f.at + 1;
+    let c = fields::code_of(fields::byte(s, at), 11);
+    if c != 0 {
+        return refuse_front(c);
+    }
+    forward(f, at + 1, true)
+}
+
+// An index, 16 where it is not below `count`.
+fn index_front(s: &[u8], f: Front, count: usize) -> FrontStep
+    requires { ⌜ (f .at < length (now s)) × (f .terms < 64) × (f .code ≡ 0) ⌝ }
+    ensures { λ r. ⌜ HoldsAll r f (λ kind w. index-step (now (s .entry)) w count) ⌝ }
+{
+    let at = f.at + 1;
+    let b = fields::byte(s, at);
+    if 255 < b {
+        return refuse_front(1);
+    }
+    if count <= (b as usize) {
+        return refuse_front(16);
+    }
+    forward(f, at + 1, false)
+}
+
+// What an expression has instead of chains or reductions: an index behind its own byte; any other is 9.
+fn leaf_front(s: &[u8], f: Front, last: bool, tag: u8) -> FrontStep
+    requires { ⌜ (f .at < length (now s)) × (f .terms < 64) × (f .code ≡ 0) ⌝ }
+    ensures { λ r. ⌜ Holds (expression last) r f (leaf-step (expression last) tag (now (s .entry))) ⌝ }
+{
+    if last {
+        if tag == 0x31 {
+            return index_front(s, f, f.reductions);
+        }
+        return refuse_front(9);
+    }
+    if tag == 0x30 {
+        return index_front(s, f, f.paths);
+    }
+    refuse_front(9)
+}
+
+// The byte of a literal.
+fn expression_tag(last: bool) -> u8
+    ensures { λ r. ⌜ (r ≡ literal-tag (expression last)) × (r ≤ 33) ⌝ }
+{
+    if last { 0x21 } else { 0x11 }
+}
+
+// A term of an entry's expression, or of the last one of a worksheet, without those that it contains.
+fn front_step_of(s: &[u8], f: Front, last: bool, left: usize) -> FrontStep
+    requires { ⌜ f .code ≡ 0 ⌝ }
+    ensures { λ r. ⌜ Holds (expression last) r f (term-step (expression last) left (now (s .entry))) ⌝ }
+{
+    let at = f.at;
+    if s.len() <= at {
+        return refuse_front(1);
+    }
+    if 64 <= f.terms {
+        return refuse_front(12);
+    }
+    if left == 0 {
+        return refuse_front(11);
+    }
+    let tag = s[at];
+    let literal = expression_tag(last);
+    if tag == literal {
+        return literal_front(s, f);
+    }
+    if tag == literal + 1 {
+        return apply_front(s, f);
+    }
+    leaf_front(s, f, last, tag)
+}
+
+// An expression, from f on, with `left` levels of depth left: the table is what it was, whatever it holds. A refusal is handed on.
+pub fn read_front(s: &[u8], f: Front, last: bool, left: usize) -> Front
+    ensures { λ r. ⌜ Keeps (read (expression last) left (now (s .entry))) f r ⌝ }
+{
+    if f.code != 0 {
+        return f;
+    }
+    let step = front_step_of(s, f, last, left);
+    let next = step.front;
+    if left == 0 {
+        return next;
+    }
+    if step.applies {
+        let first = read_front(s, next, last, left - 1);
+        return read_front(s, first, last, left - 1);
+    }
+    next
 }

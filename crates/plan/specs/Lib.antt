@@ -1,3 +1,4 @@
 pub mod Plan
+pub mod Steps
 pub mod Text
 pub mod Tree

@@ -1,12 +1,15 @@
 // Plans (document 01, worksheet `LPW`): judged and read.
 use packed_path::PackedPath;
 use progress::Progress;
-use terms::TermKind;
+use terms::Front;
 ghost use mathlib.Core.Path.{_≡_};
 ghost use Prim.Native.Nat.{_+_, _≤_, _<_};
 ghost use lib.ListN.{length, getD};
+ghost use Rattle.progress.specs.Progress.{ended, started};
+ghost use Rattle.terms.specs.Steps.{Keeps};
+ghost use Rattle.plan.specs.Steps.{listed-refusal};
 ghost use Rattle.plan.specs.Plan.{filler-code, slot-code, listed-keys-code, set-count-code, listed-starts-code, listed-code, listed-at, listed-end};
-ghost use Rattle.plan.specs.Plan.{listed-step, listed-scan, count-at};
+ghost use Rattle.plan.specs.Plan.{listed-scan, count-at};
 ghost use Rattle.plan.specs.Plan.{reduction-code, expressions-scan, entry-scan, entries-scan, count-code, final-scan, body-scan, plan-scan, plan-code};
 
 // An unused key byte: 1 missing, 9 other than 0.
@@ -142,40 +145,39 @@ pub fn count_at(s: &[u8]) -> usize
     at
 }
 
-// One path reduction more.
-fn listed_step_of(s: &[u8], w: Progress, version: u8) -> Progress
-    ensures { λ r. ⌜ r ≡ listed-step version (now (s .entry)) w ⌝ }
+// The first refusal of a path reduction at `at`, where i come before it, or 0.
+fn refusal_at(s: &[u8], at: usize, i: usize, version: u8) -> u8
+    ensures { λ r. ⌜ r ≡ listed-refusal version (now (s .entry)) at i ⌝ }
 {
-    let at = w.at;
-    let i = w.paths;
     if s.len() <= at {
-        return progress::blank_of(1);
+        return 1;
     }
     let c = listed_code_of(s, at, version);
     if c != 0 {
-        return progress::blank_of(c);
+        return c;
     }
     if 8 <= i {
-        return progress::blank_of(14);
+        return 14;
     }
-    let mut r = w;
-    r.at = listed_end_of(s, at, version);
-    r.paths = i + 1;
-    r.table[i] = listed_at_of(s, at, version);
-    r
+    0
 }
 
-// The path reductions, k of them. A refusal is handed on.
-fn listed(s: &[u8], w: Progress, k: usize, version: u8) -> Progress
-    ensures { λ r. ⌜ r ≡ listed-scan k version (now (s .entry)) w ⌝ }
+// The path reductions, k of them from byte 7 on, each put into the table where it stands.
+fn listed(s: &[u8], k: usize, version: u8) -> Progress
+    ensures { λ r. ⌜ r ≡ listed-scan k version (now (s .entry)) (started 7) ⌝ }
 {
-    let mut state = w;
+    let mut state = progress::start(7);
     let mut left = k;
     while 0 < left {
-        if state.code != 0 {
-            return state;
+        let at = state.at;
+        let i = state.paths;
+        let c = refusal_at(s, at, i, version);
+        if c != 0 {
+            return progress::blank_of(c);
         }
-        state = listed_step_of(s, state, version);
+        state.table[i] = listed_at_of(s, at, version);
+        state.at = listed_end_of(s, at, version);
+        state.paths = i + 1;
         left -= 1;
     }
     state
@@ -195,44 +197,45 @@ fn reduction_code_of(kind: u16, b: u16) -> u8
 }
 
 // The expressions behind the reduction byte b: the condition's, where there is one, then the value's. A refusal is handed on.
-fn expressions(s: &[u8], w: Progress, b: u16) -> Progress
-    ensures { λ r. ⌜ r ≡ expressions-scan b (now (s .entry)) w ⌝ }
+fn expressions(s: &[u8], f: Front, b: u16) -> Front
+    ensures { λ r. ⌜ Keeps (expressions-scan b (now (s .entry))) f r ⌝ }
 {
     if b < 128 {
-        return terms::read_term(s, w, TermKind::OfEntry, 16);
+        return terms::read_front(s, f, false, 16);
     }
-    let condition = terms::read_term(s, w, TermKind::OfEntry, 16);
-    terms::read_term(s, condition, TermKind::OfEntry, 16)
+    let condition = terms::read_front(s, f, false, 16);
+    terms::read_front(s, condition, false, 16)
 }
 
 // An entry: its reduction byte and its expressions. One more is met.
-fn entry(s: &[u8], w: Progress, kind: u16) -> Progress
-    ensures { λ r. ⌜ r ≡ entry-scan kind (now (s .entry)) w ⌝ }
+fn entry(s: &[u8], f: Front, kind: u16) -> Front
+    requires { ⌜ f .code ≡ 0 ⌝ }
+    ensures { λ r. ⌜ Keeps (entry-scan kind (now (s .entry))) f r ⌝ }
 {
-    let at = w.at;
+    let at = f.at;
     if s.len() <= at {
-        return progress::blank_of(1);
+        return terms::blank_front(1);
     }
     let b = fields::byte(s, at);
     let c = reduction_code_of(kind, b);
     if c != 0 {
-        return progress::blank_of(c);
+        return terms::blank_front(c);
     }
-    let met = w.reductions;
+    let met = f.reductions;
     if 8 <= met {
-        return progress::blank_of(14);
+        return terms::blank_front(14);
     }
-    let mut next = w;
+    let mut next = f;
     next.at = at + 1;
     next.reductions = met + 1;
     expressions(s, next, b)
 }
 
 // The entries, k of them. A refusal is handed on.
-fn entries(s: &[u8], w: Progress, kind: u16, k: usize) -> Progress
-    ensures { λ r. ⌜ r ≡ entries-scan k kind (now (s .entry)) w ⌝ }
+fn entries(s: &[u8], f: Front, kind: u16, k: usize) -> Front
+    ensures { λ r. ⌜ Keeps (entries-scan k kind (now (s .entry))) f r ⌝ }
 {
-    let mut state = w;
+    let mut state = f;
     let mut left = k;
     while 0 < left {
         if state.code != 0 {
@@ -264,37 +267,75 @@ fn count_code_of(kind: u16, b: u16) -> u8
 }
 
 // The final expression of kind 1.
-fn final_of(s: &[u8], w: Progress, kind: u16) -> Progress
-    ensures { λ r. ⌜ r ≡ final-scan kind (now (s .entry)) w ⌝ }
+fn final_of(s: &[u8], f: Front, kind: u16) -> Front
+    ensures { λ r. ⌜ Keeps (final-scan kind (now (s .entry))) f r ⌝ }
 {
     if kind == 0 {
-        return w;
+        return f;
     }
-    terms::read_term(s, w, TermKind::OfFinal, 16)
+    terms::read_front(s, f, true, 16)
 }
 
 // The entries and the final expression, from the entry count on.
-fn body(s: &[u8], w: Progress, kind: u16) -> Progress
-    ensures { λ r. ⌜ r ≡ body-scan kind (now (s .entry)) w ⌝ }
+fn body(s: &[u8], f: Front, kind: u16) -> Front
+    requires { ⌜ f .code ≡ 0 ⌝ }
+    ensures { λ r. ⌜ Keeps (body-scan kind (now (s .entry))) f r ⌝ }
 {
-    if w.code != 0 {
-        return w;
-    }
-    let at = w.at;
+    let at = f.at;
     let e = fields::byte(s, at);
     let c = count_code_of(kind, e);
     if c != 0 {
-        return progress::blank_of(c);
+        return terms::blank_front(c);
     }
     if s.len() <= at {
-        return progress::blank_of(1);
+        return terms::blank_front(1);
     }
-    let mut next = w;
+    let mut next = f;
     next.at = at + 1;
     final_of(s, entries(s, next, kind, e as usize), kind)
 }
 
-// The reading of a whole worksheet: its path reductions in the table, its terms and entries counted; or a refusal.
+// The front after the last term: 6 where bytes are left over.
+fn end_of(s: &[u8], f: Front) -> Front
+    ensures { λ r. ⌜ Keeps (ended (now (s .entry))) f r ⌝ }
+{
+    if f.code != 0 {
+        return f;
+    }
+    if f.at < s.len() {
+        return terms::blank_front(6);
+    }
+    f
+}
+
+// What follows the path reductions, to the end.
+fn rest_of(s: &[u8], w: Progress, kind: u16) -> Progress
+    ensures { λ r. ⌜ r ≡ ended (now (s .entry)) (body-scan kind (now (s .entry)) w) ⌝ }
+{
+    if w.code != 0 {
+        return w;
+    }
+    let start = Front {
+        code: w.code,
+        at: w.at,
+        terms: w.terms,
+        paths: w.paths,
+        reductions: w.reductions,
+    };
+    let end = end_of(s, body(s, start, kind));
+    if end.code != 0 {
+        return progress::blank_of(end.code);
+    }
+    let mut r = w;
+    r.at = end.at;
+    r.terms = end.terms;
+    r.paths = end.paths;
+    r.reductions = end.reductions;
+    r
+}
+
+// The reading of a whole worksheet: its path reductions in the table, its terms and entries counted; or a refusal. (Only what reads path reductions has the
+// table in hand: at each term it would be copied.)
 pub fn scan(s: &[u8]) -> Progress
     ensures { λ r. ⌜ r ≡ plan-scan (now (s .entry)) ⌝ }
 {
@@ -311,8 +352,7 @@ pub fn scan(s: &[u8]) -> Progress
         return progress::blank_of(14);
     }
     let version = wire::byte(s, 3);
-    let paths = listed(s, progress::start(7), count as usize, version);
-    progress::finish(s, body(s, paths, kind))
+    rest_of(s, listed(s, count as usize, version), kind)
 }
 
 // The number of the first refusal, 0 where the bytes are accepted.

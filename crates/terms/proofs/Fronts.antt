@@ -3,7 +3,7 @@ use Prim.Native.Nat.{ℕ}
 use mathlib.Core.Path.{_≡_, refl}
 use mathlib.Core.Bool.{Bool, true, false, cond}
 use mathlib.Core.List.{List}
-use borrow.Author.Tests.{eq-eqb}
+use borrow.Author.Tests.{eq-eqb, ne-eqb}
 use lib.Dec.{eqb}
 use Rattle.packed_path.specs.declared.PackedPath.{PackedPath}
 use Rattle.progress.specs.declared.Progress.{Progress}
@@ -11,7 +11,7 @@ use Rattle.progress.specs.Progress.{blank}
 use Rattle.terms.specs.declared.Front.{Front}
 use Rattle.terms.specs.declared.FrontStep.{FrontStep}
 use Rattle.terms.specs.declared.TermKind.{TermKind}
-use Rattle.terms.specs.Steps.{front-of, held, held-step, with-table}
+use Rattle.terms.specs.Steps.{blank-front, front-of, held, held-step, with-table}
 use Rattle.terms.specs.Terms.{alone}
 
 -- the refusal is the front's
@@ -27,6 +27,11 @@ held-code f table = go (eqb (f .code) 0)
 pub held-accepted : (f : Front) (table : List PackedPath) → f .code ≡ 0 → held f table ≡ with-table f table
 unfolding held
 held-accepted f table e = rw (eq-eqb (f .code) 0 e) refl
+
+-- with one nothing is
+pub held-refused : (code : ℕ) (table : List PackedPath) → (code ≡ 0 → ⊥) → held (blank-front code) table ≡ blank code
+unfolding held
+held-refused code table n = rw (ne-eqb code 0 n) refl
 
 -- what a step leads to
 pub held-progress : (kind : TermKind) (h : FrontStep) (table : List PackedPath) → held-step kind h table .progress ≡ held (h .front) table

@@ -7,11 +7,11 @@ use Rattle.plan.proofs.expressions.Tie as tie
 
 returns : tie.Need-returns
 unfolding expressions-scan
-returns c = rw (lt-leb _ _ (c .before .if1 .taken)) (c .read-term .ensures)
+returns c table = rw (lt-leb _ _ (c .before .if1 .taken)) (c .read-front .ensures table)
 
 returns-2 : tie.Need-returns-2
 unfolding expressions-scan
-returns-2 c = rw (le-leb _ _ (c .before .before .if1 .left), ← c .before .read-term2 .ensures) (c .read-term3 .ensures)
+returns-2 c table = rw (le-leb _ _ (c .before .before .if1 .left), ← c .before .read-front2 .ensures table) (c .read-front3 .ensures table)
 
 pub expressions-spec : {M : Type 1} → statement M
 expressions-spec =

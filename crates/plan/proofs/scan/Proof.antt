@@ -51,25 +51,19 @@ returns-3 c = rw (
 byte-requires-3 : tie.Need-byte-requires-3
 byte-requires-3 c κs = search needs
 
-start-requires : tie.Need-start-requires
-start-requires c κs = search needs
-
 cast-listed : tie.Need-cast-listed
 cast-listed c = search needs
 
 listed-requires : tie.Need-listed-requires
 listed-requires c κs = search needs
 
-body-requires : tie.Need-body-requires
-body-requires c κs = search needs
-
-finish-requires : tie.Need-finish-requires
-finish-requires c κs = search needs
+rest-of-requires : tie.Need-rest-of-requires
+rest-of-requires c κs = search needs
 
 returns-4 : tie.Need-returns-4
 unfolding plan-scan
 returns-4 c =
-    let b = c .before .before .before .before in
+    let b = c .before .before in
     let e = b .before in
     rw (
       ← e .before .before .before .before .before .opening-code .ensures,
@@ -79,11 +73,9 @@ returns-4 c =
       le-ltb _ _ (e .before .if2 .left),
       le-ltb _ _ (e .if3 .left),
       ← b .byte3 .ensures,
-      ← c .before .before .before .start .ensures,
-      ← c .before .before .listed .ensures,
-      ← c .before .body .ensures,
+      ← c .before .listed .ensures,
     )
-    (c .finish .ensures)
+    (c .rest-of .ensures)
 
 pub scan-spec : {M : Type 1} → statement M
 scan-spec =
@@ -99,9 +91,7 @@ scan-spec =
     blank-of-requires-3
     returns-3
     byte-requires-3
-    start-requires
     cast-listed
     listed-requires
-    body-requires
-    finish-requires
+    rest-of-requires
     returns-4)

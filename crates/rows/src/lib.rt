@@ -72,17 +72,18 @@ fn values_at(figures: &[u32], paths: usize, v: usize) -> [Row; 8]
 }
 
 // The value at the vertex v of the entry whose reduction byte stands at `at`: with 128 added to that byte the condition precedes the value. (The values of the
-// path reductions are made where they are handed on: an array handed through a function more is copied once more, at each vertex.)
+// path reductions are made here, in one place: so the compiler puts the whole of it into both loops below, and no array is copied at each vertex.)
 fn entry_value(plan: &[u8], at: usize, figures: &[u32], paths: usize, v: usize) -> Value
     ensures { λ r. ⌜ r ≡ entry-found (now (plan .entry)) (rows-at (now (figures .entry)) paths v) at ⌝ }
 {
     if plan.len() <= at {
         return Value::Absent;
     }
+    let rows = values_at(figures, paths, v);
     if 128 <= plan[at] {
-        return eval::condition(plan, values_at(figures, paths, v), at + 1);
+        return eval::condition(plan, rows, at + 1);
     }
-    let found = eval::evaluate(plan, values_at(figures, paths, v), at + 1, 16);
+    let found = eval::evaluate(plan, rows, at + 1, 16);
     found.value
 }
 
@@ -104,13 +105,23 @@ fn entry_rows(plan: &[u8], at: usize, figures: &[u32], paths: usize, n: usize) -
     rows
 }
 
-// The result of the entry whose reduction byte stands at `at`.
+// The result of the entry whose reduction byte stands at `at`. (Its rows are not those of `entry_rows`: a function called in two places hands its array over by
+// a copy, all 256 rows of it.)
 fn result_of(plan: &[u8], at: usize, figures: &[u32], paths: usize, n: usize) -> Value
     requires { ⌜ n ≤ 256 ⌝ }
     ensures { λ r. ⌜ r ≡ reduce (getD (now (plan .entry)) at 0 % 128)
         (values (entry-rows (now (plan .entry)) at (rows-at (now (figures .entry)) paths) n)) ⌝ }
 {
-    let rows = entry_rows(plan, at, figures, paths, n);
+    let absent = Row {
+        value: Value::Absent,
+    };
+    let mut rows = [absent; 256];
+    let mut u: usize = 0;
+    while u < n {
+        let value = entry_value(plan, at, figures, paths, u);
+        rows[u] = Row { value };
+        u += 1;
+    }
     value::reduce_rows(wire::byte(plan, at) % 128, rows, n)
 }
 

@@ -13,16 +13,24 @@ returns c = rw (le-leb _ _ (c .if1 .taken)) refl
 
 returns-2 : tie.Need-returns-2
 unfolding entry-found
-returns-2 c = rw (lt-leb _ _ (c .before .before .before .before .if1 .left), le-leb _ _ (c .before .before .if2 .taken), ← c .before .values-at .ensures)
+returns-2 c = rw (
+  lt-leb _ _ (c .before .before .before .before .if1 .left),
+  le-leb _ _ (c .before .if2 .taken),
+  ← c .before .before .before .values-at .ensures,
+)
     (c .condition .ensures)
 
 returns-3 : tie.Need-returns-3
 unfolding entry-found
-returns-3 c = rw (lt-leb _ _ (c .before .before .before .before .if1 .left), lt-leb _ _ (c .before .before .if2 .left), ← c .before .values-at2 .ensures)
+returns-3 c = rw (
+  lt-leb _ _ (c .before .before .before .before .if1 .left),
+  lt-leb _ _ (c .before .if2 .left),
+  ← c .before .before .before .values-at .ensures,
+)
     (ap (λ (f : Found). f .value) (c .evaluate .ensures))
 
 pub entry-value-spec : {M : Type 1} → statement M
 entry-value-spec =
     tie.close
-    (tie.spec returns (λ c. search needs) (λ c κs. search needs) (λ c. search needs) (λ c κs. search needs) returns-2
-    (λ c κs. search needs) (λ c. search needs) (λ c κs. search needs) returns-3)
+    (tie.spec returns (λ c κs. search needs) (λ c. search needs) (λ c. search needs) (λ c κs. search needs) returns-2
+    (λ c. search needs) (λ c κs. search needs) returns-3)

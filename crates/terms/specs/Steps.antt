@@ -1,7 +1,7 @@
 -- The reading of a worksheet's expressions without the table, as the program goes. Nothing to believe: the contract of `read_front` says that it is `read`.
 use Prim.Native.Nat.{ℕ, _+_}
 use mathlib.Core.Path.{_≡_}
-use mathlib.Core.Bool.{Bool, true, false, cond}
+use mathlib.Core.Bool.{Bool, false, cond}
 use mathlib.Core.List.{List}
 use lib.Dec.{eqb}
 use Rattle.packed_path.specs.declared.PackedPath.{PackedPath}

@@ -1,15 +1,15 @@
 -- `plan::rest_of` meets its contract. Assumes nothing.
 use mathlib.Core.Path.{_≡_, refl, sym, ap, _∙_}
 use borrow.Author.Needs.{needs}
-use borrow.Author.Tests.{eq-eqb, ne-eqb}
+use borrow.Author.Tests.{ne-eqb}
 use Prim.Native.Nat.{ℕ}
 use mathlib.Core.List.{List}
 use Rattle.packed_path.specs.declared.PackedPath.{PackedPath}
 use Rattle.terms.specs.declared.Front.{Front}
 use Rattle.progress.specs.declared.Progress.{Progress}
 use Rattle.progress.specs.Progress.{blank, ended}
-use Rattle.terms.specs.Steps.{held, with-table}
-use Rattle.terms.proofs.Fronts.{held-accepted, held-code, front-held}
+use Rattle.terms.specs.Steps.{held}
+use Rattle.terms.proofs.Fronts.{held-accepted, front-held}
 use Rattle.plan.specs.Plan.{body-scan}
 use Rattle.plan.proofs.rest_of.Statement.{statement}
 use Rattle.plan.proofs.rest_of.Tie as tie

@@ -3,7 +3,6 @@ use borrow.Author.Needs.{needs}
 use borrow.Author.Tests.{eq-eqb, ne-eqb}
 use mathlib.Core.Path.{_≡_, refl}
 use Rattle.fields.specs.Fields.{code-of}
-use Rattle.progress.specs.Progress.{blank}
 use Rattle.terms.specs.Steps.{held, held-step}
 use Rattle.terms.specs.Terms.{advanced, apply-step}
 use Rattle.terms.proofs.apply_front.Statement.{statement}

@@ -1,5 +1,4 @@
 -- `terms::expression_tag` meets its contract. Assumes nothing.
-use native.Mathlib.Omega.{arith}
 use borrow.Author.Needs.{needs}
 use Rattle.terms.specs.Terms.{literal-tag}
 use Rattle.terms.proofs.expression_tag.Statement.{statement}

@@ -2,7 +2,6 @@
 use borrow.Author.Needs.{needs}
 use borrow.Author.Tests.{eq-eqb, le-ltb, lt-ltb}
 use mathlib.Core.Path.{refl}
-use Rattle.progress.specs.Progress.{blank}
 use Rattle.terms.specs.Steps.{held, held-step}
 use Rattle.terms.specs.Terms.{advanced, literal-step}
 use Rattle.terms.proofs.literal_front.Statement.{statement}

@@ -15,10 +15,6 @@ unfolding put-list
 put-append [] b d = refl
 put-append (x ∷ a) b d = put-append a b (put-byte d x)
 
--- so are four
-pub put-four : (a b c e : List ℕ) (d : Draft) → put-list d (a ++ (b ++ (c ++ e))) ≡ put-list (put-list (put-list (put-list d a) b) c) e
-put-four a b c e d = put-append a (b ++ (c ++ e)) d ∙ put-append b (c ++ e) (put-list d a) ∙ put-append c e (put-list (put-list d a) b)
-
 -- the draft, of a buffer of n bytes, holds the text
 pub record Holds (n : ℕ) (d : Draft) (l : List ℕ) : Type 0 where
   pub len : d .len ≡ length l

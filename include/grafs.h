@@ -110,6 +110,7 @@ enum grafs_key {
     GRAFS_KEY_NARROWEST = 6    /* smallest crate size, least */
 };
 
+/* What joins two values. With an absent operand the result is absent, but for min and max, which give the other operand. */
 enum grafs_operator {
     GRAFS_OP_MIN = 1,
     GRAFS_OP_MAX = 2,

@@ -3,8 +3,8 @@
 
     python3 tests/make_runs.py           prints each case: index, kind, call, rounds, length lent, what is expected, name
 
-Worksheets and maps are written by hand as bytes. Rows, rounds and refusals are written by hand from document 01 and, for conditions
-and sets of starts, document 02, a) and b) too; none is what a run said. So that no slip of the hand stays, the script walks every walk
+Worksheets and maps are written by hand as bytes. Rows, rounds and refusals are written by hand from document 01 and, for conditions,
+sets of starts and absent operands of min and max, document 02, a) to c); none is what a run said. So that no slip of the hand stays, the script walks every walk
 outright (`outright` below: sets of walks, no rounds and no table of figures) and stops where the hand and the walks differ.
 
 In the file (make_cases.py has its layout) a case has five numbers of 16 bits: the length lent, the call (0 pull, 1 push, 2 pull stopped,
@@ -181,8 +181,9 @@ def figures(n, rows, keys, starts, most):
 
 
 def compute(number, a, b):
+    """"An operator with an absent operand gives absent", but "min and max with one absent operand give the other operand" (document 02, c)."""
     if a is None or b is None:
-        return None
+        return (b if a is None else a) if number in (MIN, MAX) else None
     value = {MIN: min(a, b), MAX: max(a, b), PLUS: a + b, MINUS: a - b, TIMES: a * b, DIVIDE: a // b if b else -1,
              EQUAL: int(a == b), LESS: int(a < b), GREATER: int(a > b), AND: int(a != 0 and b != 0), OR: int(a != 0 or b != 0)}[number]
     return value if 0 <= value < 2 ** 64 else None
@@ -345,7 +346,7 @@ def traps():
     lost = op(MINUS, chain(0), lit(1))  # from place 3 there is the empty walk only
     for number in (1, 2, 3, 4, 5):
         yield from ends(f"all absent, reduction {number}", one_result([slots(1, start=3)], [bytes([number]) + lost], entry(0)), MAP_A, 1, [_])
-    yield from ends("absent as 0 in a min of two terms", at_each(slots(1, start=2), term=op(MIN, chain(0), lit(9))), MAP_A, 3, [_, 1, 0, 2])
+    yield from ends("absent as 0 in a min of two terms", at_each(slots(1, start=2), term=op(MIN, chain(0), lit(9))), MAP_A, 3, [9, 1, 0, 2])
     # Reading a neighbour's new value within a round: a place further each round, in whichever order the rows stand.
     for name, rows in (("forward", LINE), ("backward", LINE[::-1])):
         yield from runs(f"a neighbour's new value, rows {name}", at_each(slots(1)), map_file(4, *rows),
@@ -362,6 +363,7 @@ def sheets():
     yield from sheet_keys()
     yield from sheet_entries()
     yield from sheet_operators()
+    yield from sheet_cut_off()
     yield from sheet_stops()
     yield from conditions()
     yield from sets()
@@ -441,13 +443,14 @@ def sheet_entries():
     yield from ends("a sum just small enough", one_result([], [b"\3" + square], entry(0)), LONE, 1, [18446744065119617025])
     yield from ends("a sum too large", one_result([], [b"\3" + square], entry(0)), TWO, 1, [_])
     yield from ends("a sum too large, of 4 places", one_result([], [b"\3" + square], entry(0)), MAP_A, 1, [_])
-    yield from ends("a sum too large in a final term", one_result([], [b"\3" + square], rop(MIN, entry(0), rlit(1))), TWO, 1, [_])
+    yield from ends("a sum too large in a final term", one_result([], [b"\3" + square], rop(MIN, entry(0), rlit(1))), TWO, 1, [1])
+    yield from ends("a sum too large plus 1", one_result([], [b"\3" + square], rop(PLUS, entry(0), rlit(1))), TWO, 1, [_])
 
 
 def sheet_operators():
     # Chain 0 is 0, 5, 2, 5 and chain 1, key 1 from 2, is absent, 1, 0, 2.
     both = [slots(2), slots(1, start=2)]
-    for number, values in ((MIN, [_, 1, 0, 2]), (MAX, [_, 5, 2, 5]), (PLUS, [_, 6, 2, 7]), (MINUS, [_, 4, 2, 3]), (TIMES, [_, 5, 0, 10]),
+    for number, values in ((MIN, [0, 1, 0, 2]), (MAX, [0, 5, 2, 5]), (PLUS, [_, 6, 2, 7]), (MINUS, [_, 4, 2, 3]), (TIMES, [_, 5, 0, 10]),
                            (DIVIDE, [_, 5, _, 2]), (EQUAL, [_, 0, 0, 0]), (LESS, [_, 0, 0, 0]), (GREATER, [_, 1, 1, 1]),
                            (AND, [_, 1, 0, 1]), (OR, [_, 1, 1, 1])):
         yield from ends(f"operator {number}", at_each(*both, term=op(number, chain(0), chain(1))), MAP_A, 3, values)
@@ -463,6 +466,40 @@ def sheet_operators():
     yield from ends("too large, then times 0", at_each(term=op(TIMES, op(PLUS, greatest, lit(1)), lit(0))), LONE, 1, [_])
     yield from ends("final: minus below 0", one_result([slots(2)], [b"\2" + chain(0)], rop(MINUS, rlit(4), entry(0))), MAP_A, 3, [_])
     yield from ends("final: divided by 0", one_result([slots(2)], [b"\1" + chain(0)], rop(DIVIDE, rlit(4), entry(0))), MAP_A, 3, [_])
+
+
+def sheet_cut_off():
+    """One counter cut off: min and max with one absent operand give the other operand; with both absent, absent."""
+    # Key 2 from 0 is 0, 5, 2, 5; from 3 there is the empty walk only: absent, absent, absent, 0.
+    both = [slots(2), slots(2, start=3)]
+    for first, second in ((chain(0), chain(1)), (chain(1), chain(0))):
+        yield from runs("the lesser from 0 or 3", at_each(*both, term=op(MIN, first, second)), MAP_A,
+                        [[0, _, _, 0], [0, 5, 2, 0], [0, 5, 2, 0], [0, 5, 2, 0], [0, 5, 2, 0]])
+        yield from runs("the greater from 0 or 3", at_each(*both, term=op(MAX, first, second)), MAP_A,
+                        [[0, _, _, 0], [0, 5, 2, 0], [0, 5, 2, 5], [0, 5, 2, 5], [0, 5, 2, 5]])
+    lost = op(MINUS, lit(0), lit(1))
+    for number in range(MIN, OR + 1):
+        yield from ends(f"operator {number}, both absent", at_each(term=op(number, lost, lost)), LONE, 1, [_])
+        for name, x in (("0", 0), ("1", 1), ("the greatest literal", 2 ** 32 - 1)):
+            value = x if number in (MIN, MAX) else _
+            yield from ends(f"operator {number}, absent and {name}", at_each(term=op(number, lost, lit(x))), LONE, 1, [value])
+            yield from ends(f"operator {number}, {name} and absent", at_each(term=op(number, lit(x), lost)), LONE, 1, [value])
+    # The other operand goes on into what stands around it, and what stands inside is absent as it was.
+    one_there = op(MIN, chain(0), chain(1))
+    for name, term, values in (
+        ("plus 1", op(PLUS, one_there, lit(1)), [1, 6, 3, 1]), ("of a sum", op(MAX, op(PLUS, chain(0), chain(1)), lit(4)), [4, 4, 4, 5]),
+        ("of three, one there", op(MIN, op(MIN, chain(1), lost), chain(0)), [0, 5, 2, 0]),
+        ("of three, none there", op(MAX, op(MAX, chain(1), lost), lost), [_, _, _, 0]),
+    ):
+        yield from ends(f"min and max, one absent, {name}", at_each(*both, term=term), MAP_A, 3, values)
+    # In a condition, in the value of a reduction, and between results.
+    for name, entries, final, values in (
+        ("as a condition", [where(3, op(MAX, chain(1), chain(0)), lit(1))], entry(0), [3]), ("as a value", [b"\3" + one_there], entry(0), [7]),
+        ("of results", [where(3, lit(0), chain(0)), b"\3" + chain(0)], rop(MIN, entry(0), entry(1)), [12]),
+        ("of results, turned", [where(3, lit(0), chain(0)), b"\3" + chain(0)], rop(MAX, entry(1), entry(0)), [12]),
+        ("of results, both absent", [where(3, lit(0), chain(0)), where(1, lit(0), chain(0))], rop(MAX, entry(0), entry(1)), [_]),
+    ):
+        yield from ends(f"min and max, one absent, {name}", one_result(both, entries, final), MAP_A, 3, values)
 
 
 def sheet_stops():
@@ -619,7 +656,7 @@ def set_of_two():
     for i, values in enumerate(([0, 3, 0, 3], [0, 5, 2, 5], [_, 3, 0, 3])):
         yield from ends(f"key 2 from 0,2, from 0 and from 2, chain {i}", at_each(*alone, term=chain(i), head=V0), MAP_A, 3, values)
     least = op(EQUAL, chain(0), op(MIN, chain(1), chain(2)))
-    yield from ends("key 2 from 0,2 is the least of both, where both are", at_each(*alone, term=least, head=V0), MAP_A, 3, [_, 1, 1, 1])
+    yield from ends("key 2 from 0,2 is the lesser of both", at_each(*alone, term=least, head=V0), MAP_A, 3, [1, 1, 1, 1])
     yield from ends("key 2 from 0,2 is that from 0 where 2 has no walk", at_each(*alone, term=op(EQUAL, chain(0), chain(1)), head=V0), MAP_A, 3, [1, 0, 0, 0])
 
 

@@ -69,6 +69,10 @@ static void try_case(const test_case *c)
 #define BESIDE_W \
     BYTES('L', 'P', 'W', 2, 0, 0, 3, 1, 1, 0, 0, 2, 1, 0, 3, 0, 1, 1, 0, 0, 1, 2, 0, 1, 1, 0, 0, 0, 1, 0, 0x12, 3, 0x12, 3, 0x30, 0, 0x30, 1, 0x30, 2)
 
+/* An operator on the seconds from 0 and from 3. */
+#define CUT_Q(operator) BYTES('L', 'P', 'Q', 1, 0, 0, 0x12, operator, 0x10, 1, 2, 0, 0, 0x10, 1, 2, 3, 0)
+#define CUT_W(operator) BYTES('L', 'P', 'W', 1, 0, 0, 2, 1, 2, 0, 0, 0, 0, 1, 2, 0, 0, 3, 0, 1, 0, 0x12, operator, 0x30, 0, 0x30, 1)
+
 /* Seconds from 0, from 0 or 2, from 2, from 2 or 3, then from 0 or 2 and from 0 again, written otherwise: four chains. */
 #define APART_Q \
     BYTES('L', 'P', 'Q', 1, 0, 1, 0x20, 3, 0x12, 3, 0x12, 3, 0x13, 1, 2, 1, 0, 0, 0x13, 1, 2, 2, 0, 0, 2, 0, 0x12, 3, 0x12, 3, 0x10, 1, 2, 2, 0, 0x13, 1, 2, \
@@ -131,6 +135,10 @@ int main(void)
         { "a last start that map A has not", SET_W(2, 2, 3, 0, 4, 0), MAP_A, GRAFS_START, NOTHING },
         { "a worksheet of version 3", BYTES('L', 'P', 'W', 3, 0, 0, 1, 1, 2, 0, 0, 1, 0, 0, 1, 0, 0x30, 0), MAP_A, GRAFS_VERSION, NOTHING },
         { "a map of version 2", SET_W(2, 1, 0, 0), BYTES('L', 'P', 'M', 2, 0, 1, 0, 0, 0), GRAFS_VERSION, NOTHING },
+        { "one counter cut off fused", CUT_Q(GRAFS_OP_MIN), NO_MAP, 0, CUT_W(GRAFS_OP_MIN) },
+        { "the lesser from 0 or 3 on map A", CUT_W(GRAFS_OP_MIN), MAP_A, 0, ROWS_A(3, NUMBER(0), NUMBER(5), NUMBER(2), NUMBER(0)) },
+        { "the greater from 0 or 3 on map A", CUT_W(GRAFS_OP_MAX), MAP_A, 0, ROWS_A(3, NUMBER(0), NUMBER(5), NUMBER(2), NUMBER(5)) },
+        { "the sum from 0 and 3 on map A", CUT_W(GRAFS_OP_PLUS), MAP_A, 0, ROWS_A(3, ABSENT, ABSENT, ABSENT, NUMBER(5)) },
         { "start 4 on map A", PLACE_W(2, 4), MAP_A, GRAFS_START, NOTHING },
         { "a worksheet before its map", BYTES('L', 'P', 'Q', 1, 0), BYTES('L'), GRAFS_MARK, NOTHING },
         { "no map", PLACE_W(2, 4), (const uint8_t *)"", 0, GRAFS_SHORT, NOTHING },

@@ -1,6 +1,6 @@
 #!/usr/bin/env python3
-"""Writes the first inputs of the fuzz harness into a folder: document 01's trials, conditions and sets of document 02, the limits and
-some files beyond them.
+"""Writes the first inputs of the fuzz harness into a folder: document 01's trials, conditions, sets and absent operands of document 02, the
+limits and some files beyond them.
 
     python3 tests/fuzz/seeds.py FOLDER
 
@@ -116,6 +116,9 @@ QUESTIONS += [question(1, term) for term in (
     broad(9, lambda _one: reduced_where(3, lit(1), chain(2)), 0x22), reduced_where(6, lit(1), lit(1)), reduced_where(129, lit(1), lit(1)),
     reduced(3, reduced_where(3, lit(1), lit(1))), reduced_where(3, reduced(3, lit(1)), lit(1)), b"\x23", b"\x23\3", b"\x23\3" + lit(1))]
 QUESTIONS += [question(0, reduced_where(3, lit(1), lit(1)))]
+# one or both operands absent, by each operator
+QUESTIONS += [question(0, op(o, x, y)) for o in range(1, 12) for x, y in ((chain(2), chain(2, start=3)), (nowhere, chain(2, start=3)), (lit(7), nowhere))]
+QUESTIONS += [question(1, op(o, reduced_where(3, nowhere, lit(1)), reduced(3, chain(2, start=3)), 0x22)) for o in (1, 2, 3)]
 # sets of starts: legal ones, sets of one beside 0x10, the limits (the longest question), and what is refused
 sixteen = tuple(range(16))
 QUESTIONS += [question(0, term) for term in (

@@ -130,6 +130,16 @@ try 'a map of version 2' "$set 02 0000 0200" '4c504d 0200 0100 0000' 'refused 3'
 try 'a set of one less 0x10' "$each 12 04 13 01 02 01 0000 $from_0" "$map_a" 'rounds 3' '0 0' '1 0' '2 0' '3 0'
 try 'what the second start saves' "$one 20 03 12 04 $from_0 13 01 02 02 0000 0200" "$map_a" 'rounds 3' 'result 6'
 
+# ---------------------------------------------------------------------------------------------- one counter cut off
+from_3='10 01 02 0300'                 # absent, absent, absent, 0
+nothing='12 04 11 00000000 11 01000000'
+try 'the lesser from 0 or 3' "$each 12 01 $from_0 $from_3" "$map_a" 'rounds 3' '0 0' '1 5' '2 2' '3 0'
+try 'the lesser from 3 or 0' "$each 12 01 $from_3 $from_0" "$map_a" 'rounds 3' '0 0' '1 5' '2 2' '3 0'
+try 'the greater from 0 or 3' "$each 12 02 $from_0 $from_3" "$map_a" 'rounds 3' '0 0' '1 5' '2 2' '3 5'
+try 'the greater from 3 or nowhere' "$each 12 02 $from_3 $nothing" "$map_a" 'rounds 1' '0 -' '1 -' '2 -' '3 0'
+try 'the sum from 0 and 3' "$each 12 03 $from_0 $from_3" "$map_a" 'rounds 3' '0 -' '1 -' '2 -' '3 5'
+try 'the lesser of a sum over none and one over all' "$one 22 01 23 03 11 00000000 $from_0 20 03 $from_0" "$map_a" 'rounds 3' 'result 12'
+
 # ---------------------------------------------------------------------------------------------- files, and the order of judging
 try 'no question' missing "$map_a" 'refused 1'
 try 'no map' "$seconds" missing 'refused 1'

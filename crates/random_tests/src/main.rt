@@ -943,6 +943,23 @@ fn counts(condition: Value) -> bool {
     }
 }
 
+// With one operand absent: the other one, x, by min and max; absent by any other operator.
+fn other_operand(operator: u8, x: Value) -> Value {
+    if operator < 3 { x } else { Value::Absent }
+}
+
+// An operator on two values. What an absent one does is written out once more: "operators min and max with one absent operand give the
+// other operand", any other gives absent.
+fn joined(operator: u8, x: Value, y: Value) -> Value {
+    let Value::Number(_) = x else {
+        return other_operand(operator, y);
+    };
+    let Value::Number(_) = y else {
+        return other_operand(operator, x);
+    };
+    value::operate_on(operator, x, y)
+}
+
 // The value of a term at a vertex of n, over walks of at most so many edges: "an operator joins the values of its two terms, at the same
 // place in a place term; a reduction goes over all n places", with a condition over those that count: the rows of the others stay
 // absent. An entry of a plan is worked out where it is named.
@@ -958,7 +975,7 @@ fn worth(q: &File, at: usize, rows: &Rows, n: usize, vertex: usize, most: u16, l
         let a = plus(at, 2);
         let x = worth(q, a, rows, n, vertex, most, left - 1);
         let y = worth(q, behind(q, a, 1), rows, n, vertex, most, left - 1);
-        return value::operate_on(byte(q, plus(at, 1)), x, y);
+        return joined(byte(q, plus(at, 1)), x, y);
     }
     let first = plus(entry, 1);
     let last = behind(q, first, conditions(q, at, entry));

@@ -21,11 +21,17 @@ top = 18446744073709551615
 abbrev pub samples : List (Value × Value)
 samples =
     (operate 1 (Number 3) (Number 4), Number 3)
-    ∷ (operate 1 (Number 3) Absent, Absent)
+    ∷ (operate 1 (Number 3) Absent, Number 3)
+    ∷ (operate 1 Absent (Number 0), Number 0)
+    ∷ (operate 1 Absent Absent, Absent)
     ∷ (operate 2 (Number 3) (Number 4), Number 4)
-    ∷ (operate 2 Absent (Number 4), Absent)
+    ∷ (operate 2 Absent (Number 4), Number 4)
+    ∷ (operate 2 (Number top) Absent, Number top)
+    ∷ (operate 2 Absent Absent, Absent)
     ∷ (operate 3 (Number top) (Number 0), Number top)
     ∷ (operate 3 (Number top) (Number 1), Absent)
+    ∷ (operate 3 Absent (Number 4), Absent)
+    ∷ (operate 3 (Number 3) Absent, Absent)
     ∷ (operate 4 (Number 4) (Number 4), Number 0)
     ∷ (operate 4 (Number 3) (Number 4), Absent)
     ∷ (operate 5 (Number 4294967297) (Number 4294967295), Number top)
@@ -34,14 +40,17 @@ samples =
     ∷ (operate 6 (Number 7) (Number 0), Absent)
     ∷ (operate 7 (Number 7) (Number 7), Number 1)
     ∷ (operate 7 (Number 7) (Number 8), Number 0)
+    ∷ (operate 7 Absent Absent, Absent)
     ∷ (operate 8 (Number 7) (Number 7), Number 0)
     ∷ (operate 8 (Number 7) (Number 8), Number 1)
     ∷ (operate 9 (Number 7) (Number 7), Number 0)
     ∷ (operate 9 (Number 8) (Number 7), Number 1)
     ∷ (operate 10 (Number 5) (Number 9), Number 1)
     ∷ (operate 10 (Number 5) (Number 0), Number 0)
+    ∷ (operate 10 (Number 0) Absent, Absent)
     ∷ (operate 11 (Number 5) (Number 0), Number 1)
     ∷ (operate 11 (Number 0) (Number 0), Number 0)
+    ∷ (operate 11 (Number 5) Absent, Absent)
     ∷ (operate 12 (Number 5) (Number 5), Absent)
     ∷ (reduce 1 (Absent ∷ Number 4 ∷ Number 6 ∷ []), Number 4)
     ∷ (reduce 2 (Number 4 ∷ Absent ∷ Number 6 ∷ []), Number 6)
@@ -93,9 +102,9 @@ two-paths =
 abbrev farther : ℕ → ℕ → Query
 farther o k = single (over-where o (operator 9 (from (2 ∷ []) 0) (number k)) (from (2 ∷ []) 0))
 
--- the lesser of the seconds from 0 and from 2
-abbrev lesser : VertexTerm
-lesser = operator 1 (from (2 ∷ []) 0) (from (2 ∷ []) 2)
+-- an operator on the seconds from 0 and from s
+abbrev both-from : ℕ → ℕ → VertexTerm
+both-from o s = operator o (from (2 ∷ []) 0) (from (2 ∷ []) s)
 
 -- 0→1 9 s, 0→2 1 s, 2→1 1 s, all of size 3: in round 2 only the weight at 1 changes
 abbrev detour : Graph
@@ -127,9 +136,16 @@ runs =
     ∷ sample graph-a (each (from-any (2 ∷ []) (0 ∷ 2 ∷ []))) (some 1) 1 (Number 0 ∷ Number 3 ∷ Number 0 ∷ Absent ∷ [])
     ∷ sample graph-a (each (from-any (4 ∷ []) (0 ∷ 2 ∷ []))) none 3 (Number 0 ∷ Number 2 ∷ Number 2 ∷ Number 2 ∷ [])
     ∷ sample graph-a (each (from-any (6 ∷ []) (0 ∷ 2 ∷ []))) none 4 (Number 65535 ∷ Number 4 ∷ Number 4 ∷ Number 4 ∷ [])
-    -- at each vertex that both starts lead to, the lesser of the two; by `min` it is absent at 0, where 2 does not lead
-    ∷ sample graph-a (single (over 4 (operator 7 (from-any (2 ∷ []) (0 ∷ 2 ∷ [])) lesser))) none 3 (Number 1 ∷ [])
-    ∷ sample graph-a (each lesser) none 3 (Absent ∷ Number 3 ∷ Number 0 ∷ Number 3 ∷ [])
+    -- "operators min and max with one absent operand give the other operand" (document 02, c): from 3 a walk leads to 3 alone; plus is absent elsewhere
+    ∷ sample graph-a (each (both-from 1 3)) none 3 (Number 0 ∷ Number 5 ∷ Number 2 ∷ Number 0 ∷ [])
+    ∷ sample graph-a (each (both-from 2 3)) none 3 (Number 0 ∷ Number 5 ∷ Number 2 ∷ Number 5 ∷ [])
+    ∷ sample graph-a (each (both-from 3 3)) none 3 (Absent ∷ Absent ∷ Absent ∷ Number 5 ∷ [])
+    -- with both absent, absent: with no passage neither start leads to 1 or 2
+    ∷ sample graph-a (each (both-from 1 3)) (some 0) 0 (Number 0 ∷ Absent ∷ Absent ∷ Number 0 ∷ [])
+    ∷ sample graph-a (each (both-from 2 3)) (some 0) 0 (Number 0 ∷ Absent ∷ Absent ∷ Number 0 ∷ [])
+    -- the lesser of both starts is the value from the set of both, at 0 too, where 2 does not lead
+    ∷ sample graph-a (each (both-from 1 2)) none 3 (Number 0 ∷ Number 3 ∷ Number 0 ∷ Number 3 ∷ [])
+    ∷ sample graph-a (single (over 4 (operator 7 (from-any (2 ∷ []) (0 ∷ 2 ∷ [])) (both-from 1 2)))) none 3 (Number 1 ∷ [])
     -- "A set of one is the same chain as 0x10 with that start."
     ∷ sample graph-a (each (from-any (2 ∷ []) (0 ∷ []))) none 3 (Number 0 ∷ Number 5 ∷ Number 2 ∷ Number 5 ∷ [])
     -- "With no chain that is round 1."

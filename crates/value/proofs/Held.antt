@@ -9,7 +9,7 @@ use borrow.Author.Tests.{ltb-true}
 use lib.Dec.{leb, ltb, eqb}
 use Rattle.value.specs.declared.Value.{Value}
 use Rattle.value.specs.declared.Value.the-variants.{Absent, Number}
-use Rattle.value.specs.Value.{number, truth, holds, compute, operate, present, combine, reduce}
+use Rattle.value.specs.Value.{number, truth, holds, compute, extremum, operate, present, combine, reduce}
 
 -- "Numbers go to 2^64 − 1"
 abbrev pub Held : Value → Type 0
@@ -57,8 +57,8 @@ compute-held o x y h k =
 
 -- AN OPERATOR GIVES A MACHINE NUMBER OR NONE
 pub operate-held : (o : ℕ) (a b : Value) → Held a → Held b → Held (operate o a b)
-operate-held o Absent b h k = tt
-operate-held o (Number x) Absent h k = tt
+operate-held o Absent b h k = one-of (extremum o) b Absent k tt
+operate-held o (Number x) Absent h k = one-of (extremum o) (Number x) Absent h tt
 operate-held o (Number x) (Number y) h k = compute-held o x y h k
 
 present-small : (vs : List Value) → AllHeld vs → Small (present vs)

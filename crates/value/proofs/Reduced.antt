@@ -36,6 +36,16 @@ module _ {B : Type 0} where
   folded operator g f e b [] = refl
   folded operator g f e b (y ∷ ys) = ap (λ (t : Value). foldl (λ t y. operate operator t (Number y)) t ys) (e b y) ∙ folded operator g f e (f y b) ys
 
+-- plus is neither min nor max: with an absent operand it gives absent
+plus-absent : (b : Value) → operate 3 Absent b ≡ Absent
+plus-absent b = refl
+
+-- A SUM TOO LARGE STAYS ABSENT, whatever values follow, since plus joins them
+pub sum-stays : (vs : List Value) → foldl (step 3) (Reached Absent) vs ≡ Reached Absent
+sum-stays [] = refl
+sum-stays (Absent ∷ vs) = sum-stays vs
+sum-stays (Number x ∷ vs) = ap (λ (t : Value). foldl (step 3) (Reached t) vs) (plus-absent (Number x)) ∙ sum-stays vs
+
 -- one step by an operator: of a sum, of an and, of an or
 sum-step : (a y : ℕ) → operate 3 (number a) (Number y) ≡ number (y + a)
 unfolding compute
@@ -43,7 +53,7 @@ sum-step a y = go (ltb a (2 ^ 64)) refl
   where
     go : (b : Bool) → ltb a (2 ^ 64) ≡ b → operate 3 (cond b (Number a) Absent) (Number y) ≡ number (y + a)
     go true e = ap number (let s : a + y ≡ y + a = omega arith in s)
-    go false e = number-large (y + a) (omega (arith, ltb-false a (2 ^ 64) e))
+    go false e = plus-absent (Number y) ∙ number-large (y + a) (omega (arith, ltb-false a (2 ^ 64) e))
 
 and-true : (b : Bool) → b ≡ (b && true)
 and-true true = refl

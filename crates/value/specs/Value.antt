@@ -42,10 +42,19 @@ compute operator x y =
     (cond (eqb operator 10) (both x y)
     (cond (eqb operator 11) (either x y) Absent))))))))))
 
--- "An operator with an absent operand gives absent."
+-- min and max: the operators that an absent operand does not make absent
+abbrev pub extremum : ℕ → Bool
+extremum operator = eqb operator 1 || eqb operator 2
+
+-- with an absent operand: "operators min and max with one absent operand give the other operand" (document 02, c), so with both absent, absent; any other
+-- "operator with an absent operand gives absent"
+abbrev pub beside-absent : ℕ → Value → Value
+beside-absent operator other = cond (extremum operator) other Absent
+
+-- an operator on two values
 abbrev pub operate : ℕ → Value → Value → Value
-operate operator Absent b = Absent
-operate operator (Number x) Absent = Absent
+operate operator Absent b = beside-absent operator b
+operate operator (Number x) Absent = beside-absent operator (Number x)
 operate operator (Number x) (Number y) = compute operator x y
 
 -- "A reduction over places skips absent values"

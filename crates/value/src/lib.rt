@@ -4,7 +4,7 @@ ghost use Prim.Native.Nat.{_+_, _-_, _*_, _/_, min, max};
 ghost use lib.Dec.{leb, eqb};
 ghost use lib.ListN.{take};
 ghost use mathlib.Core.Bool.{cond};
-ghost use Rattle.value.specs.Value.{number, truth, both, either, compute, operate, reduce, values, counts};
+ghost use Rattle.value.specs.Value.{number, truth, both, either, beside-absent, compute, operate, reduce, values, counts};
 ghost use Rattle.value.specs.Steps.{start, joining, step, finish, where-counts};
 
 // "A value is a number or is absent."
@@ -18,8 +18,8 @@ pub struct Row {
     pub value: Value,
 }
 
-// What a reduction has met so far: no number yet, or the value of those met. A sum too large is Reached(Absent), and stays so, since an operator with an
-// absent operand gives absent.
+// What a reduction has met so far: no number yet, or the value of those met. A sum too large is Reached(Absent), and stays so, since plus with an absent
+// operand gives absent (`sum-stays`); min and max, which do not, never come to Reached(Absent), since they join numbers alone.
 pub enum Partial {
     Empty,
     Reached(Value),
@@ -131,15 +131,26 @@ fn compute_of(operator: u8, x: u64, y: u64) -> Value
     }
 }
 
-// "An operator with an absent operand gives absent."
+// An operator with an absent operand: "operators min and max with one absent operand give the other operand"; any other gives absent.
+fn beside_absent(operator: u8, other: Value) -> Value
+    ensures { λ r. ⌜ r ≡ beside-absent operator other ⌝ }
+{
+    match operator {
+        1 => other,
+        2 => other,
+        _ => Value::Absent,
+    }
+}
+
+// An operator by its number, on two values.
 pub fn operate_on(operator: u8, a: Value, b: Value) -> Value
     ensures { λ r. ⌜ r ≡ operate operator a b ⌝ }
 {
     let Value::Number(x) = a else {
-        return Value::Absent;
+        return beside_absent(operator, b);
     };
     let Value::Number(y) = b else {
-        return Value::Absent;
+        return beside_absent(operator, a);
     };
     compute_of(operator, x, y)
 }

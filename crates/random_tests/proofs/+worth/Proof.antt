@@ -13,10 +13,10 @@ use Rattle.random_tests.proofs.byte.Reads as byte-reads
 use Rattle.random_tests.proofs.conditions.Reads as conditions-reads
 use Rattle.random_tests.proofs.counts.Reads as counts-reads
 use Rattle.random_tests.proofs.entry_of.Reads as entry-of-reads
+use Rattle.random_tests.proofs.joined.Reads as joined-reads
 use Rattle.random_tests.proofs.leaf.Reads as leaf-reads
 use Rattle.random_tests.proofs.lesser.Reads as lesser-reads
 use Rattle.random_tests.proofs.plus.Reads as plus-reads
-use Rattle.value.proofs.operate_on.Reads as operate-on-reads
 use Rattle.value.proofs.reduce_rows.Reads as reduce-rows-reads
 use Rattle.random_tests.proofs.+worth.{statement}
 use Rattle.random_tests.proofs.+worth.Tie.{close}
@@ -52,8 +52,8 @@ pub +worth-spec : {M : Type 1} → statement M
   worth.Post,
   behind-reads.Asked,
   behind-reads.Learnt,
-  operate-on-reads.Asked,
-  operate-on-reads.Learnt,
+  joined-reads.Asked,
+  joined-reads.Learnt,
   conditions-reads.Asked,
   conditions-reads.Learnt,
   lesser-reads.Asked,

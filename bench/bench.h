@@ -133,8 +133,6 @@ INLINE value last_figure(const chain *c, uint64_t word)
         uint64_t x = a.x, y = b.x; \
         return (value){ result, a.there & b.there & (held) }; \
     }
-OPERATOR(lesser, x < y ? x : y, 1)
-OPERATOR(greater, x > y ? x : y, 1)
 OPERATOR(plus, x + y, x + y >= x)
 OPERATOR(minus, x - y, x >= y)
 OPERATOR(times, x * y, !__builtin_mul_overflow_p(x, y, x))
@@ -144,6 +142,10 @@ OPERATOR(is_less, x < y, 1)
 OPERATOR(is_greater, x > y, 1)
 OPERATOR(both, x && y, 1)
 OPERATOR(either, x || y, 1)
+
+/* Min and max: with one operand absent, the other one. */
+INLINE value lesser(value a, value b) { return b.there != 1 || (a.there == 1 && a.x < b.x) ? a : b; }
+INLINE value greater(value a, value b) { return b.there != 1 || (a.there == 1 && a.x > b.x) ? a : b; }
 
 /* One more value in a reduction. */
 INLINE void take(int reduction, value *kept, value v)

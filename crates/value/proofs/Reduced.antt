@@ -15,8 +15,8 @@ use Rattle.value.specs.declared.Value.the-variants.{Absent, Number}
 use Rattle.value.specs.declared.Row.{Row}
 use Rattle.value.specs.declared.Partial.{Partial}
 use Rattle.value.specs.declared.Partial.the-variants.{Empty, Reached}
-use Rattle.value.specs.Value.{number, truth, holds, compute, operate, present, combine, reduce, values}
-use Rattle.value.specs.Steps.{joining, start, step, finish}
+use Rattle.value.specs.Value.{number, truth, holds, compute, present, combine, reduce, values}
+use Rattle.value.specs.Steps.{joining, join, start, step, finish}
 use Rattle.value.proofs.Numbers.{number-large}
 
 module _ {B : Type 0} where
@@ -31,29 +31,26 @@ module _ {B : Type 0} where
     ends b (y ∷ ys) = ends (f y b) ys ∙ out y b ys
 
   -- joining by an operator, where each step is a step of f on what the values stand for
-  folded : (operator : ℕ) (g : B → Value) (f : ℕ → B → B) → ((b : B) (y : ℕ) → operate operator (g b) (Number y) ≡ g (f y b))
-      → (b : B) (xs : List ℕ) → foldl (λ t y. operate operator t (Number y)) (g b) xs ≡ g (foldl (λ a y. f y a) b xs)
+  folded : (operator : ℕ) (g : B → Value) (f : ℕ → B → B) → ((b : B) (y : ℕ) → join operator (g b) y ≡ g (f y b))
+      → (b : B) (xs : List ℕ) → foldl (join operator) (g b) xs ≡ g (foldl (λ a y. f y a) b xs)
   folded operator g f e b [] = refl
-  folded operator g f e b (y ∷ ys) = ap (λ (t : Value). foldl (λ t y. operate operator t (Number y)) t ys) (e b y) ∙ folded operator g f e (f y b) ys
+  folded operator g f e b (y ∷ ys) = ap (λ (t : Value). foldl (join operator) t ys) (e b y) ∙ folded operator g f e (f y b) ys
 
--- plus is neither min nor max: with an absent operand it gives absent
-plus-absent : (b : Value) → operate 3 Absent b ≡ Absent
-plus-absent b = refl
-
--- A SUM TOO LARGE STAYS ABSENT, whatever values follow, since plus joins them
-pub sum-stays : (vs : List Value) → foldl (step 3) (Reached Absent) vs ≡ Reached Absent
-sum-stays [] = refl
-sum-stays (Absent ∷ vs) = sum-stays vs
-sum-stays (Number x ∷ vs) = ap (λ (t : Value). foldl (step 3) (Reached t) vs) (plus-absent (Number x)) ∙ sum-stays vs
+-- AN ABSENT TOTAL STAYS ABSENT, whatever follows: of a sum that is too large, of any other reduction if it had one. The step says so of the total itself, and
+-- not of what operators give beside an absent operand.
+pub absent-stays : (r : ℕ) (vs : List Value) → foldl (step r) (Reached Absent) vs ≡ Reached Absent
+absent-stays r [] = refl
+absent-stays r (Absent ∷ vs) = absent-stays r vs
+absent-stays r (Number x ∷ vs) = absent-stays r vs
 
 -- one step by an operator: of a sum, of an and, of an or
-sum-step : (a y : ℕ) → operate 3 (number a) (Number y) ≡ number (y + a)
+sum-step : (a y : ℕ) → join 3 (number a) y ≡ number (y + a)
 unfolding compute
 sum-step a y = go (ltb a (2 ^ 64)) refl
   where
-    go : (b : Bool) → ltb a (2 ^ 64) ≡ b → operate 3 (cond b (Number a) Absent) (Number y) ≡ number (y + a)
+    go : (b : Bool) → ltb a (2 ^ 64) ≡ b → join 3 (cond b (Number a) Absent) y ≡ number (y + a)
     go true e = ap number (let s : a + y ≡ y + a = omega arith in s)
-    go false e = plus-absent (Number y) ∙ number-large (y + a) (omega (arith, ltb-false a (2 ^ 64) e))
+    go false e = number-large (y + a) (omega (arith, ltb-false a (2 ^ 64) e))
 
 and-true : (b : Bool) → b ≡ (b && true)
 and-true true = refl
@@ -71,12 +68,12 @@ or-false : (b : Bool) → b ≡ (b || false)
 or-false true = refl
 or-false false = refl
 
-and-step : (b : Bool) (y : ℕ) → operate 10 (truth b) (Number y) ≡ truth (holds y && b)
+and-step : (b : Bool) (y : ℕ) → join 10 (truth b) y ≡ truth (holds y && b)
 unfolding compute
 and-step true y = ap truth (and-true (holds y))
 and-step false y = ap truth (and-false (holds y))
 
-or-step : (b : Bool) (y : ℕ) → operate 11 (truth b) (Number y) ≡ truth (holds y || b)
+or-step : (b : Bool) (y : ℕ) → join 11 (truth b) y ≡ truth (holds y || b)
 unfolding compute
 or-step true y = ap truth (or-true (holds y))
 or-step false y = ap truth (or-false (holds y))
@@ -100,12 +97,12 @@ same f p q false = q
 
 -- the numbers joined from the first on
 abbrev total : ℕ → ℕ → List ℕ → Value
-total r x xs = foldl (λ t y. operate (joining r) t (Number y)) (operate (joining r) (Number (start r x)) (Number x)) xs
+total r x xs = foldl (join (joining r)) (join (joining r) (Number (start r x)) x) xs
 
 -- its first step
-begun : (r x : ℕ) (xs : List ℕ) (t : Value) → operate (joining r) (Number (start r x)) (Number x) ≡ t
-    → total r x xs ≡ foldl (λ t y. operate (joining r) t (Number y)) t xs
-begun r x xs t e = ap (λ (t : Value). foldl (λ t y. operate (joining r) t (Number y)) t xs) e
+begun : (r x : ℕ) (xs : List ℕ) (t : Value) → join (joining r) (Number (start r x)) x ≡ t
+    → total r x xs ≡ foldl (join (joining r)) t xs
+begun r x xs t e = ap (λ (t : Value). foldl (join (joining r)) t xs) e
 
 -- joined one by one, the numbers are combined, whatever the reduction
 joined : (r x : ℕ) (xs : List ℕ) → total r x xs ≡ combine r (x ∷ xs)
@@ -141,17 +138,17 @@ joined (suc (suc (suc (suc (suc (suc r)))))) x xs =
 
 -- values from a total on: absent ones are skipped
 reached : (r : ℕ) (t : Value) (vs : List Value) → foldl (step r) (Reached t) vs
-    ≡ Reached (foldl (λ t y. operate (joining r) t (Number y)) t (present vs))
+    ≡ Reached (foldl (join (joining r)) t (present vs))
 reached r t [] = refl
 reached r t (Absent ∷ vs) = reached r t vs
-reached r t (Number x ∷ vs) = reached r (operate (joining r) t (Number x)) vs
+reached r t (Number x ∷ vs) = reached r (join (joining r) t x) vs
 
 -- A REDUCTION VALUE BY VALUE IS THE REDUCTION
 pub reduced : (r : ℕ) (vs : List Value) → finish (foldl (step r) Empty vs) ≡ reduce r vs
 unfolding combine
 reduced r [] = refl
 reduced r (Absent ∷ vs) = reduced r vs
-reduced r (Number x ∷ vs) = ap finish (reached r (operate (joining r) (Number (start r x)) (Number x)) vs) ∙ joined r x (present vs)
+reduced r (Number x ∷ vs) = ap finish (reached r (join (joining r) (Number (start r x)) x) vs) ∙ joined r x (present vs)
 
 -- what the loop of `reduce_rows` holds after the first i rows
 unfoldable pub after : ℕ → List Row → ℕ → Partial

@@ -9,7 +9,7 @@ use Rattle.value.specs.declared.Value.{Value}
 use Rattle.value.specs.declared.Value.the-variants.{Absent, Number}
 use Rattle.value.specs.declared.Partial.{Partial}
 use Rattle.value.specs.declared.Partial.the-variants.{Empty, Reached}
-use Rattle.value.specs.Value.{counts, operate}
+use Rattle.value.specs.Value.{compute, counts}
 
 -- the operator that joins the numbers of a reduction: min, max, plus, and, or
 abbrev pub joining : ℕ → ℕ
@@ -19,11 +19,20 @@ joining reduction = getD (0 ∷ 1 ∷ 2 ∷ 3 ∷ 10 ∷ 11 ∷ []) reduction 0
 abbrev pub start : ℕ → ℕ → ℕ
 start reduction x = cond (eqb reduction 3) 0 x
 
+-- what the next number x is joined to
+abbrev pub so-far : ℕ → Partial → ℕ → Value
+so-far reduction Empty x = Number (start reduction x)
+so-far reduction (Reached t) x = t
+
+-- a total joined with the next number: one too large stays absent
+abbrev pub join : ℕ → Value → ℕ → Value
+join operator Absent x = Absent
+join operator (Number y) x = compute operator y x
+
 -- one value more; "skips absent values"
 abbrev pub step : ℕ → Partial → Value → Partial
 step reduction partial Absent = partial
-step reduction Empty (Number x) = Reached (operate (joining reduction) (Number (start reduction x)) (Number x))
-step reduction (Reached t) (Number x) = Reached (operate (joining reduction) t (Number x))
+step reduction partial (Number x) = Reached (join (joining reduction) (so-far reduction partial x) x)
 
 -- "with none left it is absent"
 abbrev pub finish : Partial → Value

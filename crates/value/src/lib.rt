@@ -5,7 +5,7 @@ ghost use lib.Dec.{leb, eqb};
 ghost use lib.ListN.{take};
 ghost use mathlib.Core.Bool.{cond};
 ghost use Rattle.value.specs.Value.{number, truth, both, either, beside-absent, compute, operate, reduce, values, counts};
-ghost use Rattle.value.specs.Steps.{start, joining, step, finish, where-counts};
+ghost use Rattle.value.specs.Steps.{start, so-far, joining, step, finish, where-counts};
 
 // "A value is a number or is absent."
 pub enum Value {
@@ -18,8 +18,8 @@ pub struct Row {
     pub value: Value,
 }
 
-// What a reduction has met so far: no number yet, or the value of those met. A sum too large is Reached(Absent), and stays so, since plus with an absent
-// operand gives absent (`sum-stays`); min and max, which do not, never come to Reached(Absent), since they join numbers alone.
+// What a reduction has met so far: no number yet, or the value of those met. A sum too large is Reached(Absent), and stays so by its own rule (`step_of`),
+// whatever operators give beside an absent operand.
 pub enum Partial {
     Empty,
     Reached(Value),
@@ -172,22 +172,27 @@ fn start_of(reduction: u8, x: u64) -> u64
     if reduction == 3 { 0 } else { x }
 }
 
-// One more value of a reduction: "A reduction over places skips absent values".
+// What the next number x is joined to.
+fn so_far_of(reduction: u8, partial: Partial, x: u64) -> Value
+    ensures { λ r. ⌜ r ≡ so-far reduction partial x ⌝ }
+{
+    match partial {
+        Partial::Empty => Value::Number(start_of(reduction, x)),
+        Partial::Reached(t) => t,
+    }
+}
+
+// One more value of a reduction: "A reduction over places skips absent values". A sum that is too large stays absent.
 fn step_of(reduction: u8, partial: Partial, v: Value) -> Partial
     ensures { λ r. ⌜ r ≡ step reduction partial v ⌝ }
 {
     let Value::Number(x) = v else {
         return partial;
     };
-    let operator = joining_of(reduction);
-    match partial {
-        Partial::Empty => Partial::Reached(operate_on(
-            operator,
-            Value::Number(start_of(reduction, x)),
-            v,
-        )),
-        Partial::Reached(t) => Partial::Reached(operate_on(operator, t, v)),
-    }
+    let Value::Number(y) = so_far_of(reduction, partial, x) else {
+        return Partial::Reached(Value::Absent);
+    };
+    Partial::Reached(compute_of(joining_of(reduction), y, x))
 }
 
 fn finish_of(partial: Partial) -> Value

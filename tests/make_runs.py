@@ -3,9 +3,10 @@
 
     python3 tests/make_runs.py           prints each case: index, kind, call, rounds, length lent, what is expected, name
 
-Worksheets and maps are written by hand as bytes. Rows, rounds and refusals are written by hand from document 01 and, for conditions,
-sets of starts and absent operands of min and max, document 02, a) to c); none is what a run said. So that no slip of the hand stays, the script walks every walk
-outright (`outright` below: sets of walks, no rounds and no table of figures) and stops where the hand and the walks differ.
+Worksheets and maps are written by hand as bytes. Rows, rounds and refusals are written by hand from document 01 and, for
+conditions, sets of starts and absent operands of min and max, document 02, a) to c); none is what a run said. So that no slip of
+the hand stays, the script walks every walk outright (`outright` below: sets of walks, no rounds and no table of figures) and
+stops where the hand and the walks differ.
 
 In the file (make_cases.py has its layout) a case has five numbers of 16 bits: the length lent, the call (0 pull, 1 push, 2 pull stopped,
 3 push stopped), the rounds at which it is stopped, where the worksheet and the map end behind these ten bytes; then worksheet, map and

@@ -19,7 +19,7 @@ joining reduction = getD (0 ∷ 1 ∷ 2 ∷ 3 ∷ 10 ∷ 11 ∷ []) reduction 0
 abbrev pub start : ℕ → ℕ → ℕ
 start reduction x = cond (eqb reduction 3) 0 x
 
--- what the next number x is joined to
+-- what the next number x is joined to: the total of those before it, or, for the first, where the reduction begins
 abbrev pub so-far : ℕ → Partial → ℕ → Value
 so-far reduction Empty x = Number (start reduction x)
 so-far reduction (Reached t) x = t

@@ -172,7 +172,7 @@ fn start_of(reduction: u8, x: u64) -> u64
     if reduction == 3 { 0 } else { x }
 }
 
-// What the next number x is joined to.
+// What the next number x is joined to: the total of those before it, or, for the first, where the reduction begins.
 fn so_far_of(reduction: u8, partial: Partial, x: u64) -> Value
     ensures { λ r. ⌜ r ≡ so-far reduction partial x ⌝ }
 {

@@ -3,6 +3,7 @@ pub mod Paths
 pub mod Fuse
 pub mod Unique
 pub mod Rounds
+pub mod Together
 pub mod Main
 pub mod Limits
 pub mod Bounds

@@ -55,7 +55,7 @@ module _ (g : Graph) (fits : GraphFits g) where
   }
 
   -- the rounds of legal path reductions settle
-  settle : (cs : List PathReduction) → All (PathFits (g .vertices)) cs → All (Settles (g .vertices)) (map (pull g) cs)
+  pub settle : (cs : List PathReduction) → All (PathFits (g .vertices)) cs → All (Settles (g .vertices)) (map (pull g) cs)
   settle cs h =
       all-mapped (Settles (g .vertices)) (pull g) cs
       (all-weaken cs (λ c p. state-settles (network-of g c) (c .keys) (path-in-order (g .vertices) c p) (network-fits c p)) h)

@@ -20,7 +20,7 @@ fn row_count(n: u16, kind: u8) -> usize
 }
 
 // How many bytes an answer has (of any n and kind, illegal ones too: one row for a kind above 0).
-fn size(n: u16, kind: u8) -> usize
+pub fn size(n: u16, kind: u8) -> usize
     ensures { λ r. ⌜ r ≡ answer-size n kind ⌝ }
 {
     10 + 9 * row_count(n, kind)

@@ -26,8 +26,8 @@ use Rattle.fusion.specs.Steps.{entry-term, final-term, fused-term, index
 use Rattle.fusion.proofs.Selected.{reduced, reduced-append, selected, selected-append}
 
 -- the number of a path reduction stands in the table where the path reduction stands in the list
-index-position : (c : PathReduction) → PathFits 256 c → (cs : List PathReduction) → All (PathFits 256) cs → (rest : List PackedPath) → T (among c cs)
-    → index-of (packed c) (map packed cs ++ rest) ≡ position c cs
+pub index-position : (c : PathReduction) → PathFits 256 c → (cs : List PathReduction) → All (PathFits 256) cs → (rest : List PackedPath)
+    → T (among c cs) → index-of (packed c) (map packed cs ++ rest) ≡ position c cs
 unfolding index-of
 index-position c f [] g rest t = absurd t
 index-position c f (d ∷ ds) g rest t = rw (same-as c d f (g .0)) (go (same-path c d) t (index-position c f ds (g .1) rest))

@@ -26,7 +26,7 @@ const ENTRIES: u8 = 0;
 const FINAL: u8 = 1;
 
 // Where the path reduction stands in the table; 8 where it does not.
-fn position_of(table: [PackedPath; 8], p: PackedPath) -> usize
+pub fn position_of(table: [PackedPath; 8], p: PackedPath) -> usize
     ensures { λ r. ⌜ (r ≡ index-of p table) × (r ≤ 8) ⌝ }
 {
     let mut i: usize = 0;

@@ -7,8 +7,8 @@ use native.Mathlib.Omega.{arith}
 use native.Mathlib.Nat.{zero-add}
 use borrow.Author.Tests.{leb-false, le-leb, lt-leb}
 use lib.Dec.{T, leb}
-use lib.ListN.{length, getD, set, length-set, length-append, length-map, List·getD-append}
-use lib.Seq.{set-getD, set-at, append-snoc, getD-append-seam}
+use lib.ListN.{length, getD, set, take, length-set, length-append, length-map, List·getD-append}
+use lib.Seq.{set-getD, set-at, take-at, append-snoc, getD-append-seam}
 use Rattle.meaning.specs.Limits.{PathFits}
 use Rattle.meaning.specs.Plan.{among, position, put, same-path}
 use Rattle.meaning.specs.Query.{PathReduction}
@@ -33,6 +33,10 @@ pub record Table (w : Progress) (cs : List PathReduction) : Type 0 where
   pub holds : w .table ≡ map packed cs ++ rest
   pub size : length (w .table) ≡ 8
   pub few-reductions : w .reductions ≤ 8
+
+-- its numbers come first in the table
+pub numbers-held : (w : Progress) (cs : List PathReduction) → Table w cs → take (w .paths) (w .table) ≡ map packed cs
+numbers-held w cs t = rw (t .holds) (take-at (map packed cs) (t .rest) (w .paths) (length-map cs packed ∙ sym (t .count)))
 
 -- w′ stands n bytes after w, not refused, with z terms and e reductions, and holds the path reductions cs
 pub record Further (w w′ : Progress) (cs : List PathReduction) (n z e : ℕ) : Type 0 where
@@ -179,7 +183,7 @@ module _ (w : Progress) (cs : List PathReduction) (t : Table w cs) (c : PathRedu
   full : leb 8 (position c cs) ≡ true → kept-path w (packed c) ≡ blank 14
   full p = kept-is ∙ rw p refl
 
-  -- and a ninth is refused
+  -- and a ninth is refused, by 14
   pub kept-few : kept-path w (packed c) .code ≡ 0 → length (put cs c) ≤ 8
   unfolding blank
   kept-few z = go (among c cs) refl
@@ -191,3 +195,14 @@ module _ (w : Progress) (cs : List PathReduction) (t : Table w cs) (c : PathRedu
           room : (b : Bool) → leb 8 (position c cs) ≡ b → length (cs ++ (c ∷ [])) ≤ 8
           room true p = absurd (let y : _≡_ {A = ℕ} 14 0 = accepted-as (full p) z in omega arith)
           room false p = omega (arith, leb-false 8 (position c cs) p, position-none c cs e, length-append cs (c ∷ []))
+
+  pub kept-ninth : 8 < length (put cs c) → kept-path w (packed c) ≡ blank 14
+  kept-ninth h = go (leb 8 (position c cs)) refl
+    where
+      few : (b : Bool) → among c cs ≡ b → position c cs < 8 → length (cond b cs (cs ++ (c ∷ []))) ≤ 8
+      few true e l = t .few
+      few false e l = omega (arith, position-none c cs e, length-append cs (c ∷ []))
+
+      go : (b : Bool) → leb 8 (position c cs) ≡ b → kept-path w (packed c) ≡ blank 14
+      go true p = full p
+      go false p = absurd (omega (arith, few (among c cs) refl (leb-false 8 (position c cs) p)))

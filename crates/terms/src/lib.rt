@@ -81,7 +81,7 @@ fn greater(a: usize, b: usize) -> usize
 }
 
 // The path reduction put into the table: 14 where it is a ninth.
-fn keep_path(w: Progress, path: PackedPath) -> Progress
+pub fn keep_path(w: Progress, path: PackedPath) -> Progress
     ensures { λ r. ⌜ r ≡ kept-path w path ⌝ }
 {
     let table = w.table;

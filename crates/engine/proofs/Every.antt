@@ -73,7 +73,7 @@ module _ (g : Graph) (legal : GraphLegal g) (p : Plan) (plan-legal : PlanLegal (
   abbrev n : ℕ
   n = g .vertices
 
-  rounds-fit : outcome limit g p .rounds < 65536
+  pub rounds-fit : outcome limit g p .rounds < 65536
   unfolding stopped
   rounds-fit = go limit sixteen
     where
@@ -81,7 +81,7 @@ module _ (g : Graph) (legal : GraphLegal g) (p : Plan) (plan-legal : PlanLegal (
       go Quiet h = omega (arith, plan-bound g (legal .fits) p (plan-legal .paths-legal), legal .few-vertices)
       go (Rounds r) h = h
 
-  rows-fit : AllHeld (outcome limit g p .rows)
+  pub rows-fit : AllHeld (outcome limit g p .rows)
   unfolding run stopped
   rows-fit = go limit sixteen rounds-fit
     where

@@ -88,7 +88,7 @@ paths-read s bytes z =
     subst (λ (t : List ℕ). paths-of (plan-scan t) ≡ p .paths) (r .1) (paths-held (plan-scan (encode p)) (p .paths) (read-complete p (r .0) .table))
 
 -- refusals one after the other
-unless-then : (a b : ℕ) (r : Reply) → unless (then a b) r ≡ unless a (unless b r)
+pub unless-then : (a b : ℕ) (r : Reply) → unless (then a b) r ≡ unless a (unless b r)
 unless-then a b r = go (eqb a 0) refl
   where
     go : (t : Bool) → eqb a 0 ≡ t → unless (cond t b a) r ≡ cond t (unless b r) (refused a)
@@ -171,6 +171,13 @@ run-answers p legal m graph-ok fits limit room =
 
 -- ---- the program's reply, where nothing is refused before 15
 
+-- the rows are those of the body, after the rounds reported
+pub rows-are : (limit : Limit) (g : Graph) (p : Plan)
+    → outcome limit g p .rows ≡ body-rows (p .body) (values-at (pull g) (p .paths) (outcome limit g p .rounds)) (g .vertices)
+unfolding run stopped
+rows-are Quiet g p = refl
+rows-are (Rounds r) g p = refl
+
 -- the second byte behind the header is the kind
 kind-byte : (p : Plan) → getD (encode p) 5 0 ≡ kind-of (p .body)
 kind-byte p = refl
@@ -202,16 +209,11 @@ module _ (s m : List ℕ) (bs : Bytes s) (bm : Bytes m) (z : run-code (plan-scan
       go (each-vertex t) = rw (ne-eqb n 0 (λ e. absurd (omega (arith, a .graph-legal .fits .some-vertex))), le-ltb 256 n few) refl
       go (one-result es t) = rw (ne-eqb n 0 (λ e. absurd (omega (arith, a .graph-legal .fits .some-vertex))), le-ltb 256 n few) refl
 
-  -- the rows are those of the body, after the rounds reported, and as many as the kind has
-  rows-are : (limit : Limit) → outcome limit g p .rows ≡ body-rows (p .body) (values-at (pull g) (p .paths) (outcome limit g p .rounds)) n
-  unfolding run stopped
-  rows-are Quiet = refl
-  rows-are (Rounds r) = refl
-
+  -- and as many as the kind has
   rows-counted : (limit : Limit) → length (outcome limit g p .rows) ≡ answer.row-count n (kind-of (p .body))
   unfolding body-count
   rows-counted limit =
-      ap length (rows-are limit) ∙ rows-length p (values-at (pull g) (p .paths) (outcome limit g p .rounds)) n ∙ ap (answer.row-count n) (kind-byte p)
+      ap length (rows-are limit g p) ∙ rows-length p (values-at (pull g) (p .paths) (outcome limit g p .rounds)) n ∙ ap (answer.row-count n) (kind-byte p)
 
   -- 15 IS KNOWN BEFORE THE ROUNDS
   pub finish-judged : (limit : Limit) (room : ℕ) → run-reply limit s m room
@@ -227,20 +229,21 @@ module _ (s m : List ℕ) (bs : Bytes s) (bm : Bytes m) (z : run-code (plan-scan
   paths-are = omega (arith, held .count, held .few)
 
   -- A TABLE THAT HOLDS THE VALUES after the rounds reported: the answer written from it is the run's
-  pub finish-answers : (limit : Limit) (room rounds : ℕ) (figures : List ℕ) → rounds ≡ outcome limit (graph-of m) (plan-of s) .rounds
-      → Holds (at16 m 5) (length (plan-of s .paths)) figures
+  pub finish-answers : (limit : Limit) (room rounds : ℕ) (figures slots : List ℕ)
+      → rounds ≡ outcome limit (graph-of m) (plan-of s) .rounds
+      → Holds (at16 m 5) (length (plan-of s .paths)) figures slots
       (values-at (pull (graph-of m)) (plan-of s .paths) (outcome limit (graph-of m) (plan-of s) .rounds))
       → run-reply limit s m room ≡ answer-reply (at16 m 5) rounds (getD s 5 0)
-      (values (many (body-found s (rows-at figures (min (plan-scan s .paths) 8)) (min (at16 m 5) 256)))) room
-  finish-answers limit room rounds figures told holds =
+      (values (many (body-found s (rows-at figures slots (min (plan-scan s .paths) 8)) (min (at16 m 5) 256)))) room
+  finish-answers limit room rounds figures slots told holds =
       let o : Outcome = outcome limit g p in
-      let vs = values (many (body-found s (rows-at figures (length (p .paths))) (min n 256))) in
+      let vs = values (many (body-found s (rows-at figures slots (length (p .paths))) (min n 256))) in
       let G : ℕ → List Value = values-at (pull g) (p .paths) (o .rounds) in
       let first =
-      subst (λ (t : List ℕ). take (body-count (encode p) n) (values (many (body-found t (rows-at figures (length (p .paths))) (min n 256))))
+      subst (λ (t : List ℕ). take (body-count (encode p) n) (values (many (body-found t (rows-at figures slots (length (p .paths))) (min n 256))))
       ≡ body-rows (p .body) G n)
-      (a .written) (answer-rows p (a .legal) figures n few G holds) in
-      let begin : take (length (o .rows)) vs ≡ o .rows = rw (ap length (rows-are limit) ∙ rows-length p G n, rows-are limit) first in
+      (a .written) (answer-rows p (a .legal) figures slots n few G holds) in
+      let begin : take (length (o .rows)) vs ≡ o .rows = rw (ap length (rows-are limit g p) ∙ rows-length p G n, rows-are limit g p) first in
       run-means s m bs bm z .1 limit room
       ∙ sym (rw (told, paths-are, kind-is) (reply-encodes n (kind-of (p .body)) o vs (rows-counted limit) begin fields-fine room))
 

@@ -4,12 +4,15 @@ use progress::Progress;
 ghost use mathlib.Core.Path.{_≡_};
 ghost use Prim.Native.Nat.{_≤_};
 ghost use lib.ListN.{length};
+ghost use Rattle.walks.specs.Lists.{All};
+ghost use Rattle.meaning.specs.Limits.{PathFits};
+ghost use Rattle.graph.specs.Graph.{graph-code, graph-of};
 ghost use Rattle.packed_path.specs.Packed.{sources-of};
 ghost use Rattle.cells.specs.Table.{paths-in};
 ghost use Rattle.plan.specs.Plan.{plan-scan};
 ghost use Rattle.wire.specs.Wire.{at16, Returned};
 ghost use Rattle.engine.specs.Run.{outside-code, sources-code, run-reply};
-ghost use Rattle.engine.specs.Steps.{run-code, most-of, reported-of};
+ghost use Rattle.engine.specs.Steps.{Settled, run-code, most-of, reported-of};
 
 // How long a run goes on: to the first quiet round, or for a given number of rounds.
 pub enum Limit {
@@ -17,8 +20,11 @@ pub enum Limit {
     Rounds(u16),
 }
 
+// Each path reduction of a plan stands in the slot of its own index.
+const OWN: [usize; 8] = [0, 1, 2, 3, 4, 5, 6, 7];
+
 // How many vertices a map has, by its field.
-fn vertices(graph: &[u8]) -> u16
+pub fn vertices(graph: &[u8]) -> u16
     ensures { λ r. ⌜ r ≡ at16 (now (graph .entry)) 5 ⌝ }
 {
     wire::half(graph, 5) as u16
@@ -56,7 +62,7 @@ fn sources_code(table: [PackedPath; 8], paths: usize, n: u64) -> u8
 }
 
 // "A run judges the worksheet, the map, starts in chain order": the first refusal, or 0.
-fn judge(w: Progress, graph: &[u8]) -> u8
+pub fn judge(w: Progress, graph: &[u8]) -> u8
     ensures { λ r. ⌜ r ≡ run-code w (now (graph .entry)) ⌝ }
 {
     let c = w.code;
@@ -93,6 +99,25 @@ fn reported(limit: Limit, done: u16) -> u16
     }
 }
 
+// The rounds of a run of the first path reductions of a table: how many are reported; the figures then reached are left in `figures`.
+pub fn settle(
+    push: bool,
+    limit: Limit,
+    paths: usize,
+    table: [PackedPath; 8],
+    graph: &[u8],
+    figures: &mut [u32],
+) -> u16
+    requires { ⌜
+        (graph-code (now graph) ≡ 0) × (paths ≤ 8) × All (PathFits (at16 (now graph) 5)) (paths-in paths table) × (length (now figures) ≡ 8192)
+        ⌝ }
+    ensures { λ r. ⌜ Settled limit (graph-of (now (graph .entry))) (paths-in paths table) r (now (figures .exit)) ⌝ }
+{
+    let most = most(limit, vertices(graph));
+    let done = rounds::run(push, graph, paths, table, most, figures);
+    reported(limit, done)
+}
+
 // What follows where nothing is refused before 15: 15, the rounds, the rows, the answer.
 fn finish(push: bool, limit: Limit, plan: &[u8], w: Progress, graph: &[u8], out: &mut [u8]) -> u32
     requires { ⌜ (w ≡ plan-scan (now plan)) × (run-code w (now graph) ≡ 0) ⌝ }
@@ -108,9 +133,9 @@ fn finish(push: bool, limit: Limit, plan: &[u8], w: Progress, graph: &[u8], out:
     let paths = wire::lesser(w.paths, 8);
     let table = w.table;
     let mut figures = [0u32; 8192];
-    let done = rounds::run(push, graph, paths, table, most(limit, n), &mut figures);
-    let list = rows::body_rows(plan, &figures, paths, n as usize);
-    answer::write(n, reported(limit, done), kind, list, out)
+    let done = settle(push, limit, paths, table, graph, &mut figures);
+    let list = rows::body_rows(plan, &figures, OWN, paths, n as usize);
+    answer::write(n, done, kind, list, out)
 }
 
 // A run by push or by pull: the worksheet and the map are judged, then it goes on.

@@ -22,24 +22,25 @@ use Rattle.rows.specs.Steps.{body-count, many, rows-at}
 
 -- ---- the values
 
--- the table l holds at the n vertices the values that G gives for the first `count` path reductions
-abbrev pub Holds : ℕ → ℕ → List ℕ → (ℕ → List Value) → Type 0
-Holds n count l G = (v : ℕ) → v < n → (j : ℕ) → j < count → value-in l j v ≡ getD (G v) j Absent
+-- the table l holds at the n vertices the values that G gives for the first `count` path reductions, each in its slot
+abbrev pub Holds : ℕ → ℕ → List ℕ → List ℕ → (ℕ → List Value) → Type 0
+Holds n count l slots G = (v : ℕ) → v < n → (j : ℕ) → j < count → value-in l (getD slots j 0) v ≡ getD (G v) j Absent
 
-rows-agree : (n count : ℕ) (l : List ℕ) (G : ℕ → List Value) → count ≤ 8 → Holds n count l G → Agrees n count (rows-at l count) G
+rows-agree : (n count : ℕ) (l slots : List ℕ) (G : ℕ → List Value) → count ≤ 8 → Holds n count l slots G
+    → Agrees n count (rows-at l slots count) G
 unfolding rows-at
-rows-agree n count l G few holds v h i k =
-    let f : ℕ → Value = λ j. value-in l j v in
+rows-agree n count l slots G few holds v h i k =
+    let f : ℕ → Value = λ j. value-in l (getD slots j 0) v in
     let b : i < min count 8 = omega arith in
     eight-holds (tabulate (min count 8) zero f) i (omega (arith, tabulate-length (min count 8) zero f)) ∙ tabulate-at (min count 8) i f Absent b
     ∙ holds v h i k
 
 -- their values are those of the plan's tree
-answer-values : (p : Plan) → PlanLegal 256 p → (l : List ℕ) (n : ℕ) (G : ℕ → List Value) → Holds n (length (p .paths)) l G
-    → values (body-found (encode p) (rows-at l (length (p .paths))) n) ≡ body-rows (p .body) G n
-answer-values p legal l n G holds =
-    let F : ℕ → List Row = rows-at l (length (p .paths)) in
-    body-value p legal n F G (rows-agree n (length (p .paths)) l G (legal .few-paths) holds)
+answer-values : (p : Plan) → PlanLegal 256 p → (l slots : List ℕ) (n : ℕ) (G : ℕ → List Value) → Holds n (length (p .paths)) l slots G
+    → values (body-found (encode p) (rows-at l slots (length (p .paths))) n) ≡ body-rows (p .body) G n
+answer-values p legal l slots n G holds =
+    let F : ℕ → List Row = rows-at l slots (length (p .paths)) in
+    body-value p legal n F G (rows-agree n (length (p .paths)) l slots G (legal .few-paths) holds)
 
 -- ---- how many rows
 
@@ -59,13 +60,13 @@ front l k h =
     ∙ take-at (values l) (values (replicate (256 - length l) (row Absent))) k h
 
 -- THE ROWS OF THE ANSWER: what `body_rows` gives, on a graph of n vertices
-pub answer-rows : (p : Plan) → PlanLegal 256 p → (l : List ℕ) (n : ℕ) → n ≤ 256 → (G : ℕ → List Value)
-    → Holds n (length (p .paths)) l G
-    → take (body-count (encode p) n) (values (many (body-found (encode p) (rows-at l (length (p .paths))) (min n 256)))) ≡ body-rows (p .body) G n
-answer-rows p legal l n few G holds =
-    let F : ℕ → List Row = rows-at l (length (p .paths)) in
+pub answer-rows : (p : Plan) → PlanLegal 256 p → (l slots : List ℕ) (n : ℕ) → n ≤ 256 → (G : ℕ → List Value)
+    → Holds n (length (p .paths)) l slots G
+    → take (body-count (encode p) n) (values (many (body-found (encode p) (rows-at l slots (length (p .paths))) (min n 256)))) ≡ body-rows (p .body) G n
+answer-rows p legal l slots n few G holds =
+    let F : ℕ → List Row = rows-at l slots (length (p .paths)) in
     let e : min n 256 ≡ n = omega arith in
-    let same = answer-values p legal l n G holds in
+    let same = answer-values p legal l slots n G holds in
     ap (λ (k : ℕ). take (body-count (encode p) n) (values (many (body-found (encode p) F k)))) e
     ∙ front (body-found (encode p) F n) (body-count (encode p) n) (ap length same ∙ rows-length p G n)
     ∙ same

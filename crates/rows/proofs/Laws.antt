@@ -27,13 +27,14 @@ eight-filled g k = ap₂ (λ (l : List Row) (c : ℕ). l ++ replicate (8 - c) (r
 many-filled : (f : ℕ → Row) (n : ℕ) → many (tabulate n zero f) ≡ filled 256 f (row Absent) n
 many-filled f n = ap (λ (c : ℕ). tabulate n zero f ++ replicate (256 - c) (row Absent)) (tabulate-length n zero f)
 
--- the row of path reduction j at a vertex; all of them
-abbrev pub value-row : List ℕ → ℕ → ℕ → Row
-value-row figures v j = row (value-in figures j v)
+-- the row of path reduction j at a vertex, from its slot; all of them
+abbrev pub value-row : List ℕ → List ℕ → ℕ → ℕ → Row
+value-row figures slots v j = row (value-in figures (getD slots j 0) v)
 
-pub rows-at-filled : (figures : List ℕ) (paths v : ℕ) → rows-at figures paths v ≡ filled 8 (value-row figures v) (row Absent) (min paths 8)
+pub rows-at-filled : (figures slots : List ℕ) (paths v : ℕ)
+    → rows-at figures slots paths v ≡ filled 8 (value-row figures slots v) (row Absent) (min paths 8)
 unfolding rows-at
-rows-at-filled figures paths v = eight-filled (λ j. value-in figures j v) (min paths 8)
+rows-at-filled figures slots paths v = eight-filled (λ j. value-in figures (getD slots j 0) v) (min paths 8)
 
 -- the row of an entry at the vertex v
 abbrev pub entry-row : List ℕ → (ℕ → List Row) → ℕ → ℕ → Row

@@ -11,9 +11,9 @@ use Rattle.value.specs.declared.Value.the-variants.{Absent}
 use Rattle.eval.specs.Steps.{eight, row}
 use Rattle.rounds.specs.Steps.{value-in}
 
--- the values of the path reductions at the vertex v, as eight rows
-unfoldable pub rows-at : List ℕ → ℕ → ℕ → List Row
-rows-at figures paths v = eight (tabulate (min paths 8) zero (λ j. value-in figures j v))
+-- the values of the path reductions at the vertex v, as eight rows: that of path reduction j stands in slot `getD slots j 0` of the table
+unfoldable pub rows-at : List ℕ → List ℕ → ℕ → ℕ → List Row
+rows-at figures slots paths v = eight (tabulate (min paths 8) zero (λ j. value-in figures (getD slots j 0) v))
 
 -- rows in an array of 256, absent ones behind them
 abbrev pub many : List Row → List Row

@@ -51,9 +51,9 @@ fn value_at(figures: &[u32], j: usize, v: usize) -> Value
     Value::Number(number(figures[at + 2]))
 }
 
-// The values of the path reductions at the vertex v.
-fn values_at(figures: &[u32], paths: usize, v: usize) -> [Row; 8]
-    ensures { λ r. ⌜ r ≡ rows-at (now (figures .entry)) paths v ⌝ }
+// The values of the path reductions at the vertex v: that of path reduction j stands in slot `slots[j]` of the table.
+fn values_at(figures: &[u32], slots: [usize; 8], paths: usize, v: usize) -> [Row; 8]
+    ensures { λ r. ⌜ r ≡ rows-at (now (figures .entry)) slots paths v ⌝ }
 {
     let count = wire::lesser(paths, 8);
     let absent = Row {
@@ -63,7 +63,7 @@ fn values_at(figures: &[u32], paths: usize, v: usize) -> [Row; 8]
     let mut j: usize = 0;
     while j < count {
         let one = Row {
-            value: value_at(figures, j, v),
+            value: value_at(figures, slots[j], v),
         };
         rows[j] = one;
         j += 1;
@@ -73,13 +73,20 @@ fn values_at(figures: &[u32], paths: usize, v: usize) -> [Row; 8]
 
 // The value at the vertex v of the entry whose reduction byte stands at `at`: with 128 added to that byte the condition precedes the value. (The values of the
 // path reductions are made here, in one place: so the compiler puts the whole of it into both loops below, and no array is copied at each vertex.)
-fn entry_value(plan: &[u8], at: usize, figures: &[u32], paths: usize, v: usize) -> Value
-    ensures { λ r. ⌜ r ≡ entry-found (now (plan .entry)) (rows-at (now (figures .entry)) paths v) at ⌝ }
+fn entry_value(
+    plan: &[u8],
+    at: usize,
+    figures: &[u32],
+    slots: [usize; 8],
+    paths: usize,
+    v: usize,
+) -> Value
+    ensures { λ r. ⌜ r ≡ entry-found (now (plan .entry)) (rows-at (now (figures .entry)) slots paths v) at ⌝ }
 {
     if plan.len() <= at {
         return Value::Absent;
     }
-    let rows = values_at(figures, paths, v);
+    let rows = values_at(figures, slots, paths, v);
     if 128 <= plan[at] {
         return eval::condition(plan, rows, at + 1);
     }
@@ -88,9 +95,16 @@ fn entry_value(plan: &[u8], at: usize, figures: &[u32], paths: usize, v: usize) 
 }
 
 // The entry at `at`, at each of the n vertices.
-fn entry_rows(plan: &[u8], at: usize, figures: &[u32], paths: usize, n: usize) -> [Row; 256]
+fn entry_rows(
+    plan: &[u8],
+    at: usize,
+    figures: &[u32],
+    slots: [usize; 8],
+    paths: usize,
+    n: usize,
+) -> [Row; 256]
     requires { ⌜ n ≤ 256 ⌝ }
-    ensures { λ r. ⌜ r ≡ many (entry-rows (now (plan .entry)) at (rows-at (now (figures .entry)) paths) n) ⌝ }
+    ensures { λ r. ⌜ r ≡ many (entry-rows (now (plan .entry)) at (rows-at (now (figures .entry)) slots paths) n) ⌝ }
 {
     let absent = Row {
         value: Value::Absent,
@@ -98,7 +112,7 @@ fn entry_rows(plan: &[u8], at: usize, figures: &[u32], paths: usize, n: usize) -
     let mut rows = [absent; 256];
     let mut v: usize = 0;
     while v < n {
-        let value = entry_value(plan, at, figures, paths, v);
+        let value = entry_value(plan, at, figures, slots, paths, v);
         rows[v] = Row { value };
         v += 1;
     }
@@ -107,10 +121,17 @@ fn entry_rows(plan: &[u8], at: usize, figures: &[u32], paths: usize, n: usize) -
 
 // The result of the entry whose reduction byte stands at `at`. (Its rows are not those of `entry_rows`: a function called in two places hands its array over by
 // a copy, all 256 rows of it.)
-fn result_of(plan: &[u8], at: usize, figures: &[u32], paths: usize, n: usize) -> Value
+fn result_of(
+    plan: &[u8],
+    at: usize,
+    figures: &[u32],
+    slots: [usize; 8],
+    paths: usize,
+    n: usize,
+) -> Value
     requires { ⌜ n ≤ 256 ⌝ }
     ensures { λ r. ⌜ r ≡ reduce (getD (now (plan .entry)) at 0 % 128)
-        (values (entry-rows (now (plan .entry)) at (rows-at (now (figures .entry)) paths) n)) ⌝ }
+        (values (entry-rows (now (plan .entry)) at (rows-at (now (figures .entry)) slots paths) n)) ⌝ }
 {
     let absent = Row {
         value: Value::Absent,
@@ -118,7 +139,7 @@ fn result_of(plan: &[u8], at: usize, figures: &[u32], paths: usize, n: usize) ->
     let mut rows = [absent; 256];
     let mut u: usize = 0;
     while u < n {
-        let value = entry_value(plan, at, figures, paths, u);
+        let value = entry_value(plan, at, figures, slots, paths, u);
         rows[u] = Row { value };
         u += 1;
     }
@@ -126,9 +147,17 @@ fn result_of(plan: &[u8], at: usize, figures: &[u32], paths: usize, n: usize) ->
 }
 
 // The results of the e entries from `at` on.
-fn results_of(plan: &[u8], at: usize, figures: &[u32], paths: usize, n: usize, e: usize) -> Results
+fn results_of(
+    plan: &[u8],
+    at: usize,
+    figures: &[u32],
+    slots: [usize; 8],
+    paths: usize,
+    n: usize,
+    e: usize,
+) -> Results
     requires { ⌜ (n ≤ 256) × (e ≤ 8) ⌝ }
-    ensures { λ r. ⌜ (r .rows ≡ eight (results e (now (plan .entry)) at (rows-at (now (figures .entry)) paths) n))
+    ensures { λ r. ⌜ (r .rows ≡ eight (results e (now (plan .entry)) at (rows-at (now (figures .entry)) slots paths) n))
         × (r .end ≡ entries-end e (now (plan .entry)) at) ⌝ }
 {
     let absent = Row {
@@ -139,7 +168,7 @@ fn results_of(plan: &[u8], at: usize, figures: &[u32], paths: usize, n: usize, e
     let mut k: usize = 0;
     while k < e {
         let one = Row {
-            value: result_of(plan, next, figures, paths, n),
+            value: result_of(plan, next, figures, slots, paths, n),
         };
         rows[k] = one;
         next = eval::entry_end(plan, next);
@@ -149,11 +178,19 @@ fn results_of(plan: &[u8], at: usize, figures: &[u32], paths: usize, n: usize, e
 }
 
 // The final expression over the results of the e entries from `at` on.
-fn final_of(plan: &[u8], at: usize, figures: &[u32], paths: usize, n: usize, e: usize) -> Value
+fn final_of(
+    plan: &[u8],
+    at: usize,
+    figures: &[u32],
+    slots: [usize; 8],
+    paths: usize,
+    n: usize,
+    e: usize,
+) -> Value
     requires { ⌜ (n ≤ 256) × (e ≤ 8) ⌝ }
-    ensures { λ r. ⌜ r ≡ final-found e (now (plan .entry)) at (rows-at (now (figures .entry)) paths) n ⌝ }
+    ensures { λ r. ⌜ r ≡ final-found e (now (plan .entry)) at (rows-at (now (figures .entry)) slots paths) n ⌝ }
 {
-    let entries = results_of(plan, at, figures, paths, n, e);
+    let entries = results_of(plan, at, figures, slots, paths, n, e);
     let rows = entries.rows;
     let found = eval::evaluate(plan, rows, entries.end, 16);
     found.value
@@ -172,14 +209,20 @@ fn single(value: Value) -> [Row; 256]
 }
 
 // The rows of the plan's body, of the figures at n vertices (256 where n is above), absent ones behind them: by its kind those of the one entry, or one.
-pub fn body_rows(plan: &[u8], figures: &[u32], paths: usize, n: usize) -> [Row; 256]
-    ensures { λ r. ⌜ r ≡ many (body-found (now (plan .entry)) (rows-at (now (figures .entry)) paths) (min n 256)) ⌝ }
+pub fn body_rows(
+    plan: &[u8],
+    figures: &[u32],
+    slots: [usize; 8],
+    paths: usize,
+    n: usize,
+) -> [Row; 256]
+    ensures { λ r. ⌜ r ≡ many (body-found (now (plan .entry)) (rows-at (now (figures .entry)) slots paths) (min n 256)) ⌝ }
 {
     let count = wire::lesser(n, 256);
     let at = plan::count_at(plan);
     if wire::byte(plan, 5) == 0 {
-        return entry_rows(plan, at + 1, figures, paths, count);
+        return entry_rows(plan, at + 1, figures, slots, paths, count);
     }
     let e = wire::lesser(wide(wire::byte(plan, at)), 8);
-    single(final_of(plan, at + 1, figures, paths, count, e))
+    single(final_of(plan, at + 1, figures, slots, paths, count, e))
 }

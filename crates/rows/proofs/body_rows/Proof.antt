@@ -32,7 +32,7 @@ returns : tie.Need-returns
 returns c =
     let a = c .before .before .before .before .before .before .before .args in
     let plan : List ℕ = a .plan .now in
-    let F : ℕ → List Row = rows-at (a .figures .now) (a .paths) in
+    let F : ℕ → List Row = rows-at (a .figures .now) (a .slots) (a .paths) in
     let at = c .before .before .before .count-at .ensures .0 in
     let count = c .before .before .before .before .lesser .ensures .0 in
     let kind = sym (c .before .before .byte .ensures) ∙ c .before .if1 .taken in
@@ -61,7 +61,7 @@ returns-2 : tie.Need-returns-2
 returns-2 c =
     let a = c .before .before .before .before .before .before .before .before .before .before .before .args in
     let plan : List ℕ = a .plan .now in
-    let F : ℕ → List Row = rows-at (a .figures .now) (a .paths) in
+    let F : ℕ → List Row = rows-at (a .figures .now) (a .slots) (a .paths) in
     let at = c .before .before .before .before .before .before .before .count-at .ensures .0 in
     let count = c .before .before .before .before .before .before .before .before .lesser .ensures .0 in
     let kind = c .before .before .before .before .before .before .byte .ensures in

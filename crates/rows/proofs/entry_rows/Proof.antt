@@ -16,15 +16,15 @@ use Rattle.rows.proofs.entry_rows.Statement.{statement}
 use Rattle.rows.proofs.entry_rows.Tie as tie
 
 abbrev Inv-loop : tie.InvT-loop
-Inv-loop plan at figures paths n rows₀ v₀ rows v = (v ≤ n) × (rows ≡ filled 256 (entry-row plan (rows-at figures paths) at) (row Absent) v)
+Inv-loop plan at figures slots paths n rows₀ v₀ rows v = (v ≤ n) × (rows ≡ filled 256 (entry-row plan (rows-at figures slots paths) at) (row Absent) v)
 
 abbrev μ-loop : tie.MeasureT-loop
-μ-loop plan at figures paths n rows₀ v₀ rows v = n - v
+μ-loop plan at figures slots paths n rows₀ v₀ rows v = n - v
 
 loop-holds : tie.Need-loop-holds Inv-loop μ-loop
 loop-holds c =
     let a = c .before .before .args in
-    (omega arith, sym (fill-none 256 (entry-row (a .plan .now) (rows-at (a .figures .now) (a .paths)) (a .at)) (row Absent)))
+    (omega arith, sym (fill-none 256 (entry-row (a .plan .now) (rows-at (a .figures .now) (a .slots) (a .paths)) (a .at)) (row Absent)))
 
 mul-rows : tie.Need-mul-rows Inv-loop μ-loop
 mul-rows c = omega (arith, c .before .before .before .before .before .pre)
@@ -37,7 +37,7 @@ loop-again c =
     let s = c .before .before .before .before .before in
     let a = s .args in
     let l = c .before .before .loop in
-    let F : ℕ → List Row = rows-at (a .figures .now) (a .paths) in (
+    let F : ℕ → List Row = rows-at (a .figures .now) (a .slots) (a .paths) in (
       omega arith,
       ap₂ (λ (rows : List Row) (value : Value). set rows (l .v) (row value)) (l .inv .1) (c .entry-value .ensures)
           ∙ fill-next 256 (entry-row (a .plan .now) F (a .at)) (row Absent) (l .v) (omega (arith, s .pre)),
@@ -47,7 +47,7 @@ returns : tie.Need-returns Inv-loop μ-loop
 returns c =
     let a = c .before .before .before .before .args in
     let l = c .before .loop in
-    let F : ℕ → List Row = rows-at (a .figures .now) (a .paths) in
+    let F : ℕ → List Row = rows-at (a .figures .now) (a .slots) (a .paths) in
     let e : l .v ≡ a .n = omega arith in
     l .inv .1 ∙ ap (filled 256 (entry-row (a .plan .now) F (a .at)) (row Absent)) e ∙ sym (entry-filled (a .plan .now) F (a .n) (a .at))
 

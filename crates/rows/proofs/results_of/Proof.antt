@@ -16,19 +16,19 @@ use Rattle.rows.proofs.results_of.Statement.{statement}
 use Rattle.rows.proofs.results_of.Tie as tie
 
 abbrev Inv-loop : tie.InvT-loop
-Inv-loop plan at figures paths n e rows₀ next₀ k₀ rows next k =
+Inv-loop plan at figures slots paths n e rows₀ next₀ k₀ rows next k =
     (k ≤ e) × (next ≡ entries-end k plan at)
-    × (rows ≡ filled 8 (result-row plan (rows-at figures paths) n at) (row Absent) k)
+    × (rows ≡ filled 8 (result-row plan (rows-at figures slots paths) n at) (row Absent) k)
 
 abbrev μ-loop : tie.MeasureT-loop
-μ-loop plan at figures paths n e rows₀ next₀ k₀ rows next k = e - k
+μ-loop plan at figures slots paths n e rows₀ next₀ k₀ rows next k = e - k
 
 loop-holds : tie.Need-loop-holds Inv-loop μ-loop
 loop-holds c =
     let a = c .before .before .args in (
       omega arith,
       end-none (a .plan .now) (a .at),
-      sym (fill-none 8 (result-row (a .plan .now) (rows-at (a .figures .now) (a .paths)) (a .n) (a .at)) (row Absent)),
+      sym (fill-none 8 (result-row (a .plan .now) (rows-at (a .figures .now) (a .slots) (a .paths)) (a .n) (a .at)) (row Absent)),
     )
 
 result-of-requires : tie.Need-result-of-requires Inv-loop μ-loop
@@ -55,7 +55,7 @@ loop-again c =
     let a = s .args in
     let l = c .before .before .before .loop in
     let plan : List ℕ = a .plan .now in
-    let F : ℕ → List Row = rows-at (a .figures .now) (a .paths) in
+    let F : ℕ → List Row = rows-at (a .figures .now) (a .slots) (a .paths) in
     let next = c .entry-end .ensures ∙ ap (entry-end plan) (l .inv .1) ∙ end-next plan (l .k) (a .at)
     ∙ ap (λ (k : ℕ). entries-end k plan (a .at)) (sym (add-one (l .k))) in
     let one = c .before .result-of .ensures ∙ ap (result-at plan F (a .n)) (l .inv .1) in (
@@ -70,7 +70,7 @@ returns c =
     let a = c .before .before .before .before .args in
     let l = c .before .loop in
     let plan : List ℕ = a .plan .now in
-    let F : ℕ → List Row = rows-at (a .figures .now) (a .paths) in
+    let F : ℕ → List Row = rows-at (a .figures .now) (a .slots) (a .paths) in
     let e : l .k ≡ a .e = omega arith in (
       l .inv .2 ∙ ap (filled 8 (result-row plan F (a .n) (a .at)) (row Absent)) e ∙ sym (results-filled plan F (a .n) (a .at) (a .e)),
       l .inv .1 ∙ ap (λ (k : ℕ). entries-end k plan (a .at)) e,

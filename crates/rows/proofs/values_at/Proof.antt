@@ -15,13 +15,16 @@ use Rattle.rows.proofs.values_at.Statement.{statement}
 use Rattle.rows.proofs.values_at.Tie as tie
 
 abbrev Inv-loop : tie.InvT-loop
-Inv-loop figures paths v count rows₀ j₀ rows j = (j ≤ count) × (rows ≡ filled 8 (value-row figures v) (row Absent) j)
+Inv-loop figures paths v slots count rows₀ j₀ rows j = (j ≤ count) × (rows ≡ filled 8 (value-row figures slots v) (row Absent) j)
 
 abbrev μ-loop : tie.MeasureT-loop
-μ-loop figures paths v count rows₀ j₀ rows j = count - j
+μ-loop figures paths v slots count rows₀ j₀ rows j = count - j
 
 loop-holds : tie.Need-loop-holds Inv-loop μ-loop
-loop-holds c = let a = c .before .before .args in (omega arith, sym (fill-none 8 (value-row (a .figures .now) (a .v)) (row Absent)))
+loop-holds c = let a = c .before .before .args in (omega arith, sym (fill-none 8 (value-row (a .figures .now) (a .t2) (a .v)) (row Absent)))
+
+array-read-value-at : tie.Need-array-read-value-at Inv-loop μ-loop
+array-read-value-at c = omega (arith, c .before .before .lesser .ensures .0)
 
 array-set-from-rows : tie.Need-array-set-from-rows Inv-loop μ-loop
 array-set-from-rows c = omega (arith, c .before .before .before .lesser .ensures .0)
@@ -30,7 +33,7 @@ loop-again : tie.Need-loop-again Inv-loop μ-loop
 loop-again c =
     let a = c .before .before .before .before .before .args in
     let l = c .before .before .loop in
-    let f : ℕ → Row = value-row (a .figures .now) (a .v) in
+    let f : ℕ → Row = value-row (a .figures .now) (a .t2) (a .v) in
     let one = c .value-at .ensures in (
       omega arith,
       ap₂ (λ (rows : List Row) (value : Value). set rows (l .j) (row value)) (l .inv .1) one
@@ -42,10 +45,10 @@ returns c =
     let a = c .before .before .before .before .args in
     let l = c .before .loop in
     let e : l .j ≡ min (a .paths) 8 = omega (arith, c .before .before .lesser .ensures .0) in
-    l .inv .1 ∙ ap (filled 8 (value-row (a .figures .now) (a .v)) (row Absent)) e ∙ sym (rows-at-filled (a .figures .now) (a .paths) (a .v))
+    l .inv .1 ∙ ap (filled 8 (value-row (a .figures .now) (a .t2) (a .v)) (row Absent)) e ∙ sym (rows-at-filled (a .figures .now) (a .t2) (a .paths) (a .v))
 
 pub values-at-spec : {M : Type 1} → statement M
 values-at-spec =
     tie.close
-    (tie.spec Inv-loop μ-loop (λ c κs. search needs) loop-holds (λ c κs. search needs) (λ c. search needs) array-set-from-rows (λ c. search needs)
-    (λ c. search needs) loop-again returns)
+    (tie.spec Inv-loop μ-loop (λ c κs. search needs) loop-holds (λ c. search needs) array-read-value-at (λ c κs. search needs) (λ c. search needs)
+    array-set-from-rows (λ c. search needs) (λ c. search needs) loop-again returns)

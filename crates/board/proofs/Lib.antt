@@ -1,0 +1,5 @@
+pub mod Rounds
+pub mod Slots
+pub mod Meant
+pub mod Loops
+pub mod Answers

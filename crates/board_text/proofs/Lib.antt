@@ -1,0 +1,4 @@
+pub mod Put
+pub mod Joint
+pub mod Reading
+pub mod Exact

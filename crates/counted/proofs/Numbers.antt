@@ -1,6 +1,6 @@
 -- A RUN IS DONE EXACTLY WHERE ITS NUMBER IS UNDER 65,536: what it leaves is shorter. Assumes nothing.
 use Prim.Native.Nat.{ℕ, _+_, _<_}
-use mathlib.Core.Path.{_≡_, refl, ap, _∙_}
+use mathlib.Core.Path.{_≡_, refl, sym, ap, _∙_, subst}
 use mathlib.Core.Bool.{Bool, true, false, cond}
 use mathlib.Core.List.{List}
 use native.Mathlib.Omega.{arith}
@@ -9,18 +9,25 @@ use lib.Dec.{ltb, eqb}
 use lib.ListN.{length}
 use Rattle.answer.specs.Answer.{encode}
 use Rattle.answer.proofs.Bytes.{count-most, encode-length}
+use Rattle.board.specs.Reply.{answers-of, board-reply, board-rounds}
+use Rattle.board.proofs.Meant.{board-judged, finish-short}
+use Rattle.board_text.specs.Board.{queries-of}
+use Rattle.board_text.specs.Steps.{board-scan}
 use Rattle.counters.specs.Counted.{counted-by}
 use Rattle.counters.specs.declared.Counters.{Counters}
 use Rattle.engine.specs.declared.Limit.{Limit}
 use Rattle.engine.specs.Run.{outcome, run-reply, sources-code}
+use Rattle.engine.specs.Steps.{run-code}
 use Rattle.engine.proofs.Every.{outcome-rows}
 use Rattle.graph.specs.Graph.{graph-code, graph-of}
 use Rattle.graph.proofs.Accepted.{accepted}
 use Rattle.plan.specs.Plan.{plan-code}
 use Rattle.plan.specs.Text.{kind-of}
 use Rattle.plan.specs.Tree.{plan-of}
-use Rattle.wire.specs.Wire.{Reply, Returned, at16, done, fitted, refused, reply-number, unless}
-use Rattle.counted.specs.Counted.{Counted, counters-after, is-done}
+use Rattle.wire.specs.Wire.{Bytes, Reply, Returned, at16, done, fitted, refused, reply-number, unless}
+use Rattle.counted.specs.declared.Way.{Way}
+use Rattle.counted.specs.declared.Way.the-variants.{Pull, Push, BoardPull, BoardPush}
+use Rattle.counted.specs.Counted.{Counted, asked-reply, is-done}
 
 -- a reply whose number tells
 abbrev Told : Reply → Type 0
@@ -60,13 +67,28 @@ told-run limit s m room =
       count-most (at16 m 5) (kind-of (p .body)) 256 (accepted m z .sizes .few-vertices) (omega arith),
     )))))
 
--- THE COUNTERS BY THE NUMBER ARE THOSE BY THE REPLY
-pub counted-told : (limit : Limit) (s m : List ℕ) (room : ℕ) (c : Counters) (n : ℕ) → n ≡ reply-number (run-reply limit s m room)
-    → counted-by c (ltb n 65536) ≡ counters-after (run-reply limit s m room) c
-counted-told limit s m room c n e = ap (λ (k : ℕ). counted-by c (ltb k 65536)) e ∙ ap (counted-by c) (told-run limit s m room)
+-- of a board: what it leaves is as short
+told-board : (limit : Limit) (b m : List ℕ) → Bytes b → Bytes m → (room : ℕ) → Told (board-reply limit b m room)
+told-board limit b m bb bm room =
+    subst Told (sym (board-judged limit b m bb room))
+    (told-unless (run-code (board-scan b) m) (fitted bs room) (λ z.
+    told-fitted bs room (omega (arith, finish-short b m bb bm z limit (board-rounds limit (graph-of m) (queries-of b))))))
+  where
+    bs : List ℕ
+    bs = answers-of limit (graph-of m) (board-rounds limit (graph-of m) (queries-of b)) (queries-of b)
+
+-- of whatever is asked for
+told : (way : Way) (limit : Limit) (s m : List ℕ) → Bytes s → Bytes m → (room : ℕ) → Told (asked-reply way limit s m room)
+told Pull limit s m bs bm room = told-run limit s m room
+told Push limit s m bs bm room = told-run limit s m room
+told BoardPull limit s m bs bm room = told-board limit s m bs bm room
+told BoardPush limit s m bs bm room = told-board limit s m bs bm room
 
 -- SO A RUN WHOSE END IS COUNTED BY ITS NUMBER IS A COUNTED RUN
-pub counted-run : (limit : Limit) (s m before : List ℕ) {after : List ℕ} (c : Counters) {k n : ℕ} {d : Counters}
-    → Returned (run-reply limit s m (length before)) k before after → (n ≡ k) × (d ≡ counted-by c (ltb k 65536))
-    → Counted (run-reply limit s m (length before)) n before after c d
-counted-run limit s m before c {k} run e = ((e .0 ∙ run .0, run .1), e .1 ∙ counted-told limit s m (length before) c k (run .0))
+pub counted-run : (way : Way) (limit : Limit) (s m before : List ℕ) {after : List ℕ} (c : Counters) {k n : ℕ} {d : Counters} → Bytes s → Bytes m
+    → Returned (asked-reply way limit s m (length before)) k before after → (n ≡ k) × (d ≡ counted-by c (ltb k 65536))
+    → Counted (asked-reply way limit s m (length before)) n before after c d
+counted-run way limit s m before c {k} bs bm run e = (
+  (e .0 ∙ run .0, run .1),
+  e .1 ∙ ap (λ (j : ℕ). counted-by c (ltb j 65536)) (run .0) ∙ ap (counted-by c) (told way limit s m bs bm (length before)),
+)

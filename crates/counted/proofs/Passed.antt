@@ -51,20 +51,20 @@ Args X = Way × (RefT (List ℕ) × (RefT (List ℕ) × (Limit × (RefT (List �
 abbrev pub Vals : Type 0
 Vals = List Val × (List Val × (List Val × (List Val × (List Val × (List Val × Unit {0})))))
 
-module _ (way : Way) (plan graph : RefT (List ℕ)) (limit : Limit) (out : RefT (List ℕ)) where
+module _ (way : Way) (asked graph : RefT (List ℕ)) (limit : Limit) (out : RefT (List ℕ)) where
   abbrev pub args : {X : Type 0} → X → Args X
-  args x = (way, (plan, (graph, (limit, (out, (x, tt))))))
+  args x = (way, (asked, (graph, (limit, (out, (x, tt))))))
 
   abbrev pub vals : Val → Vals
-  vals v = (way-val way ∷ [], (slice plan ∷ [], (slice graph ∷ [], (limit-val limit ∷ [], (slice out ∷ [], (v ∷ [], tt))))))
+  vals v = (way-val way ∷ [], (slice asked ∷ [], (slice graph ∷ [], (limit-val limit ∷ [], (slice out ∷ [], (v ∷ [], tt))))))
 
   abbrev pub passed : Val → List Val
-  passed v = way-val way ∷ slice plan ∷ slice graph ∷ limit-val limit ∷ slice out ∷ v ∷ []
+  passed v = way-val way ∷ slice asked ∷ slice graph ∷ limit-val limit ∷ slice out ∷ v ∷ []
 
   module _ (κ₁ κ₂ κ₃ : Lft) where
     abbrev pub Handed : Fml
     Handed = fsep (D.the-row .own way (way-val way ∷ []))
-        (fsep (ShrSlice (named 0) κ₁ u8 .own plan (slice plan ∷ []))
+        (fsep (ShrSlice (named 0) κ₁ u8 .own asked (slice asked ∷ []))
         (fsep (ShrSlice (named 1) κ₂ u8 .own graph (slice graph ∷ []))
         (fsep (L.the-row .own limit (limit-val limit ∷ [])) (MutSlice (named 2) κ₃ u8 .own out (slice out ∷ [])))))
 
@@ -81,7 +81,7 @@ module _ (way : Way) (plan graph : RefT (List ℕ)) (limit : Limit) (out : RefT 
             qed W (‵ Owned ∷ []) ∵
             fsplit ! $ move ! (1 ∷ []) $ fsplit ! $ move ! (1 ∷ []) $ fsplit ! $ move ! (1 ∷ []) $ fsplit ! $ move ! (1 ∷ []) $ fsplit ! $
             move ! (1 ∷ []) $ fsplit ! $
-            -- [the last; true; out; limit; graph; plan; way]
+            -- [the last; true; out; limit; graph; asked; way]
             move ! (3 ∷ 2 ∷ []) $ fjoin ! $ move ! (3 ∷ 0 ∷ []) $ fjoin ! $ move ! (3 ∷ 0 ∷ []) $ fjoin ! $ move ! (3 ∷ 0 ∷ []) $ fjoin ! $
             keep ! (0 ∷ 1 ∷ []) $ done !
 
@@ -90,6 +90,6 @@ module _ (way : Way) (plan graph : RefT (List ℕ)) (limit : Limit) (out : RefT 
             qed W (‵ Handed ∷ ‵ (R .own x (v ∷ [])) ∷ []) ∵
             nothing ! $ move ! (2 ∷ 0 ∷ []) $ fjoin ! $ move ! (1 ∷ []) $
             fsplit ! $ move ! (1 ∷ []) $ fsplit ! $ move ! (1 ∷ []) $ fsplit ! $ move ! (1 ∷ []) $ fsplit ! $
-            -- [limit; out; graph; plan; way; the last and true]
+            -- [limit; out; graph; asked; way; the last and true]
             move ! (1 ∷ 5 ∷ []) $ fjoin ! $ move ! (1 ∷ 0 ∷ []) $ fjoin ! $ move ! (1 ∷ 0 ∷ []) $ fjoin ! $ move ! (1 ∷ 0 ∷ []) $ fjoin ! $
             move ! (1 ∷ 0 ∷ []) $ fjoin ! $ done !

@@ -52,7 +52,7 @@ use Rattle.counters.specs.declared.Counters.{Counters}
 use Rattle.counters.proofs.Counters as T
 use Rattle.counters.proofs.Counters.Laws as T′
 use Rattle.engine.specs.declared.Limit.{Limit}
-use Rattle.engine.specs.Run.{run-reply}
+use Rattle.counted.specs.Counted.{asked-reply}
 use Rattle.engine.proofs.Limit as L
 use Rattle.engine.proofs.Limit.Laws as L′
 use Rattle.counted.specs.Counted.{Counted}
@@ -109,7 +109,7 @@ thin x y rest = record {
       rest)));
 }
 
--- as it is: the plan first, the graph second, and the run's counters stored
+-- as it is: the asked first, the graph second, and the run's counters stored
 abbrev function : Fn
 function = thin 2 3 stores
 
@@ -117,8 +117,8 @@ function = thin 2 3 stores
 abbrev way-slot : Slot 4
 way-slot = plain (λ _. D.the-row)
 
-abbrev plan-slot : Slot 4
-plan-slot = shrSliceOf (0 ∷ []) tt (plain (λ _. u8))
+abbrev asked-slot : Slot 4
+asked-slot = shrSliceOf (0 ∷ []) tt (plain (λ _. u8))
 
 abbrev graph-slot : Slot 4
 graph-slot = shrSliceOf (1 ∷ []) tt (plain (λ _. u8))
@@ -131,7 +131,7 @@ abbrev stayed : Stays (counted-run.ended .signature .params) (counted-run.ended 
 stayed = (
   stay-dropped way-slot yes,
   (
-    stay-dropped plan-slot yes,
+    stay-dropped asked-slot yes,
     (
       stay-dropped graph-slot yes,
       (stay-dropped limit-slot yes, (gave-slice (2 ∷ []) tt (plain (λ _. u8)), (stay-ref (3 ∷ []) tt (plain (λ _. T.the-row)), tt))),
@@ -151,7 +151,7 @@ module _ {M : Type 1} (𝓤 : URA M) (H : Heap 𝓤) (A : Atoms 𝓤) (W : Given
   Called = ByValue 𝓤 H A at-mem run
 
   module _ (κs : Lfts 4) (qs : Share × (Share × (Share × (Share × Unit {0})))) (bounds : AllOutlive 4 (counted-run.signature .outlives) κs)
-      (way : Way) (plan graph : RefT (List ℕ)) (limit : Limit) (out : RefT (List ℕ)) (lent : RefT Counters) where
+      (way : Way) (asked graph : RefT (List ℕ)) (limit : Limit) (out : RefT (List ℕ)) (lent : RefT Counters) where
     -- the lifetimes of the four references
     abbrev κ₁ : Lft
     κ₁ = κs .0
@@ -177,17 +177,17 @@ module _ {M : Type 1} (𝓤 : URA M) (H : Heap 𝓤) (A : Atoms 𝓤) (W : Given
 
     -- what the parameters before the counters own
     abbrev Handed : Fml
-    Handed = P.Handed way plan graph limit out κ₁ κ₂ κ₃
+    Handed = P.Handed way asked graph limit out κ₁ κ₂ κ₃
 
     -- what the function is passed, and the machine values
     abbrev args : {X : Type 0} → X → Args X
-    args = P.args way plan graph limit out
+    args = P.args way asked graph limit out
 
     abbrev vals : Val → Vals
-    vals = P.vals way plan graph limit out
+    vals = P.vals way asked graph limit out
 
     abbrev passed : List Val
-    passed = P.passed way plan graph limit out (vptr b o)
+    passed = P.passed way asked graph limit out (vptr b o)
 
     -- the run by value has the slices' three tokens
     abbrev κs′ : Lfts 3
@@ -201,7 +201,7 @@ module _ {M : Type 1} (𝓤 : URA M) (H : Heap 𝓤) (A : Atoms 𝓤) (W : Given
 
     -- what the run by value, and this function, say of the end and of the buffer's last list
     abbrev Said : Ended → List ℕ → Type 0
-    Said r zs = Counted (run-reply limit (plan .now) (graph .now) (length (out .now))) (r .number) (out .now) zs before (r .counters)
+    Said r zs = Counted (asked-reply way limit (asked .now) (graph .now) (length (out .now))) (r .number) (out .now) zs before (r .counters)
 
     -- the end: what is left over
     abbrev Left : Ended → List ℕ → List (Item 𝓤)
@@ -241,25 +241,25 @@ module _ {M : Type 1} (𝓤 : URA M) (H : Heap 𝓤) (A : Atoms 𝓤) (W : Given
     goes-call =
         qed W Passed ∵
         move ! (1 ∷ 2 ∷ []) $
-        use2 W (‵ (P.Owned way plan graph limit out κ₁ κ₂ κ₃ T.the-row before (val-of before)))
-        (P.together way plan graph limit out κ₁ κ₂ κ₃ T.the-row before (val-of before) 𝓤 H A W) $
+        use2 W (‵ (P.Owned way asked graph limit out κ₁ κ₂ κ₃ T.the-row before (val-of before)))
+        (P.together way asked graph limit out κ₁ κ₂ κ₃ T.the-row before (val-of before) 𝓤 H A W) $
         move ! (1 ∷ 0 ∷ []) $ join ! $ frame ! $ done !
 
     module _ (C : Calls 𝓤 H) (Λ : Loops 𝓤 H) (fm : FmC 𝓤 H (W .laws) C) (known : Triple 𝓤 (C by-value-def.name) Called) where
-      walk : Is D.the-row way (way-val way ∷ []) → Is (ShrSlice (named 0) κ₁ u8) plan (slice plan ∷ [])
+      walk : Is D.the-row way (way-val way ∷ []) → Is (ShrSlice (named 0) κ₁ u8) asked (slice asked ∷ [])
           → Is (ShrSlice (named 1) κ₂ u8) graph (slice graph ∷ []) → Is L.the-row limit (limit-val limit ∷ []) → Room u8 (length (out .now))
           → ent 𝓤 (onEntry 𝓤 H A counted-run.signature κs qs (args lent) (vals (vptr b o))) (WpFn 𝓤 H C Λ function passed Post)
-      walk way-is plan-is graph-is limit-is room =
+      walk way-is asked-is graph-is limit-is room =
           qed W
           ((‵ (flft κ₁ (qs .0)) ⊛ ‵ (flft κ₂ (qs .1 .0)) ⊛ ‵ (flft κ₃ (qs .1 .1 .0)) ⊛ ‵ (flft κ₄ (qs .1 .1 .1 .0)) ⊛ ‵ ftrue)
-          ∷ ‵ (P.Owned way plan graph limit out κ₁ κ₂ κ₃ (MutRef (named 3) κ₄ T.the-row) lent (vptr b o))
+          ∷ ‵ (P.Owned way asked graph limit out κ₁ κ₂ κ₃ (MutRef (named 3) κ₄ T.the-row) lent (vptr b o))
           ∷ []) ∵
           -- the run's three tokens together, and that of the counters
           split ! $ move ! (1 ∷ []) $ split ! $ move ! (1 ∷ []) $ split ! $ move ! (1 ∷ []) $ split ! $
           move ! (2 ∷ 1 ∷ []) $ join ! $ move ! (2 ∷ 0 ∷ []) $ join ! $ move ! (2 ∷ 0 ∷ []) $ join ! $
           -- what the parameters own: the counters' borrow, and the rest together
           move ! (2 ∷ []) $ use1 W (‵ Handed ⊛ ‵ (MutRef (named 3) κ₄ T.the-row .own lent (vptr b o ∷ [])))
-          (P.apart way plan graph limit out κ₁ κ₂ κ₃ (MutRef (named 3) κ₄ T.the-row) lent (vptr b o) 𝓤 H A W) $ split ! $
+          (P.apart way asked graph limit out κ₁ κ₂ κ₃ (MutRef (named 3) κ₄ T.the-row) lent (vptr b o) 𝓤 H A W) $ split ! $
           move ! (1 ∷ []) $ fsplit3 ! $ drop ! $ move ! (0 ∷ 1 ∷ 4 ∷ 3 ∷ 2 ∷ []) $
           -- [obs; the borrow; the counters' token; Tokens; Handed]
           enter ! C Λ function passed _ $
@@ -267,7 +267,7 @@ module _ {M : Type 1} (𝓤 : URA M) (H : Heap 𝓤) (A : Atoms 𝓤) (W : Given
           alloc1 ! (λ l₁. alloc1 ! (λ l₂. alloc1 ! (λ l₃. alloc1 ! (λ l₄. alloc1 ! (λ l₅. alloc1 ! (λ l₆. alloc1 ! (λ l₇.
           alloc1 ! (λ l₈. alloc1 ! (λ l₉. alloc1 ! (λ l₁₀. alloc0 ! $ params1 ! $
           pass1 ! (init ! 18 refl (EL.lawful D.the-type D′.the-laws 𝓤 H A W tt .typed way _ way-is .0)) $
-          pass1 ! (init ! 16 refl (shr-slice-lawful 𝓤 H A W (named 0) κ₁ u8 .typed plan (slice plan ∷ []) plan-is .0)) $
+          pass1 ! (init ! 16 refl (shr-slice-lawful 𝓤 H A W (named 0) κ₁ u8 .typed asked (slice asked ∷ []) asked-is .0)) $
           pass1 ! (init ! 14 refl (shr-slice-lawful 𝓤 H A W (named 1) κ₂ u8 .typed graph (slice graph ∷ []) graph-is .0)) $
           pass1 ! (init ! 12 refl (EL.lawful L.the-type L′.the-laws 𝓤 H A W tt .typed limit _ limit-is .0)) $
           pass1 ! (init ! 10 refl (tt, (tt, (record { fits = room .0 }, tt)))) $ pass1 ! (init ! 8 refl (tt, tt)) $ pass0 ! $
@@ -354,7 +354,7 @@ module _ {M : Type 1} (𝓤 : URA M) (H : Heap 𝓤) (A : Atoms 𝓤) (W : Given
   goes = (
     goes-dropped 𝓤 H A W 4 way-slot yes (λ κs x f. refl),
     (
-      goes-dropped 𝓤 H A W 4 plan-slot yes (λ κs x f. refl),
+      goes-dropped 𝓤 H A W 4 asked-slot yes (λ κs x f. refl),
       (
         goes-dropped 𝓤 H A W 4 graph-slot yes (λ κs x f. refl),
         (
@@ -365,11 +365,11 @@ module _ {M : Type 1} (𝓤 : URA M) (H : Heap 𝓤) (A : Atoms 𝓤) (W : Given
     ),
   )
 
-  -- A FUNCTION OF THIS SHAPE MEETS THE CONTRACT, if it hands on the plan first and the graph second, and then stores the counters that it is returned
+  -- A FUNCTION OF THIS SHAPE MEETS THE CONTRACT, if it hands on the asked first and the graph second, and then stores the counters that it is returned
   thin-meets : (x y : ℕ) (rest : Code) (𝓣 : Tables 𝓤 H) → Triple 𝓤 (𝓣 .C by-value-def.name) Called → x ≡ 2 → y ≡ 3 → rest ≡ stores
       → Meets 𝓤 H A counted-run.signature (WpFn 𝓤 H (𝓣 .C) (𝓣 .Λ) (thin x y rest)) (counted-run.spec 𝓤 H A at-mem run)
-  thin-meets x y rest 𝓣 known plan-first graph-second stored =
-      rw (plan-first, graph-second, stored)
+  thin-meets x y rest 𝓣 known asked-first graph-second stored =
+      rw (asked-first, graph-second, stored)
       (walk-meets 𝓤 H A counted-run.ended stayed W goes clauses (WpFn 𝓤 H (𝓣 .C) (𝓣 .Λ) function) (WpFn-mono 𝓤 H (W .laws) 𝓣 function)
       (run-walks (𝓣 .C) (𝓣 .Λ) (fmOf 𝓤 H (W .laws) 𝓣) known))
 

@@ -1,6 +1,11 @@
 -- The trials and the samples hold, by computation. Assumes nothing.
 use mathlib.Core.Path.{_≡_, refl}
 use mathlib.Core.List.{map}
+use Rattle.answer.specs.Answer.{rows-bytes}
+use Rattle.board.specs.Reply.{board-reply, board-rounds}
+use Rattle.board_text.specs.Board.{board-code, count-code, first-code, queries-of}
+use Rattle.engine.specs.Run.{sources-code}
+use Rattle.graph.specs.Graph.{counts-code, edge-code, edges-code, edges-in, graph-code}
 use Rattle.meaning.specs.Run.{pull, push, run, stopped}
 use Rattle.query.specs.Query.{query-code, query-scan}
 use Rattle.query.specs.Tree.{query-of}
@@ -19,6 +24,7 @@ use Rattle.value.specs.Value.{combine, compute}
 use Rattle.walks.specs.Keys.{key-row}
 use Rattle.walks.specs.Rounds.{best, first, gather, marked, rounds, state}
 use Rattle.wire.specs.Header.{header-code}
+use Rattle.trials.specs.Boards.{Asked, judged, replied, replies}
 use Rattle.trials.specs.Samples.{Reading, Run, fusings, outcome-by, queries, runs, samples, plans}
 use Rattle.trials.specs.Trials.{finding, stated, trials}
 
@@ -47,3 +53,12 @@ unfolding query-scan header-code ended started blank read term-step leaf-step li
     with-first key-row plan-scan listed-scan listed-step listed-code listed-keys-code listed-starts-code listed-at listed-end body-scan moved entries-scan
     entry-scan expressions-scan final-scan
 numbers-hold = (refl, refl)
+
+-- boards: the numbers that judging them gives, and what they are answered
+pub boards-hold : (map (λ (r : Reading). board-code (r .bytes)) judged ≡ map (λ (r : Reading). r .number) judged)
+    × (map replied replies ≡ map (λ (a : Asked). a .reply) replies)
+unfolding board-code queries-of first-code count-code query-scan header-code ended started blank read term-step leaf-step literal-tag path-step path-code
+    key-fields-code keys-code kept-path slot-of same-packed advanced path-at keys-at one-source reduce-step apply-step literal-step key-row query-of
+    query-term-of written-path written-reduction board-reply board-rounds graph-code counts-code edges-code edge-code edges-in sources-code run stopped rounds first state gather best compute combine
+    rows-bytes
+boards-hold = (refl, refl)

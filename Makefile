@@ -6,8 +6,8 @@
 PREFIX ?= /usr/local
 OBJCOPY ?= objcopy
 VERSION = 1.0
-HEADERS = include/grafs.h include/grafs_build.h
-LIBRARIES = build/libgrafs.a build/libgrafs_prefixed.a
+HEADERS = include/grafs.h include/grafs_build.h include/grafs_service.h
+LIBRARIES = build/libgrafs.a build/libgrafs_prefixed.a build/libservice.a
 
 .PHONY: all lib program try test install clean
 all: lib program
@@ -16,12 +16,12 @@ all: lib program
 PROVE = prove() { { rt check "$$@"; echo $$? >build/status; } 2>&1 | tee build/log | sed -un '/^rt: /{/unchanged/!p}'; \
 	test "$$(cat build/status)" = 0 || { cat build/log; false; }; }; prove
 
-# The archive, and the same with names that a program with a `run` of its own can link. Copies: .ci/run removes target/.
+# The archive, the same with names that a program with a `run` of its own can link, and the one of all calls. Copies: .ci/run removes target/.
 lib:
 	@mkdir -p build
-	@$(PROVE) grafs
-	@rt staticlib grafs >build/log 2>&1 || { cat build/log; false; }
-	cp target/staticlib/libgrafs.a build/libgrafs.a
+	@$(PROVE) grafs service
+	@for crate in grafs service; do rt staticlib $$crate >build/log 2>&1 || { cat build/log; exit 1; }; done
+	cp target/staticlib/libgrafs.a target/staticlib/libservice.a build
 	$(OBJCOPY) --redefine-sym fuse=grafs_fuse --redefine-sym run=grafs_run build/libgrafs.a build/libgrafs_prefixed.a
 
 program:
@@ -37,15 +37,17 @@ try:
 test:
 	.ci/run
 
-# A pkg-config file: prefix, name, version, further flags, archive.
-PC = printf 'prefix=%s\nName: %s\nDescription: Verified graph queries: fuse and run\nVersion: %s\nCflags: -I$${prefix}/include%s\nLibs: -L$${prefix}/lib -l%s\n'
+# A pkg-config file: prefix, name, what it has, version, further flags, archive.
+PC = printf 'prefix=%s\nName: %s\nDescription: Verified graph queries: %s\nVersion: %s\nCflags: -I$${prefix}/include%s\nLibs: -L$${prefix}/lib -l%s\n'
+PC_DIR = '$(DESTDIR)$(PREFIX)/lib/pkgconfig'
 
 install: lib
-	install -d '$(DESTDIR)$(PREFIX)/include' '$(DESTDIR)$(PREFIX)/lib/pkgconfig'
+	install -d '$(DESTDIR)$(PREFIX)/include' $(PC_DIR)
 	install -m 644 $(HEADERS) '$(DESTDIR)$(PREFIX)/include'
 	install -m 644 $(LIBRARIES) '$(DESTDIR)$(PREFIX)/lib'
-	@$(PC) '$(PREFIX)' grafs $(VERSION) '' grafs >'$(DESTDIR)$(PREFIX)/lib/pkgconfig/grafs.pc'
-	@$(PC) '$(PREFIX)' grafs_prefixed $(VERSION) ' -DGRAFS_PREFIXED' grafs_prefixed >'$(DESTDIR)$(PREFIX)/lib/pkgconfig/grafs_prefixed.pc'
+	@$(PC) '$(PREFIX)' grafs 'fuse and run' $(VERSION) '' grafs >$(PC_DIR)/grafs.pc
+	@$(PC) '$(PREFIX)' grafs_prefixed 'fuse and run' $(VERSION) ' -DGRAFS_PREFIXED' grafs_prefixed >$(PC_DIR)/grafs_prefixed.pc
+	@$(PC) '$(PREFIX)' grafs_service 'fuse, run, boards, counted runs' $(VERSION) '' service >$(PC_DIR)/grafs_service.pc
 
 clean:
 	rm -rf build target

@@ -8,5 +8,6 @@ cd "$(dirname "$0")/.."
 dir=target/bench
 mkdir -p "$dir"
 objcopy --redefine-sym run=old_run --redefine-sym fuse=old_fuse "$old" "$dir/old.a"
-gcc -std=gnu11 -O3 -Wall -Wextra -Werror -Iinclude bench/*.c tests/differential/plain.c "$new" -Wl,-u,old_run "$dir/old.a" -lm -Wl,-z,now -o "$dir/ratio"
+gcc -std=gnu11 -O3 -Wall -Wextra -Werror -Iinclude bench/bench.c bench/by_hand.c bench/desk.c bench/samples.c tests/differential/plain.c "$new" \
+    -Wl,-u,old_run "$dir/old.a" -lm -Wl,-z,now -o "$dir/ratio"
 "$dir/ratio" ratio "${3:-101}"

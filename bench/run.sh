@@ -13,7 +13,8 @@ fi
 dir=target/bench
 mkdir -p "$dir"
 # Bound at the start of the program: else the first call of memset would count the search for it.
-gcc -std=gnu11 -O3 -Wall -Wextra -Werror -Iinclude bench/*.c tests/differential/plain.c "$lib" -lm -Wl,-z,now -o "$dir/bench"
+gcc -std=gnu11 -O3 -Wall -Wextra -Werror -Iinclude bench/bench.c bench/by_hand.c bench/desk.c bench/samples.c tests/differential/plain.c "$lib" \
+    -lm -Wl,-z,now -o "$dir/bench"
 
 echo "$(gcc --version | head -n 1), -O3;$(grep -m 1 'model name' /proc/cpuinfo | cut -d : -f 2); load average before the run $(cut -d ' ' -f 1 /proc/loadavg)"
 echo

@@ -1,5 +1,5 @@
 /* The two calls of the tag desk: a question is fused into a worksheet, a worksheet is run on a map and leaves an answer.
- * docs/FORMATS.md has the four formats byte by byte; grafs_build.h writes and reads them.
+ * docs/FORMATS.md has the four formats byte by byte; grafs_build.h writes and reads them; grafs_service.h has further calls, of another archive.
  *
  * A result under GRAFS_REFUSAL is the number of bytes written, and they stand first in `out`; the rest of `out` is as it was.
  * Otherwise the result is GRAFS_REFUSAL plus a number of enum grafs_number, and not one byte of `out` has changed.
@@ -61,7 +61,7 @@ enum grafs_worksheet {
 
 enum grafs_number {
     GRAFS_DONE = 0,          /* everything written */
-    GRAFS_SHORT = 1,         /* a header, field or term lacks bytes */
+    GRAFS_SHORT = 1,         /* a header, field, term or question of a board lacks bytes */
     GRAFS_MARK = 2,          /* the three letters differ */
     GRAFS_VERSION = 3,       /* not 1, nor for a worksheet 2 */
     GRAFS_PLACES = 4,        /* n is 0 or above 256 */
@@ -72,9 +72,9 @@ enum grafs_number {
     GRAFS_CODE = 9,          /* an illegal kind, term, key count, key, set count, operator, reduction or filler byte, or kind 0 with e other than 1 */
     GRAFS_KEY_ORDER = 10,    /* key 5 or 6 before the last */
     GRAFS_DEEP = 11,         /* a term at depth 17 */
-    GRAFS_TERMS = 12,        /* a 65th term */
+    GRAFS_TERMS = 12,        /* a 65th term, or no question or a ninth on a board */
     GRAFS_START = 13,        /* start 256 to 65,534, in a set 65,535 too, or at a run n or more other than 65,535 */
-    GRAFS_FULL_SHEET = 14,   /* a ninth chain or reduction */
+    GRAFS_FULL_SHEET = 14,   /* a ninth chain, of a board too, or a ninth reduction */
     GRAFS_BUFFER_SHORT = 15, /* the bytes to be written exceed the lent length */
     GRAFS_NO_SUCH_ROW = 16,  /* an index not below its count */
     GRAFS_STARTS_ORDER = 17  /* a start of a set that is not above the one before */

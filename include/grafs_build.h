@@ -1,7 +1,8 @@
-/* Questions and maps written, answers read, worksheets shown as text. C11 and C++11, nothing to link but what grafs.h declares.
+/* Questions, boards and maps written, answers read, worksheets shown as text. C11 and C++11, nothing to link but what grafs.h declares, and for boards
+ * grafs_service.h.
  *
  * No function here touches a byte outside the buffers that it is lent, whatever their length and whatever bytes they hold.
- * Nothing here judges a question or a map: fuse and run do, and say by number what is wrong (grafs_name). */
+ * Nothing here judges a question, a board or a map: the calls do, and say by number what is wrong (grafs_name). */
 #ifndef GRAFS_BUILD_H
 #define GRAFS_BUILD_H
 
@@ -136,6 +137,35 @@ static inline void grafs_reduction_where(grafs_question *q, uint64_t reduction) 
 static inline void grafs_result_literal(grafs_question *q, uint64_t x) { grafs_tagged(q, GRAFS_TERM_RESULT_LITERAL, x, 4); }
 static inline void grafs_result_operator(grafs_question *q, uint64_t op) { grafs_tagged(q, GRAFS_TERM_RESULT_OPERATOR, op, 1); }
 
+/* ---------------------------------------------------------------------------------------------------------------------- boards
+ * Questions are counted as they are put on the board, each behind its length. GRAFS_BOARD_MAX bytes (grafs_service.h) are room enough for every board that
+ * is accepted. */
+typedef struct {
+    grafs_bytes file;
+    uint64_t questions;
+} grafs_board;
+
+static inline grafs_board grafs_begin_board(uint8_t *bytes, size_t room)
+{
+    grafs_board b = { { bytes, room, 0, 0 }, 0 };
+    grafs_put(&b.file, 0, 1);
+    return b;
+}
+
+/* One of 0 bytes, as grafs_end_question gives where there is no question, is put as such: a board with it is refused. */
+static inline void grafs_board_question(grafs_board *b, const uint8_t *question, size_t len)
+{
+    grafs_put(&b->file, len, 2);
+    for (size_t i = 0; i < len; i++)
+        grafs_put(&b->file, question[i], 1);
+    b->questions++;
+    b->file.too_wide |= b->questions > 255;
+    grafs_set(&b->file, 0, b->questions);
+}
+
+/* As grafs_end_question. */
+static inline size_t grafs_end_board(const grafs_board *b) { return grafs_end(&b->file); }
+
 /* ---------------------------------------------------------------------------------------------------------------------- maps
  * Passages are counted as they are written. GRAFS_MAP_MAX bytes are room enough for every map that is accepted. */
 typedef struct {
@@ -225,6 +255,22 @@ static inline int grafs_read_answer(grafs_answer *a, const uint8_t *bytes, size_
     a->kind = kind;
     a->rows = rows;
     a->bytes = bytes + 10;
+    return 1;
+}
+
+/* The answers of a board stand one behind the other. Whether there is one from *at on; then `a` is set and *at moved behind it. Begun at 0 it is at the end of
+ * `len` bytes when it has read them all; a refusal taken for a length has no answers.
+ *
+ *     for (size_t at = 0; grafs_next_answer(&a, bytes, len, &at);) .. */
+static inline int grafs_next_answer(grafs_answer *a, const uint8_t *bytes, size_t len, size_t *at)
+{
+    if (len >= GRAFS_REFUSAL || *at > len || len - *at < 10)
+        return 0;
+    const uint8_t *head = bytes + *at;
+    size_t size = 10 + 9 * (head[9] == GRAFS_KIND_EACH ? (size_t)grafs_get(head + 5, 2) : 1);
+    if (size > len - *at || !grafs_read_answer(a, head, size))
+        return 0;
+    *at += size;
     return 1;
 }
 

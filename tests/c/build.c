@@ -1,8 +1,9 @@
 /* grafs_build.h on the case files of crate `cases`, and on questions with a condition and from sets: every accepted question and map is built again,
  * byte for byte, in every shorter room and in longer ones; every answer is read, and what was read is laid out again; every worksheet is shown, whatever
- * its bytes. The calls are made on them too. Buffers stand on the heap in their exact lengths, so that a sanitizer sees any step outside.
- * Compiled as C and as C++. */
+ * its bytes; questions are put on boards, and answers that stand one behind the other are read one by one. The calls are made on them too. Buffers stand on
+ * the heap in their exact lengths, so that a sanitizer sees any step outside. Compiled as C and as C++. */
 #include "case_files.h"
+#include "grafs_service.h"
 
 static const char *const names[] = { "done", "short", "mark", "version", "places", "passages", "length", "no such place", "crate", "code", "key order",
     "deep", "terms", "start", "full sheet", "buffer short", "no such row", "starts order" };
@@ -153,6 +154,131 @@ static void try_no_answers(void)
     expect(!grafs_read_answer(&a, head, GRAFS_REFUSAL + GRAFS_BUFFER_SHORT), "a refusal for a length", 0);
     free(head);
     expect(!grafs_read_answer(&a, NULL, 0), "no bytes", 0);
+}
+
+/* ---------------------------------------------------------------------------------------------------------------------- boards */
+static const uint8_t from_0[] = { 'L', 'P', 'Q', 1, 0, 0, 0x10, 1, 2, 0, 0 }, seven[] = { 'L', 'P', 'Q', 1, 0, 1, 0x21, 7, 0, 0, 0 };
+
+/* So many questions by turns, put on a board in some room. */
+static size_t board_again(unsigned count, uint8_t *room, size_t len)
+{
+    grafs_board b = grafs_begin_board(room, len);
+    for (unsigned i = 0; i < count; i++) {
+        uint8_t *question = copy_of(i % 2 ? seven : from_0, 11);
+        grafs_board_question(&b, question, i % 3 == 2 ? 0 : 11);
+        free(question);
+    }
+    expect(b.questions == count, "questions of a board", count);
+    return grafs_end_board(&b);
+}
+
+/* The same as bytes, every third question of no bytes; in every room from none to three bytes too many. */
+static void try_board(unsigned count)
+{
+    uint8_t want[1 + 13 * 255];
+    size_t size = 0;
+    want[size++] = (uint8_t)count;
+    for (unsigned i = 0; i < count; i++) {
+        size_t len = i % 3 == 2 ? 0 : 11;
+        want[size++] = (uint8_t)len;
+        want[size++] = 0;
+        memcpy(want + size, i % 2 ? seven : from_0, len);
+        size += len;
+    }
+    for (size_t room = 0; room <= size + 3; room++) {
+        uint8_t *out = filled_room(room);
+        size_t n = board_again(count, out, room);
+        expect(n == (room < size ? 0 : size), "length of a board", count);
+        expect(room < size || !memcmp(out, want, size), "bytes of a board", count);
+        expect(room <= size || still_filled(out + size, room - size), "behind a board", count);
+        free(out);
+    }
+}
+
+/* A question's length and the count of a board at the greatest that their fields take, and one more. */
+static void try_wide_boards(void)
+{
+    static uint8_t room[3 + 65536], long_one[65536];
+    for (size_t len = 65535; len <= 65536; len++) {
+        grafs_board b = grafs_begin_board(room, sizeof room);
+        grafs_board_question(&b, long_one, len);
+        expect(grafs_end_board(&b) == (len > 65535 ? 0 : 3 + len), "a question's length too wide", len);
+        expect(room[1] == (len & 255) && room[2] == (len >> 8 & 255), "a question's length", len);
+    }
+    expect(board_again(255, room, sizeof room) > 0 && room[0] == 255, "as many questions as can be counted", 255);
+    expect(board_again(256, room, sizeof room) == 0, "a question more", 256);
+}
+
+static void try_boards(void)
+{
+    for (unsigned count = 0; count <= 9; count++)
+        try_board(count);
+    try_board(255);
+    try_wide_boards();
+}
+
+/* An answer of rows and one of a result, by turns: each absent at place 0, then the places' numbers. */
+static size_t lay_answers(unsigned count, unsigned places, uint8_t *out)
+{
+    size_t size = 0;
+    for (unsigned i = 0; i < count; i++) {
+        const uint8_t head[] = { 'L', 'P', 'A', 1, 0, (uint8_t)(places & 255), (uint8_t)(places >> 8), 9, 1, (uint8_t)(i % 2) };
+        memcpy(out + size, head, sizeof head);
+        size += sizeof head;
+        for (unsigned v = 0; v < (i % 2 ? 1 : places); v++) {
+            const uint8_t row[] = { v > 0, (uint8_t)(v & 255), 0, 0, 0, 0, 0, 0, 0 };
+            memcpy(out + size, row, sizeof row);
+            size += sizeof row;
+        }
+    }
+    return size;
+}
+
+/* The answers that can be read from so many bytes, laid out again behind one another; `at` is left where reading stopped. */
+static size_t answers_again(const uint8_t *bytes, size_t len, size_t *at, uint8_t *out)
+{
+    grafs_answer a;
+    size_t before = *at, size = 0;
+    while (grafs_next_answer(&a, bytes, len, at)) {
+        uint8_t one[GRAFS_ANSWER_MAX];
+        size_t n = answer_again(bytes + before, *at - before, one);
+        expect(n == *at - before && a.bytes == bytes + before + 10 && a.rounds == 265, "an answer among others", before);
+        memcpy(out + size, one, n);
+        size += n;
+        before = *at;
+    }
+    expect(*at == before, "where no answer is, nothing moves", before);
+    return size;
+}
+
+/* Whole; cut anywhere, up to the last whole answer; with one that is none, up to it; from behind the first on; from outside. */
+static void try_answers(unsigned count, unsigned places)
+{
+    static uint8_t bytes[GRAFS_BOARD_ANSWERS_MAX], out[GRAFS_BOARD_ANSWERS_MAX];
+    size_t len = lay_answers(count, places, bytes), first = 10 + 9 * (size_t)places, at = 0;
+    expect(answers_again(bytes, len, &at, out) == len && at == len && !memcmp(out, bytes, len), "answers read", count);
+    for (size_t cut = 0; cut < len; cut += len < 400 || cut + 30 > len ? 1 : 29) {
+        uint8_t *part = copy_of(bytes, cut);
+        at = 0;
+        size_t n = answers_again(part, cut, &at, out);
+        expect(n == at && at <= cut && cut - at < first && !memcmp(out, bytes, n), "answers cut", cut);
+        free(part);
+    }
+    at = first;
+    expect(answers_again(bytes, len, &at, out) == len - first && at == len, "answers from behind the first on", count);
+    uint8_t *exact = copy_of(bytes, len);
+    for (at = len; at < len + 30; at++) {
+        size_t outside = at;
+        expect(answers_again(exact, len, &outside, out) == 0 && outside == at, "no answer outside", at);
+    }
+    free(exact);
+    bytes[len - 9] = 2;
+    at = 0;
+    expect(answers_again(bytes, len, &at, out) == len - (count % 2 ? first : 19), "a wrong row in the last answer", count);
+    at = 0;
+    expect(answers_again(bytes, GRAFS_REFUSAL + GRAFS_BUFFER_SHORT, &at, out) == 0 && at == 0, "a refusal for a length", 0);
+    at = 0;
+    expect(answers_again(NULL, 0, &at, out) == 0 && at == 0, "no bytes", 0);
 }
 
 /* ---------------------------------------------------------------------------------------------------------------------- worksheets */
@@ -473,6 +599,12 @@ int main(int argc, char **argv)
     try_sets();
     try_names();
     try_wide();
+    try_boards();
+    for (unsigned count = 1; count <= 8; count++) {
+        try_answers(count, 1);
+        try_answers(count, 4);
+        try_answers(count, 256);
+    }
     expect(built > 60 && read_back > 100 && shown > 200, "enough of each", 0);
     printf("c: %zu cases: %zu built, %zu answers read, %zu worksheets shown; %u comparisons, %u differ\n", cases, built, read_back, shown, tried, failed);
     return failed != 0;

@@ -1,10 +1,14 @@
 /* What grafs.h says beside the calls: the limits, the longest files, the stack that a call takes, calls from several threads at once.
- * On the heaviest questions and maps: every limit reached, 256 places in a ring that take 512 rounds, 1,024 passages. */
+ * On the heaviest questions and maps: every limit reached, 256 places in a ring that take 512 rounds, 1,024 passages.
+ * With SERVICE defined it is linked with libservice.a, and tries what grafs_service.h says too. */
 #define _DEFAULT_SOURCE /* for anonymous pages */
 #include <pthread.h>
 #include <sys/mman.h>
 #include "check.h"
 #include "grafs_build.h"
+#ifdef SERVICE
+#include "grafs_service.h"
+#endif
 
 enum { PAINT = 0x5a, THREADS = 8, TURNS = 40 };
 
@@ -438,6 +442,87 @@ static int runs_again(const sample *s, uint8_t *out)
     return run(s->plan, s->plan_len, graph, graph_len, out, GRAFS_ANSWER_MAX) == s->ran && !memcmp(out, s->answer, done(s->ran));
 }
 
+/* ---------------------------------------------------------------------------------------------------------------------- boards */
+#ifdef SERVICE
+/* A board of a sample's question so many times; a worksheet made by hand has no question, and the board a question of no bytes. */
+static size_t board_of(const sample *s, unsigned count, uint8_t *bytes, size_t room)
+{
+    grafs_board b = grafs_begin_board(bytes, room);
+    for (unsigned i = 0; i < count; i++)
+        grafs_board_question(&b, s->question, s->question_len);
+    return grafs_end_board(&b);
+}
+
+/* Eight times the same answer, or the refusal of the question. */
+static int boards_again(const sample *s, uint32_t n, const uint8_t *out)
+{
+    if (s->fused >= GRAFS_REFUSAL || s->ran >= GRAFS_REFUSAL)
+        return n == (s->fused >= GRAFS_REFUSAL ? s->fused : s->ran);
+    for (size_t i = 0; i < GRAFS_BOARD_QUESTIONS_MAX; i++)
+        if (memcmp(out + i * s->ran, s->answer, s->ran))
+            return 0;
+    return n == GRAFS_BOARD_QUESTIONS_MAX * s->ran;
+}
+
+/* Every call on a board, as they are declared: to the first quiet round, and for the most rounds that one of the samples takes, which end alike. */
+static void *do_boards(void *unused)
+{
+    static uint8_t board[GRAFS_BOARD_MAX], out[GRAFS_BOARD_ANSWERS_MAX];
+    uint64_t t[3] = { 0, 0, 0 };
+    for (size_t i = 0; i < SAMPLES; i++) {
+        const sample *s = &samples[i];
+        size_t len = board_of(s, GRAFS_BOARD_QUESTIONS_MAX, board, sizeof board);
+        expect(boards_again(s, grafs_board_pull(board, len, graph, graph_len, out, sizeof out), out), "board by pull on little stack", i);
+        uint32_t n = grafs_board_push(board, len, graph, graph_len, out, sizeof out);
+        expect(boards_again(s, n, out), "board by push on little stack", i);
+        expect(boards_again(s, grafs_counted_board_pull(board, len, graph, graph_len, out, sizeof out, t), out), "counted board on little stack", i);
+        expect(boards_again(s, grafs_counted_board_push(board, len, graph, graph_len, out, sizeof out, t), out), "counted board on little stack", i);
+        expect(grafs_board_pull_rounds(board, len, graph, graph_len, 512, out, sizeof out) == n, "board for rounds on little stack", i);
+        expect(grafs_board_push_rounds(board, len, graph, graph_len, 512, out, sizeof out) == n, "board for rounds on little stack", i);
+        expect(grafs_counted_board_pull_rounds(board, len, graph, graph_len, 512, out, sizeof out, t) == n, "counted board for rounds", i);
+        expect(grafs_counted_board_push_rounds(board, len, graph, graph_len, 512, out, sizeof out, t) == n, "counted board for rounds", i);
+    }
+    return unused;
+}
+
+/* Every other call on a worksheet. */
+static void *do_ways(void *unused)
+{
+    static uint8_t out[GRAFS_ANSWER_MAX];
+    uint64_t t[3] = { 0, 0, 0 };
+    for (size_t i = 0; i < SAMPLES; i++) {
+        const sample *s = &samples[i];
+        expect(grafs_pull(s->plan, s->plan_len, graph, graph_len, out, sizeof out) == s->ran && !memcmp(out, s->answer, done(s->ran)), "pull", i);
+        expect(grafs_push(s->plan, s->plan_len, graph, graph_len, out, sizeof out) == s->ran && !memcmp(out, s->answer, done(s->ran)), "push", i);
+        expect(grafs_pull_rounds(s->plan, s->plan_len, graph, graph_len, 512, out, sizeof out) == s->ran, "pull for rounds", i);
+        expect(grafs_push_rounds(s->plan, s->plan_len, graph, graph_len, 512, out, sizeof out) == s->ran, "push for rounds", i);
+        expect(grafs_counted_pull(s->plan, s->plan_len, graph, graph_len, out, sizeof out, t) == s->ran, "counted pull", i);
+        expect(grafs_counted_push(s->plan, s->plan_len, graph, graph_len, out, sizeof out, t) == s->ran, "counted push", i);
+        expect(grafs_counted_pull_rounds(s->plan, s->plan_len, graph, graph_len, 512, out, sizeof out, t) == s->ran, "counted pull for rounds", i);
+        expect(grafs_counted_push_rounds(s->plan, s->plan_len, graph, graph_len, 512, out, sizeof out, t) == s->ran, "counted push for rounds", i);
+    }
+    return unused;
+}
+
+static uint32_t board_with(unsigned questions)
+{
+    static uint8_t board[2 * GRAFS_BOARD_MAX], out[GRAFS_BOARD_ANSWERS_MAX];
+    size_t len = board_of(&samples[LONGEST], questions, board, sizeof board);
+    return grafs_number_of(grafs_board_push(board, len, graph, graph_len, out, sizeof out));
+}
+
+/* As many questions as the limit says are answered, one more is refused by its number; no board is longer, and no answers are. */
+static void try_boards(void)
+{
+    uint8_t board[GRAFS_BOARD_MAX];
+    size_t len = board_of(&samples[LONGEST], GRAFS_BOARD_QUESTIONS_MAX, board, sizeof board);
+    expect(board_with(1) == GRAFS_DONE && board_with(GRAFS_BOARD_QUESTIONS_MAX) == GRAFS_DONE, "questions of a board", GRAFS_BOARD_QUESTIONS_MAX);
+    expect(board_with(0) == GRAFS_TERMS && board_with(GRAFS_BOARD_QUESTIONS_MAX + 1) == GRAFS_TERMS, "questions of a board", GRAFS_BOARD_QUESTIONS_MAX + 1);
+    expect(len == GRAFS_BOARD_MAX && GRAFS_BOARD_MAX == 1 + GRAFS_BOARD_QUESTIONS_MAX * (2 + GRAFS_QUESTION_MAX), "the longest board", len);
+    expect(GRAFS_BOARD_ANSWERS_MAX == GRAFS_BOARD_QUESTIONS_MAX * GRAFS_ANSWER_MAX, "the longest answers", GRAFS_BOARD_ANSWERS_MAX);
+}
+#endif
+
 /* ---------------------------------------------------------------------------------------------------------------------- stack */
 static void *do_nothing(void *unused) { return unused; }
 
@@ -498,6 +583,11 @@ static void *take_turns(void *given)
         uint8_t sheet[GRAFS_WORKSHEET_MAX], out[GRAFS_ANSWER_MAX];
         t->wrong += !fuses_again(s, sheet);
         t->wrong += !runs_again(s, out);
+#ifdef SERVICE
+        uint8_t board[GRAFS_BOARD_MAX], answers[GRAFS_BOARD_ANSWERS_MAX];
+        size_t len = board_of(s, GRAFS_BOARD_QUESTIONS_MAX, board, sizeof board);
+        t->wrong += !boards_again(s, grafs_board_push(board, len, graph, graph_len, answers, sizeof answers), answers);
+#endif
     }
     return NULL;
 }
@@ -530,6 +620,11 @@ int main(void)
     try_samples();
     try_stack("fuse", do_fuse, GRAFS_FUSE_STACK);
     try_stack("run", do_run, GRAFS_RUN_STACK);
+#ifdef SERVICE
+    try_boards();
+    try_stack("a run by another call", do_ways, GRAFS_RUN_STACK);
+    try_stack("a board", do_boards, GRAFS_BOARD_STACK);
+#endif
     try_threads();
     printf("c: limits: %u comparisons, %u differ\n", tried, failed);
     return failed != 0;

@@ -1,5 +1,6 @@
 /* Random cases, legal and damaged, for the library and the plain implementation alike: the number returned and every byte of the buffer,
- * with guard bytes on both sides, must be the same.
+ * with guard bytes on both sides, must be the same, and the tally where the call is counted. Every fourth case is a board, the others questions and
+ * worksheets.
  *
  *     driver CASES [FIRST]     cases FIRST, FIRST + 1, ..; a case depends on its number alone, so one can be tried again by itself
  *
@@ -7,10 +8,10 @@
 #include <stdio.h>
 #include <stdlib.h>
 #include <string.h>
-#include "grafs.h"
+#include "grafs_service.h"
 #include "plain.h"
 
-enum { SEED = 20261115, MOST = 16384, GUARD = 64, ANYWHERE = 65535, MOST_STARTS = 16, STARTS_ORDER = 17 };
+enum { SEED = 20261115, MOST = 16384, GUARD = 64, ANYWHERE = 65535, MOST_STARTS = 16, STARTS_ORDER = 17, MOST_CHAINS = 12 };
 
 /* ---------------------------------------------------------------- chance */
 
@@ -71,7 +72,7 @@ typedef struct {
     int worksheet, wild, many, crooked; /* many: more reductions than there may be, each of one leaf */
     unsigned version;                   /* of a worksheet: how its chains are written, whatever the header says */
     unsigned chains, reductions, n;
-    chain chain[12];
+    chain chain[MOST_CHAINS];
     unsigned entries; /* of a worksheet */
     unsigned terms;   /* still allowed for reductions' place terms */
 } maker;
@@ -333,21 +334,26 @@ static maker some_maker(file *f, unsigned n, int worksheet)
     return k;
 }
 
+static void put_question(maker *k)
+{
+    unsigned kind = below(2), depth = one_in(4) ? 16 : between(1, 16);
+    put_head(k->f, 'Q', one_in(300) ? 2 : 1), put(k->f, 1, kind);
+    if (kind == 0) {
+        place_term(k, some_leaves(k, depth, 64), depth);
+        return;
+    }
+    k->many = k->wild && one_in(3);
+    unsigned leaves = k->many ? between(8, 12) : some_leaves(k, depth, one_in(3) ? 15 : 31);
+    k->terms = leaves <= 32 ? 64 - (2 * leaves - 1) : 0;
+    if (k->wild)
+        k->terms += below(10);
+    result_term(k, leaves, depth);
+}
+
 static void some_question(file *f, unsigned n)
 {
     maker k = some_maker(f, n, 0);
-    unsigned kind = below(2), depth = one_in(4) ? 16 : between(1, 16);
-    put_head(f, 'Q', one_in(300) ? 2 : 1), put(f, 1, kind);
-    if (kind == 0) {
-        place_term(&k, some_leaves(&k, depth, 64), depth);
-        return;
-    }
-    k.many = k.wild && one_in(3);
-    unsigned leaves = k.many ? between(8, 12) : some_leaves(&k, depth, one_in(3) ? 15 : 31);
-    k.terms = leaves <= 32 ? 64 - (2 * leaves - 1) : 0;
-    if (k.wild)
-        k.terms += below(10);
-    result_term(&k, leaves, depth);
+    put_question(&k);
 }
 
 /* The reduction byte of an entry: for kind 1 every other time with 128 added; now and then one that is none. */
@@ -534,9 +540,98 @@ static void damage_map(file *f)
     }
 }
 
+/* ---------------------------------------------------------------- boards */
+
+/* The chains from which all questions of a board take theirs, so that there are often no more than eight together, though every question has some; two boards
+ * in five have more to choose from. Some are much like another one; one board in 20 is of a map with more places. */
+static maker some_pool(unsigned places)
+{
+    unsigned n = one_in(20) ? between(places, 256) : places;
+    maker pool = { .n = n, .chains = below(5) < 2 ? between(9, MOST_CHAINS) : one_in(2) ? 8 : between(1, 7) };
+    for (unsigned i = 0; i < pool.chains; i++)
+        pool.chain[i] = i && one_in(6) ? similar_chain(pool.chain[below(i)], n) : some_chain(n, 0);
+    return pool;
+}
+
+/* A question that takes from some chains of the pool, one behind the other, seldom from none; and seldom from one of its own. One in twelve may take from all,
+ * and have nine alone. */
+static void pooled_question(file *f, const maker *pool)
+{
+    maker k = { .f = f, .wild = one_in(40), .crooked = one_in(60), .n = pool->n, .reductions = 8 };
+    unsigned most = pool->chains > 8 && !one_in(12) ? 8 : pool->chains, first = below(pool->chains);
+    k.chains = one_in(16) ? 0 : most > 8 || one_in(2) ? most : between(1, most < 3 ? most : 3);
+    for (unsigned i = 0; i < k.chains; i++)
+        k.chain[i] = one_in(100) ? some_chain(pool->n, k.wild) : pool->chain[(first + i) % pool->chains];
+    put_question(&k);
+}
+
+/* One to eight questions, now and then the same one twice. Where one is to be damaged, it stands behind the length that it has then. */
+static void some_board(file *f, unsigned n, int damaged)
+{
+    static file question;
+    maker pool = some_pool(n);
+    unsigned count = one_in(4) ? 8 : between(1, 8), wrong = damaged ? below(count) : count;
+    f->len = 0;
+    put(f, 1, count);
+    for (unsigned i = 0; i < count; i++) {
+        if (!i || !one_in(12) || i == wrong)
+            pooled_question(&question, &pool);
+        if (i == wrong)
+            damage(&question);
+        put(f, 2, (uint32_t)question.len);
+        for (size_t k = 0; k < question.len; k++)
+            put(f, 1, question.b[k]);
+    }
+}
+
+/* Where the length of some question of an undamaged board stands. */
+static size_t some_length(const file *f)
+{
+    size_t at = 1;
+    for (unsigned i = below(f->b[0]); i > 0; i--) {
+        size_t next = at + 2 + f->b[at] + 256u * f->b[at + 1];
+        if (next + 2 > f->len) /* a board that found no room */
+            break;
+        at = next;
+    }
+    return at;
+}
+
+/* A board's own: its count, one of its lengths, a cut, bytes left over, any damage. */
+static void damage_board(file *f)
+{
+    size_t at = some_length(f);
+    unsigned count = f->b[0], x = f->b[at] + 256u * f->b[at + 1], any = boundary_number();
+    switch (below(6)) {
+    case 0: f->b[0] = (uint8_t)ONE_OF(0, 9, 255, 8, 1, count + 1, count - 1, any); break;
+    case 1: f->len = one_in(8) ? 0 : below(one_in(4) && f->len > 12 ? 12 : (unsigned)f->len); break;
+    case 2:
+        x = ONE_OF(0, 1, x - 1, x + 1, x + 2, x + 256, 65535, any);
+        f->b[at] = (uint8_t)x, f->b[at + 1] = (uint8_t)(x >> 8);
+        break;
+    case 3: insert(f, f->len, between(1, 14)); break;
+    case 4: f->len = one_in(3) ? at : one_in(2) ? at + 1 : at + 2; break;
+    default: damage(f);
+    }
+}
+
 /* ---------------------------------------------------------------- comparing */
 
-static unsigned long long numbers[2][STARTS_ORDER + 1], numbered, most_rounds, past_places;
+enum { PULL, PUSH };
+enum { ON_WORKSHEET, ON_BOARD };
+
+typedef uint32_t quiet_call(const uint8_t *, size_t, const uint8_t *, size_t, uint8_t *, size_t);
+typedef uint32_t rounds_call(const uint8_t *, size_t, const uint8_t *, size_t, uint16_t, uint8_t *, size_t);
+typedef uint32_t counted_call(const uint8_t *, size_t, const uint8_t *, size_t, uint8_t *, size_t, uint64_t *);
+typedef uint32_t counted_rounds_call(const uint8_t *, size_t, const uint8_t *, size_t, uint16_t, uint8_t *, size_t, uint64_t *);
+
+static quiet_call *const quiet[2][2] = { { grafs_pull, grafs_push }, { grafs_board_pull, grafs_board_push } };
+static rounds_call *const rounds_of[2][2] = { { grafs_pull_rounds, grafs_push_rounds }, { grafs_board_pull_rounds, grafs_board_push_rounds } };
+static counted_call *const counted[2][2] = { { grafs_counted_pull, grafs_counted_push }, { grafs_counted_board_pull, grafs_counted_board_push } };
+static counted_rounds_call *const counted_rounds[2][2] = { { grafs_counted_pull_rounds, grafs_counted_push_rounds },
+    { grafs_counted_board_pull_rounds, grafs_counted_board_push_rounds } };
+
+static unsigned long long numbers[3][STARTS_ORDER + 1], numbered, most_rounds, past_places, full_tallies;
 
 static void print_file(const char *name, const file *f)
 {
@@ -553,6 +648,11 @@ static uint8_t *copy_of(const uint8_t *p, size_t len)
         exit(2);
     memcpy(q, p, len);
     return q;
+}
+
+static unsigned number_of(uint32_t result)
+{
+    return result < GRAFS_REFUSAL ? 0 : result - GRAFS_REFUSAL;
 }
 
 /* Both implementations on the same bytes, in buffers filled alike; `map` is null for fuse. Returns the number of bytes written, or 65,536 + number. */
@@ -578,7 +678,7 @@ static uint32_t compare(unsigned long long index, const file *first, const file 
             print_file("map", map);
         exit(1);
     }
-    numbers[map != NULL][x < GRAFS_REFUSAL ? 0 : x - GRAFS_REFUSAL]++;
+    numbers[map != NULL][number_of(x)]++;
     if (map && x < GRAFS_REFUSAL) {
         const uint8_t *answer = ours + GUARD;
         unsigned n = answer[5] + 256u * answer[6], rounds = answer[7] + 256u * answer[8];
@@ -588,6 +688,88 @@ static uint32_t compare(unsigned long long index, const file *first, const file 
     }
     free(a), free(b), free(theirs), free(ours);
     return x;
+}
+
+/* A number of rounds: few, those of the map, or so many as hardly any map needs; the most of all only where a round costs little. */
+static int some_rounds(const file *map)
+{
+    unsigned n = map->len < 9 ? 1 : map->b[5] + 256u * map->b[6];
+    switch (below(8)) {
+    case 0: return 0;
+    case 1: return (int)(n < 256 ? n : 256);
+    case 2: return (int)(n < 256 ? 2 * n : 512);
+    case 3: return map->len < 100 && one_in(4) ? 65535 : map->len < 1000 ? 700 : 300;
+    default: return (int)between(1, 6);
+    }
+}
+
+/* Around small numbers and around the greatest; one in four can count no more. */
+static void some_tally(uint64_t tally[3])
+{
+    for (int i = 0; i < 3; i++)
+        tally[i] = one_in(10) ? UINT64_MAX : one_in(6) ? UINT64_MAX - 1 : one_in(6) ? UINT32_MAX : below(100);
+    full_tallies += tally[0] == UINT64_MAX || tally[1] == UINT64_MAX || tally[2] == UINT64_MAX;
+}
+
+/* A call by its ways: what it is made on, PULL or PUSH, to quiet or for given rounds, counted where there is a tally. */
+static uint32_t call(int on, int way, const uint8_t *a, size_t len, const uint8_t *map, size_t map_len, int rounds, uint8_t *out, size_t lent, uint64_t *tally)
+{
+    if (tally)
+        return rounds == PLAIN_QUIET ? counted[on][way](a, len, map, map_len, out, lent, tally)
+                                     : counted_rounds[on][way](a, len, map, map_len, (uint16_t)rounds, out, lent, tally);
+    return rounds == PLAIN_QUIET ? quiet[on][way](a, len, map, map_len, out, lent) : rounds_of[on][way](a, len, map, map_len, (uint16_t)rounds, out, lent);
+}
+
+/* One call of the library, and what is wanted of it: the result, and all of the room that the buffer is the middle of. */
+static void compare_way(unsigned long long index, int on, int way, int count, const file *first, const file *map, int rounds, size_t lent, uint32_t want,
+    const uint8_t *wanted, uint8_t fill)
+{
+    size_t room = lent + 2 * GUARD, differs = 0;
+    uint8_t *a = copy_of(first->b, first->len), *b = copy_of(map->b, map->len), *theirs = malloc(room);
+    uint64_t tally[5] = { 0x5a5a5a5a5a5a5a5a, 0, 0, 0, 0x5a5a5a5a5a5a5a5a }, tallied[5];
+    if (!theirs)
+        exit(2);
+    memset(theirs, fill, room);
+    if (count)
+        some_tally(tally + 1);
+    memcpy(tallied, tally, sizeof tally);
+    if (count)
+        plain_count(want, tallied + 1);
+    uint32_t x = call(on, way, a, first->len, b, map->len, rounds, theirs + GUARD, lent, count ? tally + 1 : NULL);
+    int kept = !memcmp(a, first->b, first->len) && !memcmp(b, map->b, map->len);
+    while (differs < room && theirs[differs] == wanted[differs])
+        differs++;
+    if (x != want || differs < room || !kept || memcmp(tally, tallied, sizeof tally)) {
+        printf("case %llu differs: %s%s by %s, rounds %d, lent %zu: library %u, plain %u; first byte that differs %ld; inputs %s; tally %s\n", index,
+            count ? "counted " : "", on == ON_BOARD ? "board" : "worksheet", way == PUSH ? "push" : "pull", rounds, lent, x, want,
+            differs < room ? (long)differs - GUARD : -1L, kept ? "as they were" : "changed", memcmp(tally, tallied, sizeof tally) ? "differs" : "right");
+        print_file("first", first);
+        print_file("map", map);
+        exit(1);
+    }
+    free(a), free(b), free(theirs);
+}
+
+/* All eight calls on a worksheet or on a board: to quiet and for some rounds, by pull and by push, counted and not. Returns the number. */
+static unsigned compare_ways(unsigned long long index, int on, const file *first, const file *map, size_t lent)
+{
+    size_t room = lent + 2 * GUARD;
+    uint8_t *wanted = malloc(room), fill = (uint8_t)below(256);
+    plain_met met = plain_sets; /* `run` has counted the worksheet */
+    uint32_t want = 0;
+    if (!wanted)
+        exit(2);
+    for (int given = 1; given >= 0; given--) {
+        int rounds = given ? some_rounds(map) : PLAIN_QUIET;
+        memset(wanted, fill, room);
+        want = on == ON_BOARD ? plain_board(first->b, first->len, map->b, map->len, rounds, wanted + GUARD, lent)
+                              : plain_run_for(first->b, first->len, map->b, map->len, rounds, wanted + GUARD, lent);
+        for (int i = 0; i < 4; i++)
+            compare_way(index, on, i % 2 ? PUSH : PULL, i / 2, first, map, rounds, lent, want, wanted, fill);
+    }
+    plain_sets = met;
+    free(wanted);
+    return number_of(want);
 }
 
 /* Around what is needed: exact, one short, none, some more, much more. */
@@ -612,11 +794,10 @@ static size_t answer_length(const file *worksheet, const file *map)
 
 /* A question fused and, where it is accepted, its worksheet run on a map; or a worksheet that no fusing wrote. In every other case each
  * file may be damaged. */
-static void try_case(unsigned long long index)
+static void try_sheet(unsigned long long index)
 {
     static file question, worksheet, map;
     static uint8_t room[GRAFS_WORKSHEET_MAX];
-    state = SEED + index * 0x2545f4914f6cdd1du;
     unsigned n = some_places();
     int damaged = one_in(2);
     some_map(&map, n);
@@ -636,10 +817,60 @@ static void try_case(unsigned long long index)
         damage(&worksheet);
     if (damaged && one_in(2))
         damage_map(&map);
-    compare(index, &worksheet, &map, some_lent(answer_length(&worksheet, &map)));
+    size_t lent = some_lent(answer_length(&worksheet, &map));
+    compare(index, &worksheet, &map, lent);
+    compare_ways(index, ON_WORKSHEET, &worksheet, &map, lent);
 }
 
-/* What matters of conditions and sets, and how often it was met. Returns whether all of it was. */
+/* What boards were like. */
+static struct {
+    unsigned long long all, refused[PLAIN_ANSWERED][STARTS_ORDER + 1], answered[9], rounds_differ, shared, both_ways, of_eight_chains;
+} boards;
+
+static void count_board(unsigned number)
+{
+    const plain_board_met *met = &plain_last_board;
+    numbers[2][number]++;
+    boards.all++;
+    if (number) {
+        boards.refused[met->where][number]++;
+        return;
+    }
+    boards.answered[met->questions]++;
+    boards.rounds_differ += (unsigned)met->rounds_differ;
+    boards.shared += (unsigned)met->shared;
+    boards.both_ways += (unsigned)met->both_ways;
+    boards.of_eight_chains += met->chains == 8;
+}
+
+/* A board on a map, in every other case with damage to it, to one of its questions or to the map. */
+static void try_board(unsigned long long index)
+{
+    static file board, map;
+    static uint8_t room[GRAFS_BOARD_ANSWERS_MAX];
+    unsigned n = some_places();
+    int damaged = one_in(2);
+    some_map(&map, n);
+    some_board(&board, n, damaged && one_in(3));
+    if (damaged && one_in(2))
+        damage_board(&board);
+    if (damaged && one_in(4))
+        damage_map(&map);
+    uint32_t need = plain_board(board.b, board.len, map.b, map.len, 0, room, sizeof room);
+    size_t lent = some_lent(need < GRAFS_REFUSAL ? need : 40);
+    count_board(compare_ways(index, ON_BOARD, &board, &map, lent));
+}
+
+static void try_case(unsigned long long index)
+{
+    state = SEED + index * 0x2545f4914f6cdd1du;
+    if (index % 4 == 3)
+        try_board(index);
+    else
+        try_sheet(index);
+}
+
+/* What matters of conditions, sets and boards, and how often it was met. Returns whether all of it was. */
 static int all_met(void)
 {
     const struct {
@@ -660,6 +891,31 @@ static int all_met(void)
         { "runs answered of version 2 with no start", plain_sets.version_2_of_none },
         { "questions refused 17", numbers[0][STARTS_ORDER] },
         { "worksheets refused 17", numbers[1][STARTS_ORDER] },
+        { "tallies that can count no more", full_tallies },
+        { "boards", boards.all },
+        { "boards answered", numbers[2][0] },
+        { "boards answered of 1 question", boards.answered[1] },
+        { "boards answered of 2 questions", boards.answered[2] },
+        { "boards answered of 3 questions", boards.answered[3] },
+        { "boards answered of 4 questions", boards.answered[4] },
+        { "boards answered of 5 questions", boards.answered[5] },
+        { "boards answered of 6 questions", boards.answered[6] },
+        { "boards answered of 7 questions", boards.answered[7] },
+        { "boards answered of 8 questions", boards.answered[8] },
+        { "boards answered whose separate rounds differ", boards.rounds_differ },
+        { "boards answered whose questions share a chain", boards.shared },
+        { "boards answered with a chain as 0x10 in one question and as a set of one in another", boards.both_ways },
+        { "boards answered of eight different chains", boards.of_eight_chains },
+        { "boards refused 14 over all questions together", boards.refused[PLAIN_CHAINS][GRAFS_FULL_SHEET] },
+        { "boards refused 14 within a question", boards.refused[PLAIN_QUESTION][GRAFS_FULL_SHEET] },
+        { "boards refused 12 by their count", boards.refused[PLAIN_COUNT][GRAFS_TERMS] },
+        { "boards refused 1 by no count", boards.refused[PLAIN_COUNT][GRAFS_SHORT] },
+        { "boards refused 1 by a length", boards.refused[PLAIN_LENGTH][GRAFS_SHORT] },
+        { "boards refused 1 within a question", boards.refused[PLAIN_QUESTION][GRAFS_SHORT] },
+        { "boards refused 6 by bytes left over", boards.refused[PLAIN_LEFT_OVER][GRAFS_LENGTH] },
+        { "boards refused 6 within a question", boards.refused[PLAIN_QUESTION][GRAFS_LENGTH] },
+        { "boards refused 13 by starts that the map does not have", boards.refused[PLAIN_STARTS][GRAFS_START] },
+        { "boards refused 15", boards.refused[PLAIN_BUFFER][GRAFS_BUFFER_SHORT] },
     };
     int all = 1;
     for (size_t i = 0; i < sizeof met / sizeof *met; i++) {
@@ -674,11 +930,12 @@ int main(int argc, char **argv)
     unsigned long long cases = argc > 1 ? strtoull(argv[1], NULL, 10) : 100000, first = argc > 2 ? strtoull(argv[2], NULL, 10) : 0;
     for (unsigned long long i = first; i < first + cases; i++)
         try_case(i);
-    for (int call = 0; call < 2; call++) {
-        printf(call ? "run:  answered %llu; refused" : "fuse: answered %llu; refused", numbers[call][0]);
+    for (int of = 0; of < 3; of++) {
+        static const char *const names[] = { "fuse: ", "run:  ", "board:" };
+        printf("%s answered %llu; refused", names[of], numbers[of][0]);
         for (int number = 1; number <= STARTS_ORDER; number++)
-            if (numbers[call][number])
-                printf(" %d: %llu", number, numbers[call][number]);
+            if (numbers[of][number])
+                printf(" %d: %llu", number, numbers[of][number]);
         printf("\n");
     }
     printf("answers that start with a number %llu, with more rounds than places %llu, most rounds %llu\n", numbered, past_places, most_rounds);

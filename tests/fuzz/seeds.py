@@ -1,11 +1,11 @@
 #!/usr/bin/env python3
-"""Writes the first inputs of the fuzz harness into a folder: document 01's trials, conditions, sets and absent operands of document 02, the
-limits and some files beyond them.
+"""Writes the first inputs of the fuzz harness into a folder: document 01's trials, conditions, sets, absent operands and boards of document 02,
+the limits and some files beyond them.
 
     python3 tests/fuzz/seeds.py FOLDER
 
-An input is a selector byte (0 fuse, 1 run, 2 fuse then run), a 16-bit number for the length lent, a 16-bit length of the question or
-worksheet, its bytes, and the map's bytes.
+An input is a selector byte (0 fuse, 1 run, 2 fuse then run, 3 board, and four times a number of rounds), a 16-bit number for the length lent, a
+16-bit length of the question, worksheet or board, its bytes, and the map's bytes.
 """
 import os
 import sys
@@ -72,6 +72,10 @@ def question(kind, term):
 
 def sheet(kind, chains, entries, final=b"", version=1):
     return b"LPW" + u16(version) + bytes([kind, len(chains)]) + b"".join(chains) + bytes([len(entries)]) + b"".join(entries) + final
+
+
+def board(*questions, count=None):
+    return bytes([len(questions) if count is None else count]) + b"".join(u16(len(q)) + q for q in questions)
 
 
 def deep(depth, number=3):
@@ -164,6 +168,31 @@ for chains in ([set_slots(2)], [set_slots(2, starts=(0,))], [set_slots(2, starts
 SHEETS += [sheet(0, [set_slots(2)], [b"\0\x30\0"], version=version) for version in (0, 1, 3, 258)]
 SHEETS += [sheet(1, [set_slots(2, 2, 5, starts=sixteen)] * 8, ones, broad(25, lambda _one: lit(1, 0x21), 0x22), version=2)]
 
+# boards: one to eight questions, of different rounds, that share chains, write one as 0x10 and as a set of one, have eight different chains or nine together;
+# the longest; and what is refused: counts, lengths, left-over bytes, a wrong question, and two of these at once
+seconds, narrowest, nothing, passages = (question(0, chain(key, start=start)) for key, start in ((2, 0), (6, 0), (1, 3), (1, 65535)))
+farthest, seven, set_of_one = question(1, reduced(2, chain(1))), question(1, lit(7, 0x21)), question(0, chain_set(2, starts=(0,)))
+nine = [question(0, chain(1, *[2] * (i // 3), start=i % 3)) for i in range(9)]
+two_more = question(0, op(3, chain(4), chain(5)))
+all_eight = question(0, broad(8, lambda _one: eight[next(counter) % 8]))
+nine_alone = question(0, broad(9, lambda _one: chain(1, start=next(counter) % 256)))
+longest = question(1, reduced(1, broad(32, lambda _one: chain_set(2, 2, 5, starts=sixteen))))
+largest, over = [question(0, deep(16)), question(0, broad(32, lit))], [question(0, deep(17)), question(0, broad(33, lit))]
+mixed = board(seconds, narrowest, farthest)
+BOARDS = [mixed] + [board(q) for q in QUESTIONS[:40]] + [board(*nine[:count]) for count in range(2, 10)]
+BOARDS += [board(*qs) for qs in (
+    [nothing, seconds, seconds], [seconds, set_of_one, question(0, op(3, chain(2), chain_set(2)))], [seven] * 8, [seconds] * 8,
+    nine[:5] + [question(0, op(3, chain(1), op(3, chain(1, start=1), chain(6)))), passages, question(0, chain_set(2))],
+    nine[:6] + [question(1, reduced_where(3, chain(4), chain(5)))], nine[:7] + [question(1, reduced_where(3, chain(4), chain(5)))], [all_eight, seconds],
+    [all_eight, question(0, chain(1))], [longest] * 8, [longest, seconds], [seconds, nine_alone, b"LPX"], [seconds, question(0, chain(2, start=4)), seven],
+    [seconds, b"", seven], [seconds + b"\0", seven], [seconds[:-1], seven], [seconds, b"LPX\1\0\0"], [b"LPX\1", seven], [seven, *largest], over,
+    [seven, question(1, reduced_where(3, farther, chain(2))), two_more], nine[:7] + [question(0, op(3, chain(6), chain_set(1, starts=(0,))))],
+    [question(0, op(3, chain_set(2, starts=(0, i)), lit(1))) for i in range(1, 8)] + [question(0, op(3, chain(2), chain_set(2, starts=(0, 8))))])]
+BOARDS += [b"", b"\0", b"\1", b"\1\x0b", b"\x09", b"\xff", board(seconds, count=2), board(seconds, seven, count=1), board(seconds, count=0),
+           board(seconds, count=9), board(seconds, seven)[:-1], board(seconds)[:2], board(seconds) + b"\0", board(seconds) + board(seconds),
+           board(*nine[:8]) + b"\0", board(*nine[:7], two_more), board(*nine[:7], two_more) + b"\0", b"\2" + u16(11) + seconds + u16(12) + seconds,
+           b"\2" + u16(11) + seconds + u16(65535) + seven, b"\1" + u16(10) + seconds, b"\2" + u16(11) + b"LPX" * 4, b"\1" + u16(7) + b"LPX\1\0\0"]
+
 
 def main():
     folder = sys.argv[1]
@@ -173,6 +202,11 @@ def main():
     inputs += [(2, 2314, q, m) for q in QUESTIONS for m in MAPS]
     inputs += [(2, lent, QUESTIONS[0], MAP_A) for lent in (0, 45, 46, 47)]
     inputs += [(1, 5, sheet(0, [slots(2, start=4)], [b"\0\x30\0"]), m) for m in MAPS]  # a start that most maps lack, and a short length
+    inputs += [(3 + 4 * (i % 8), 18512, b, m) for i, b in enumerate(BOARDS) for m in MAPS]
+    inputs += [(3 + 4 * rounds, 18512, mixed, m) for rounds in (0, 1, 2, 3, 4, 63) for m in MAPS]
+    inputs += [(1 + 4 * rounds, 2314, SHEETS[0], m) for rounds in (0, 1, 2, 3, 4, 63) for m in MAPS]
+    inputs += [(3, lent, mixed, MAP_A) for lent in (0, 46, 92, 110, 111, 112)]
+    inputs += [(3, 5, board(question(0, chain(2, start=4))), m) for m in MAPS]
     for i, (selector, lent, first, chart) in enumerate(inputs):
         with open(os.path.join(folder, f"{i:04}"), "wb") as f:
             f.write(bytes([selector]) + u16(lent) + u16(len(first)) + first + chart)

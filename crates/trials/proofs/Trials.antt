@@ -59,6 +59,6 @@ pub boards-hold : (map (λ (r : Reading). board-code (r .bytes)) judged ≡ map 
     × (map replied replies ≡ map (λ (a : Asked). a .reply) replies)
 unfolding board-code queries-of first-code count-code query-scan header-code ended started blank read term-step leaf-step literal-tag path-step path-code
     key-fields-code keys-code kept-path slot-of same-packed advanced path-at keys-at one-source reduce-step apply-step literal-step key-row query-of
-    query-term-of written-path written-reduction board-reply board-rounds graph-code counts-code edges-code edge-code edges-in sources-code run stopped rounds first state gather best compute combine
-    rows-bytes
+    query-term-of written-path written-reduction board-reply board-rounds graph-code counts-code edges-code edge-code edges-in sources-code run stopped
+    rounds first state gather best compute combine rows-bytes
 boards-hold = (refl, refl)

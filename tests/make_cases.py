@@ -1,7 +1,8 @@
 #!/usr/bin/env python3
-"""Writes the cases on which the program `cases` tries the readers and the writers, and those of runs (make_runs.py).
+"""Writes the cases on which the program `cases` tries the readers and the writers, those of runs (make_runs.py) and of boards
+(make_boards.py).
 
-    python3 tests/make_cases.py          writes cases.bin and runs.bin in crates/cases/data, and crates/cases/stdout
+    python3 tests/make_cases.py          writes cases.bin, runs.bin and boards.bin in crates/cases/data, and crates/cases/stdout
     python3 tests/make_cases.py list     prints each case of cases.bin: index, kind, number, name, length, first bytes
 
 Each number here is written by hand from document 01 ("Numbers at the desk" and the order below that table) and, for conditions
@@ -19,6 +20,7 @@ number, a 16-bit length and as many bytes; all integers low byte first. The byte
 import os
 import sys
 
+import make_boards
 import make_runs
 
 FOLDER = os.path.join(os.path.dirname(os.path.abspath(__file__)), "..", "crates", "cases")
@@ -1110,15 +1112,16 @@ def counts(kinds, cases):
 
 
 def main():
-    cases, runs = table(), make_runs.table()
+    cases, runs, boards = table(), make_runs.table(make_runs.KINDS), make_runs.table(make_boards.KINDS)
     if sys.argv[1:] == ["list"]:
         for index, (kind, number, name, body) in enumerate(cases):
             print(f"{index:3} {KINDS[kind][0]:10} {number:2}  {name}  [{len(body)}] {body[:48].hex()}")
         return
     write("cases.bin", [(kind, number, body) for kind, number, _, body in cases], 0)
     write("runs.bin", [(kind, case[4], make_runs.body(case)) for kind, case in runs], len(KINDS))
+    write("boards.bin", [(kind, case[4], make_runs.body(case)) for kind, case in boards], len(KINDS) + len(make_runs.KINDS))
     with open(os.path.join(FOLDER, "stdout"), "w") as f:
-        f.writelines(counts(KINDS, cases) + counts(make_runs.KINDS, runs))
+        f.writelines(counts(KINDS, cases) + counts(make_runs.KINDS, runs) + counts(make_boards.KINDS, boards))
 
 
 main()

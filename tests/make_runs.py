@@ -211,17 +211,28 @@ def reduced(number, values):
     return value if value < 2 ** 64 else None
 
 
+def places_of(graph):
+    """n and the rows of a map."""
+    n, m = numbers(graph, 5, 2)
+    flat = numbers(graph, 9, 4 * m)
+    return n, [flat[4 * i:4 * i + 4] for i in range(m)]
+
+
+def quiet_round(found, n):
+    """The smallest r, one or more, in which no figure changes; found has those of each chain up to 2 × n + 1."""
+    most = 2 * n + 1  # longer walks change no figure: looked at up to here
+    quiet = next(r for r in range(1, most + 1) if all(f[r] == f[r - 1] for f in found))
+    assert quiet <= 2 * n and all(f[r] == f[quiet] for f in found for r in range(quiet, most + 1))
+    return quiet
+
+
 def outright(sheet, graph, stop=None):
     """n, rounds, kind and values of an answer."""
     plan = Sheet(sheet)
-    n, m = numbers(graph, 5, 2)
-    flat = numbers(graph, 9, 4 * m)
-    rows = [flat[4 * i:4 * i + 4] for i in range(m)]
-    most = 2 * n + 1  # longer walks change no figure: looked at up to here
+    n, rows = places_of(graph)
+    most = 2 * n + 1
     found = [figures(n, rows, keys, starts, most) for keys, starts in plan.chains]
-    quiet = next(r for r in range(1, most + 1) if all(f[r] == f[r - 1] for f in found))
-    assert quiet <= 2 * n and all(f[r] == f[quiet] for f in found for r in range(quiet, most + 1))
-    rounds = quiet if stop is None else stop
+    rounds = quiet_round(found, n) if stop is None else stop
     reached = [f[most if stop is None else min(stop, most)] for f in found]
     places = [[f[v] and f[v][-1] for f in reached] for v in range(n)]
     if plan.kind == 0:
@@ -882,22 +893,22 @@ def body(case):
     return b"".join(u16(x) for x in (lent, call, stop, len(sheet), len(sheet + graph))) + sheet + graph + whole
 
 
-def table():
+def table(kinds):
     """All cases, each once: (kind, case). The same bytes under two names must have the same number."""
     seen = {}
-    for kind, (_unused, part) in enumerate(KINDS):
+    for kind, (_unused, part) in enumerate(kinds):
         for case in part():
             known = seen.setdefault(body(case), (kind, case))
             assert known[1][4] == case[4], f"{known} and {case}"
     return list(seen.values())
 
 
-def main():
-    for index, (kind, (name, call, stop, lent, refusal, _sheet, _graph, whole)) in enumerate(table()):
+def show(kinds):
+    for index, (kind, (name, call, stop, lent, refusal, _sheet, _graph, whole)) in enumerate(table(kinds)):
         what = f"refused {refusal}" if refusal else whole.hex()
         after = f" {stop}" if call > 1 else ""
-        print(f"{index:3} {KINDS[kind][0]:14} {CALLS[call]}{after}, lent {lent}: {name}: {what[:120]}")
+        print(f"{index:3} {kinds[kind][0]:14} {CALLS[call]}{after}, lent {lent}: {name}: {what[:120]}")
 
 
 if __name__ == "__main__":
-    main()
+    show(KINDS)

@@ -1,6 +1,6 @@
-// Tries the readers and writers on the cases of cases.bin, and runs on those of runs.bin, which tests/make_cases.py writes: a case is
-// a kind byte, the number expected, a 16-bit length and as many bytes. Prints for each file the first cases that differ, then how many
-// there are of each kind, and how many differ.
+// Tries the readers and writers on the cases of cases.bin, runs on those of runs.bin and boards on those of boards.bin, which
+// tests/make_cases.py writes: a case is a kind byte, the number expected, a 16-bit length and as many bytes. Prints for each file the
+// first cases that differ, then how many there are of each kind, and how many differ.
 use engine::Limit;
 ghost use Rattle.io.specs.Counts.{Counts};
 ghost use Prim.Native.Nat.{_≤_, _<_};
@@ -17,6 +17,9 @@ const NOT_WRITTEN: u32 = 65791;
 // What the lent buffer is filled with.
 const FILL: u8 = 0xa5;
 
+// The kinds from here on are of boards.
+const BOARDS: u8 = 13;
+
 // Where a case has its bytes, and where the next one starts.
 struct Case {
     kind: u8,
@@ -28,7 +31,7 @@ struct Case {
 struct Score {
     cases: u64,
     differences: u64,
-    kinds: [u64; 13],
+    kinds: [u64; 16],
 }
 
 fn load(path: &[u8], buf: &mut [u8]) -> usize
@@ -186,13 +189,31 @@ fn run(call: u8, rounds: u16, plan: &[u8], graph: &[u8], out: &mut [u8]) -> u32 
     }
 }
 
-// A worksheet is run on a map: the call, the rounds at which it is stopped, where the worksheet and the map behind it end.
-fn run_files(fields: &[u8], file: &[u8], out: &mut [u8]) -> u32 {
+fn run_board(call: u8, rounds: u16, board: &[u8], graph: &[u8], out: &mut [u8]) -> u32 {
+    match call {
+        0 => board::pull(board, graph, Limit::Quiet, out),
+        1 => board::push(board, graph, Limit::Quiet, out),
+        2 => board::pull(board, graph, Limit::Rounds(rounds), out),
+        3 => board::push(board, graph, Limit::Rounds(rounds), out),
+        _ => NOT_WRITTEN,
+    }
+}
+
+fn run_kind(kind: u8, call: u8, rounds: u16, asked: &[u8], graph: &[u8], out: &mut [u8]) -> u32 {
+    if kind < BOARDS {
+        return run(call, rounds, asked, graph, out);
+    }
+    run_board(call, rounds, asked, graph, out)
+}
+
+// A worksheet or a board is run on a map: the call, the rounds at which it is stopped, where what is asked and the map behind it end.
+fn run_files(kind: u8, fields: &[u8], file: &[u8], out: &mut [u8]) -> u32 {
     let a = number(fields, 6) as usize;
     let b = number(fields, 8) as usize;
     if a <= b {
         if b <= file.len() {
-            return run(
+            return run_kind(
+                kind,
                 low(fields, 2),
                 number(fields, 4),
                 &file[0..a],
@@ -210,7 +231,7 @@ fn write_file(kind: u8, fields: &[u8], file: &[u8], out: &mut [u8]) -> u32 {
         5 => write_query(fields, file, out),
         6 => write_plan(fields, file, out),
         7 => fuse_file(fields, file, out),
-        _ => run_files(fields, file, out),
+        _ => run_files(kind, fields, file, out),
     }
 }
 
@@ -239,7 +260,7 @@ fn write_case(kind: u8, s: &[u8]) -> u8 {
         return WRONG;
     }
     let file = &s[10..];
-    let mut out = [FILL; 9000];
+    let mut out = [FILL; 20000];
     let code = lend(kind, s, file, number(s, 0) as usize, &mut out);
     let at = answer_at(kind, s, file);
     written(code, &file[at..], &out)
@@ -289,7 +310,7 @@ fn more(x: u64) -> u64 {
 fn counted(score: Score, kind: u8) -> Score {
     let mut r = score;
     let k = wide(kind) as usize;
-    if k < 13 {
+    if k < 16 {
         r.kinds[k] = more(score.kinds[k]);
     }
     r.cases = more(score.cases);
@@ -310,7 +331,7 @@ fn scored(score: Score, c: Case, number: u8) -> Score {
 }
 
 fn run_all(s: &[u8]) -> Score {
-    let kinds = [0u64; 13];
+    let kinds = [0u64; 16];
     let mut score = Score {
         cases: 0,
         differences: 0,
@@ -348,10 +369,19 @@ fn print_runs(score: Score) {
     line(b"differences ", score.differences);
 }
 
+fn print_boards(score: Score) {
+    line(b"boards answered ", score.kinds[13]);
+    line(b"boards refused ", score.kinds[14]);
+    line(b"lent lengths of boards ", score.kinds[15]);
+    line(b"differences ", score.differences);
+}
+
 fn main() {
     let mut buf = [0u8; 262144];
     let n = load(b"cases.bin", &mut buf);
     print_cases(run_all(&buf[..n]));
     let m = load(b"runs.bin", &mut buf);
     print_runs(run_all(&buf[..m]));
+    let k = load(b"boards.bin", &mut buf);
+    print_boards(run_all(&buf[..k]));
 }

@@ -76,10 +76,9 @@ use Rattle.counters.specs.declared.Counters.{Counters}
 use Rattle.counters.proofs.Counters as T
 use Rattle.counters.proofs.Counters.Laws as T′
 use Rattle.engine.specs.declared.Limit.{Limit}
-use Rattle.engine.specs.Run.{run-reply}
 use Rattle.engine.proofs.Limit as L
 use Rattle.engine.proofs.Limit.Laws as L′
-use Rattle.counted.specs.Counted.{Counted}
+use Rattle.counted.specs.Counted.{Counted, asked-reply}
 use Rattle.counted.specs.declared.Way.{Way}
 use Rattle.counted.proofs.Way as D
 use Rattle.counted.proofs.Way.Laws as D′
@@ -100,8 +99,8 @@ use Rattle.counted_runs.proofs.lend.Code as code
 abbrev way-slot : Slot 3
 way-slot = plain (λ _. D.the-row)
 
-abbrev plan-slot : Slot 3
-plan-slot = shrSliceOf (0 ∷ []) tt (plain (λ _. u8))
+abbrev asked-slot : Slot 3
+asked-slot = shrSliceOf (0 ∷ []) tt (plain (λ _. u8))
 
 abbrev graph-slot : Slot 3
 graph-slot = shrSliceOf (1 ∷ []) tt (plain (λ _. u8))
@@ -117,7 +116,7 @@ abbrev stayed : Stays (lend.ended .signature .params) (lend.ended .kept)
 stayed = (
   stay-dropped way-slot yes,
   (
-    stay-dropped plan-slot yes,
+    stay-dropped asked-slot yes,
     (
       stay-dropped graph-slot yes,
       (stay-dropped limit-slot yes, (gave-slice (2 ∷ []) tt (plain (λ _. u8)), (stay-dropped counters-slot yes, tt))),
@@ -174,7 +173,7 @@ module _ {M : Type 1} (𝓤 : URA M) (H : Heap 𝓤) (A : Atoms 𝓤) (W : Given
   Called = Counting 𝓤 H A at-mem run
 
   module _ (κs : Lfts 3) (qs : Share × (Share × (Share × Unit {0}))) (bounds : AllOutlive 3 (lend.signature .outlives) κs)
-      (way : Way) (plan graph : RefT (List ℕ)) (limit : Limit) (out : RefT (List ℕ)) (before : Counters) where
+      (way : Way) (asked graph : RefT (List ℕ)) (limit : Limit) (out : RefT (List ℕ)) (before : Counters) where
     -- the lifetimes of the three references
     abbrev κ₁ : Lft
     κ₁ = κs .0
@@ -187,17 +186,17 @@ module _ {M : Type 1} (𝓤 : URA M) (H : Heap 𝓤) (A : Atoms 𝓤) (W : Given
 
     -- what the parameters before the counters own
     abbrev Handed : Fml
-    Handed = P.Handed way plan graph limit out κ₁ κ₂ κ₃
+    Handed = P.Handed way asked graph limit out κ₁ κ₂ κ₃
 
     -- what the function is passed, and the run, with the machine values
     abbrev args : {X : Type 0} → X → Args X
-    args = P.args way plan graph limit out
+    args = P.args way asked graph limit out
 
     abbrev vals : Val → Vals
-    vals = P.vals way plan graph limit out
+    vals = P.vals way asked graph limit out
 
     abbrev passed : List Val
-    passed = P.passed way plan graph limit out (val-of before)
+    passed = P.passed way asked graph limit out (val-of before)
 
     -- the tokens of the slices, and with that of the lent counters
     abbrev Tokens : Item 𝓤
@@ -212,7 +211,7 @@ module _ {M : Type 1} (𝓤 : URA M) (H : Heap 𝓤) (A : Atoms 𝓤) (W : Given
 
     -- what the run, and this function, say of the number, the buffer's last list and the counters
     abbrev Said : ℕ → List ℕ → Counters → Type 0
-    Said n zs d = Counted (run-reply limit (plan .now) (graph .now) (length (out .now))) n (out .now) zs before d
+    Said n zs d = Counted (asked-reply way limit (asked .now) (graph .now) (length (out .now))) n (out .now) zs before d
 
     -- the end: what is left over
     abbrev Over : List ℕ → List (Item 𝓤)
@@ -255,31 +254,31 @@ module _ {M : Type 1} (𝓤 : URA M) (H : Heap 𝓤) (A : Atoms 𝓤) (W : Given
         let lent = lent-at 𝓤 H A W l γ before in
         qed W (Passed α l γ) ∵
         move ! (1 ∷ 2 ∷ []) $
-        use2 W (‵ (P.Owned way plan graph limit out κ₁ κ₂ κ₃ (MutRef (named 3) (α ∷ []) T.the-row) lent (vptr l 0)))
-        (P.together way plan graph limit out κ₁ κ₂ κ₃ (MutRef (named 3) (α ∷ []) T.the-row) lent (vptr l 0) 𝓤 H A W) $
+        use2 W (‵ (P.Owned way asked graph limit out κ₁ κ₂ κ₃ (MutRef (named 3) (α ∷ []) T.the-row) lent (vptr l 0)))
+        (P.together way asked graph limit out κ₁ κ₂ κ₃ (MutRef (named 3) (α ∷ []) T.the-row) lent (vptr l 0) 𝓤 H A W) $
         move ! (1 ∷ []) $ split ! $ move ! (1 ∷ []) $ split ! $ move ! (1 ∷ []) $ split ! $ move ! (1 ∷ []) $ split ! $
         -- [κ₃; true; κ₂; κ₁; α; the parameters]
         move ! (4 ∷ 1 ∷ []) $ join ! $ move ! (1 ∷ 0 ∷ []) $ join ! $ move ! (1 ∷ 0 ∷ []) $ join ! $ move ! (1 ∷ 0 ∷ []) $ join ! $ join ! $
         frame ! $ done !
 
     module _ (C : Calls 𝓤 H) (Λ : Loops 𝓤 H) (fm : FmC 𝓤 H (W .laws) C) (known : Triple 𝓤 (C counted-run-def.name) Called) where
-      walk : Is D.the-row way (way-val way ∷ []) → Is (ShrSlice (named 0) κ₁ u8) plan (slice plan ∷ [])
+      walk : Is D.the-row way (way-val way ∷ []) → Is (ShrSlice (named 0) κ₁ u8) asked (slice asked ∷ [])
           → Is (ShrSlice (named 1) κ₂ u8) graph (slice graph ∷ []) → Is L.the-row limit (limit-val limit ∷ []) → Room u8 (length (out .now))
           → Is T.the-row before (val-of before ∷ [])
           → ent 𝓤 (onEntry 𝓤 H A lend.signature κs qs (args before) (vals (val-of before))) (WpFn 𝓤 H C Λ code.function passed Post)
-      walk way-is plan-is graph-is limit-is room counters-are =
+      walk way-is asked-is graph-is limit-is room counters-are =
           qed W
-          (Tokens ∷ ‵ (P.Owned way plan graph limit out κ₁ κ₂ κ₃ T.the-row before (val-of before)) ∷ []) ∵
+          (Tokens ∷ ‵ (P.Owned way asked graph limit out κ₁ κ₂ κ₃ T.the-row before (val-of before)) ∷ []) ∵
           -- what the parameters own, but for the counters, together
           move ! (1 ∷ []) $ use1 W (‵ Handed ⊛ ‵ (T.the-row .own before (val-of before ∷ [])))
-          (P.apart way plan graph limit out κ₁ κ₂ κ₃ T.the-row before (val-of before) 𝓤 H A W) $ split ! $ move ! (2 ∷ 0 ∷ 1 ∷ []) $
+          (P.apart way asked graph limit out κ₁ κ₂ κ₃ T.the-row before (val-of before) 𝓤 H A W) $ split ! $ move ! (2 ∷ 0 ∷ 1 ∷ []) $
           -- [Tokens; Handed; what the counters own]
           enter ! C Λ code.function passed _ $
           alloc1 ! (λ l₀.
           alloc1 ! (λ l₁. alloc1 ! (λ l₂. alloc1 ! (λ l₃. alloc1 ! (λ l₄. alloc1 ! (λ l₅. alloc1 ! (λ l₆. alloc1 ! (λ l₇.
           alloc1 ! (λ l₈. alloc1 ! (λ l₉. alloc1 ! (λ l₁₀. alloc1 ! (λ l₁₁. alloc1 ! (λ l₁₂. alloc0 ! $ params1 ! $
           pass1 ! (init ! 22 refl (EL.lawful D.the-type D′.the-laws 𝓤 H A W tt .typed way _ way-is .0)) $
-          pass1 ! (init ! 20 refl (shr-slice-lawful 𝓤 H A W (named 0) κ₁ u8 .typed plan (slice plan ∷ []) plan-is .0)) $
+          pass1 ! (init ! 20 refl (shr-slice-lawful 𝓤 H A W (named 0) κ₁ u8 .typed asked (slice asked ∷ []) asked-is .0)) $
           pass1 ! (init ! 18 refl (shr-slice-lawful 𝓤 H A W (named 1) κ₂ u8 .typed graph (slice graph ∷ []) graph-is .0)) $
           pass1 ! (init ! 16 refl (EL.lawful L.the-type L′.the-laws 𝓤 H A W tt .typed limit _ limit-is .0)) $
           pass1 ! (init ! 14 refl (tt, (tt, (record { fits = room .0 }, tt)))) $
@@ -377,7 +376,7 @@ module _ {M : Type 1} (𝓤 : URA M) (H : Heap 𝓤) (A : Atoms 𝓤) (W : Given
   goes = (
     goes-dropped 𝓤 H A W 3 way-slot yes (λ κs x f. refl),
     (
-      goes-dropped 𝓤 H A W 3 plan-slot yes (λ κs x f. refl),
+      goes-dropped 𝓤 H A W 3 asked-slot yes (λ κs x f. refl),
       (
         goes-dropped 𝓤 H A W 3 graph-slot yes (λ κs x f. refl),
         (

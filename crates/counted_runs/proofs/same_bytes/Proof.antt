@@ -5,10 +5,10 @@ use Rattle.counted_runs.proofs.same_bytes.Statement.{statement}
 use Rattle.counted_runs.proofs.same_bytes.Tie as tie
 
 abbrev Inv-loop : tie.InvT-loop
-Inv-loop out w i₀ i = i ≤ 24
+Inv-loop out w i₀ i = i ≤ 40
 
 abbrev μ-loop : tie.MeasureT-loop
-μ-loop out w i₀ i = 24 - i
+μ-loop out w i₀ i = 40 - i
 
 pub same-bytes-spec : {M : Type 1} → statement M
 same-bytes-spec =

@@ -1,0 +1,11 @@
+pub mod Sums
+pub mod Distinct
+pub mod Digits
+pub mod Order
+pub mod Words
+pub mod Legal
+pub mod Extension
+pub mod Three
+pub mod Options
+pub mod Held
+pub mod Gathered

@@ -1,0 +1,4 @@
+pub mod Packed
+pub mod Three
+pub mod Rounds
+pub mod Held

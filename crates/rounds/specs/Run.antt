@@ -1,17 +1,19 @@
--- ROUNDS AND RUNS ON A TABLE (document 01: pull run, push run), over what the table shows at each vertex before and after (cells/specs/Table).
-use Prim.Native.Nat.{ℕ, suc, _≤_, _<_}
+-- ROUNDS AND RUNS ON A TABLE (document 01: pull run, push run), over what the table shows at each vertex before and after (table/specs/Table).
+use Prim.Native.Nat.{ℕ, suc, _+_, _*_, _≤_, _<_}
 use mathlib.Core.Path.{_≡_}
 use mathlib.Core.Logic.{_⊎_}
 use mathlib.Core.Bool.{Bool, not}
 use mathlib.Core.List.{List, map}
 use lib.Dec.{T}
-use lib.ListN.{length, getD}
+use lib.ListN.{length}
+use Rattle.walks.specs.Meaning.{value}
 use Rattle.walks.specs.Rounds.{State, gather, initial, marked, push-round, quiet, reached, same, unchanged}
 use Rattle.walks.specs.Walks.{Graph, Network}
 use Rattle.meaning.specs.Query.{PathReduction, network-of}
 use Rattle.meaning.specs.Run.{pull}
 use Rattle.packed_path.specs.declared.PackedPath.{PackedPath}
-use Rattle.cells.specs.Table.{Sound, any-vertex, cell-in, changed-in, figures-in, path-at, paths-in}
+use Rattle.table.specs.Steps.{value-in}
+use Rattle.table.specs.Table.{Others, Sound, any-vertex, changed-in, figures-in, path-at, paths-in}
 
 -- what each vertex holds after a round, of what it held before. BY PULL: over all edges that may be taken
 abbrev pub pulled : Network → List ℕ → State → State
@@ -20,10 +22,6 @@ pulled N ks S v = gather N ks (N .usable) S v (N .edges)
 -- BY PUSH: over those from vertices that the round before changed
 abbrev pub pushed-from : Network → List ℕ → State → (ℕ → Bool) → State
 pushed-from N ks S changed = push-round N ks (record { holds = S; changed = changed })
-
--- the other path reductions have what they had
-abbrev pub Others : ℕ → ℕ → List ℕ → List ℕ → Type 0
-Others n j old new = (i : ℕ) → i < 8 → (i ≡ j → ⊥) → (v : ℕ) → v < n → cell-in new i v ≡ cell-in old i v
 
 -- INITIAL VALUES of the path reduction c with index j: "start values are round 0"
 pub record Begun (g : Graph) (c : PathReduction) (j : ℕ) (old new : List ℕ) : Type 0 where
@@ -48,33 +46,20 @@ PullRound g c r j old new says = Round g c r j (pulled (network-of g c) (c .keys
 abbrev pub PushRound : Graph → PathReduction → ℕ → ℕ → List ℕ → List ℕ → Bool → Type 0
 PushRound g c r j old new says = Round g c r j (pushed-from (network-of g c) (c .keys) (figures-in c old j) (changed-in r old j)) old new says
 
--- the path reduction c with index j AFTER r ROUNDS. It may rest (flag 1) where the round after r changes nothing; then it is no longer marked
-pub record Stands (g : Graph) (c : PathReduction) (r j flag : ℕ) (l : List ℕ) : Type 0 where
+-- the path reduction c with index j AFTER r ROUNDS
+pub record Stands (g : Graph) (c : PathReduction) (r j : ℕ) (l : List ℕ) : Type 0 where
   pub figures : (v : ℕ) → v < g .vertices → figures-in c l j v ≡ pull g c r v
-  pub marks : (flag ≡ 1 → ⊥) → (v : ℕ) → v < g .vertices → changed-in r l j v ≡ marked (network-of g c) (c .keys) r .changed v
-  pub rests : flag ≡ 1 → T (unchanged (pull g c) r (g .vertices))
+  pub marks : (v : ℕ) → v < g .vertices → changed-in r l j v ≡ marked (network-of g c) (c .keys) r .changed v
   pub sound : Sound (g .vertices) c r l j
 
--- one that does not rest goes on by a round, and says whether any vertex changed
+-- it goes on by a round, and says whether any vertex changed
 abbrev pub Advanced : Graph → PathReduction → ℕ → ℕ → List ℕ → List ℕ → Bool → Type 0
-Advanced g c r j old new says = Stands g c (suc r) j 0 new × (says ≡ not (unchanged (pull g c) r (g .vertices))) × Others (g .vertices) j old new
-
--- before its turn, among the flags `rest` of all
-abbrev pub Waits : Graph → PathReduction → ℕ → ℕ → List ℕ → List ℕ → Type 0
-Waits g c r j rest l = (length rest ≡ 8) × Stands g c r j (getD rest j 0) l
-
--- the turn of one in the round after r, among the flags `rest` of all
-pub record Turned (g : Graph) (c : PathReduction) (r j : ℕ) (rest rest′ old new : List ℕ) (says : Bool) : Type 0 where
-  pub stands : Stands g c (suc r) j (getD rest′ j 0) new
-  pub changes : says ≡ not (unchanged (pull g c) r (g .vertices))
-  pub other-flags : (i : ℕ) → (i ≡ j → ⊥) → getD rest′ i 0 ≡ getD rest i 0
-  pub others : Others (g .vertices) j old new
+Advanced g c r j old new says = Stands g c (suc r) j new × (says ≡ not (unchanged (pull g c) r (g .vertices))) × Others (g .vertices) j old new
 
 -- all path reductions of a table after r rounds
-pub record AllStand (g : Graph) (paths : ℕ) (table : List PackedPath) (r : ℕ) (rest l : List ℕ) : Type 0 where
-  pub each : (j : ℕ) → j < paths → Stands g (path-at table j) r j (getD rest j 0) l
-  pub flags : length rest ≡ 8
-  pub long : length l ≡ 8192
+pub record AllStand (g : Graph) (paths : ℕ) (table : List PackedPath) (r : ℕ) (l : List ℕ) : Type 0 where
+  pub each : (j : ℕ) → j < paths → Stands g (path-at table j) r j l
+  pub long : 32 + 8 * g .vertices ≤ length l
 
 -- does the round after r change no vertex for any of them?
 abbrev pub quiet-after : Graph → ℕ → List PackedPath → ℕ → Bool
@@ -93,4 +78,10 @@ pub record Ran (g : Graph) (paths : ℕ) (table : List PackedPath) (limit rounds
   pub ended : Ended g paths table limit rounds
   pub shows : (j : ℕ) → j < paths → (v : ℕ) → v < g .vertices → figures-in (path-at table j) figures j v ≡ pull g (path-at table j) rounds v
   pub sound : (j : ℕ) → j < paths → Sound (g .vertices) (path-at table j) rounds figures j
-  pub long : length figures ≡ 8192
+
+-- WHAT IS READ OFF such a table: the value of each path reduction at each vertex
+abbrev pub AllSound : ℕ → ℕ → List PackedPath → List ℕ → Type 0
+AllSound n paths table l = (j : ℕ) → j < paths → (r : ℕ) × Sound n (path-at table j) r l j
+
+abbrev pub Read : ℕ → ℕ → List PackedPath → List ℕ → List ℕ → Type 0
+Read n paths table old new = (j : ℕ) → j < paths → (v : ℕ) → v < n → value-in new j v ≡ value (figures-in (path-at table j) old j v)

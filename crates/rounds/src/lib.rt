@@ -1,214 +1,204 @@
-// Rounds of all path reductions of a plan on one flat table (document 01: pull run, push run). Path reduction j has the numbers from
-// 1,024 * j on (crate cells). `work` is room for the figures of the round before, lent once: what is left in it is free, and it is as long as it was.
+// Rounds of all path reductions of a plan on one table (document 01: pull run, push run; crate table). Rounds are outside, path reductions inside: after each
+// round all have their figures. `work` is room for one path reduction's round at a time, lent once: what is left in it is free, and it is as long as it was.
+use packed_figures::PathConstants;
 use packed_path::PackedPath;
 ghost use mathlib.Core.Path.{_≡_};
 ghost use mathlib.Core.Bool.{not};
-ghost use Prim.Native.Nat.{suc, _*_, _<_, _≤_};
-ghost use lib.ListN.{length, replicate};
+ghost use Prim.Native.Nat.{suc, _+_, _*_, _<_, _≤_};
+ghost use lib.Dec.{T};
+ghost use lib.ListN.{length};
+ghost use Rattle.walks.specs.Keys.{legal-keys};
 ghost use Rattle.walks.specs.Lists.{All};
 ghost use Rattle.meaning.specs.Limits.{PathFits};
 ghost use Rattle.wire.specs.Wire.{at16};
 ghost use Rattle.graph.specs.Graph.{graph-code, graph-of};
 ghost use Rattle.packed_path.specs.Packed.{path-of};
-ghost use Rattle.cells.specs.Table.{Sound, paths-in};
-ghost use Rattle.rounds.specs.Run.{Advanced, AllStand, Begun, PullRound, PushRound, Ran, Stands, Turned, Waits, quiet-after};
-ghost use Rattle.rounds.specs.Steps.{initialized-at, stepped, step-takes};
+ghost use Rattle.packed_figures.specs.Packed.{constants};
+ghost use Rattle.table.specs.Table.{Sound, paths-in};
+ghost use Rattle.rounds.specs.Run.{Advanced, AllSound, AllStand, Begun, PullRound, PushRound, Ran, Read, Stands, quiet-after};
+ghost use Rattle.rounds.specs.Steps.{Constants, Indexed, Threads, small};
 
-// How many vertices an accepted graph has.
-fn vertices(graph: &[u8]) -> usize
-    requires { ⌜ graph-code (now graph) ≡ 0 ⌝ }
-    ensures { λ r. ⌜ (r ≡ at16 (now (graph .entry)) 5) × (r ≤ 256) ⌝ }
+// ---- what is fixed for a run
+
+// The constants of a path reduction.
+fn constants_of(path: PackedPath) -> PathConstants
+    requires { ⌜ T (legal-keys (path-of path .keys)) ⌝ }
+    ensures { λ r. ⌜ r ≡ constants (path-of path .keys) ⌝ }
 {
-    wire::half(graph, 5) as usize
+    packed_figures::path_constants(path.keys)
+}
+
+// Those of all path reductions.
+fn all_constants(n: usize, paths: usize, table: [PackedPath; 8]) -> [PathConstants; 8]
+    requires { ⌜ (paths ≤ 8) × All (PathFits n) (paths-in paths table) ⌝ }
+    ensures { λ r. ⌜ Constants paths table r ⌝ }
+{
+    let mut all = [packed_figures::path_constants(0); 8];
+    let mut j: usize = 0;
+    while j < paths {
+        let path = table[j];
+        all[j] = constants_of(path);
+        j += 1;
+    }
+    all
 }
 
 // ---- initial values
 
-// Those of path reduction j, in its part of the table.
-fn initialize_part(path: PackedPath, graph: &[u8], j: usize, figures: &mut [u32])
-    requires { ⌜ (graph-code (now graph) ≡ 0) × (j < 8) × (length (now figures) ≡ 8192) ⌝ }
-    ensures { λ _. ⌜ now (figures .exit) ≡ initialized-at (now (graph .entry)) path j (now (figures .entry)) ⌝ }
-{
-    let n = vertices(graph);
-    let first = 1024 * j;
-    let end = first + 4 * n;
-    cells::initialize(path, n, &mut figures[first..end])
-}
-
-// What the table shows then.
-fn initialize_at(path: PackedPath, graph: &[u8], j: usize, figures: &mut [u32])
+// Those of path reduction j.
+fn initialize_at(path: PackedPath, c: PathConstants, graph: &[u8], j: usize, figures: &mut [u64])
     requires { ⌜
-        (graph-code (now graph) ≡ 0) × (j < 8) × PathFits (at16 (now graph) 5) (path-of path) × (length (now figures) ≡ 8192)
+        (graph-code (now graph) ≡ 0) × (j < 8) × PathFits (at16 (now graph) 5) (path-of path) × (c ≡ constants (path-of path .keys))
+        × (32 + 8 * at16 (now graph) 5 ≤ length (now figures))
         ⌝ }
     ensures { λ _. ⌜ Begun (graph-of (now (graph .entry))) (path-of path) j (now (figures .entry)) (now (figures .exit)) ⌝ }
 {
-    initialize_part(path, graph, j, figures)
+    table::initialize(path, c, incoming::vertices(graph), j, figures)
 }
 
-// The initial values of all path reductions.
-fn initialize_all(graph: &[u8], paths: usize, table: [PackedPath; 8], figures: &mut [u32])
+// Those of all path reductions.
+fn initialize_all(
+    graph: &[u8],
+    paths: usize,
+    table: [PackedPath; 8],
+    all: [PathConstants; 8],
+    figures: &mut [u64],
+)
     requires { ⌜
-        (graph-code (now graph) ≡ 0) × (paths ≤ 8) × All (PathFits (at16 (now graph) 5)) (paths-in paths table) × (length (now figures) ≡ 8192)
+        (graph-code (now graph) ≡ 0) × (paths ≤ 8) × All (PathFits (at16 (now graph) 5)) (paths-in paths table) × Constants paths table all
+        × (32 + 8 * at16 (now graph) 5 ≤ length (now figures))
         ⌝ }
-    ensures { λ _. ⌜ AllStand (graph-of (now (graph .entry))) paths table 0 (replicate 8 0) (now (figures .exit)) ⌝ }
+    ensures { λ _. ⌜ AllStand (graph-of (now (graph .entry))) paths table 0 (now (figures .exit)) ⌝ }
 {
     let mut j: usize = 0;
     while j < paths {
         let path = table[j];
-        initialize_at(path, graph, j, figures);
+        let c = all[j];
+        initialize_at(path, c, graph, j, figures);
         j += 1;
     }
 }
 
-// ---- a round of one path reduction
+// ---- a round of one path reduction, which has had r rounds
 
-// Over the edges from vertices stamped since a round, in its part of the table. Whether a vertex changed.
-fn step_at(
-    keys: u32,
-    graph: &[u8],
-    j: usize,
-    since: u32,
-    stamp: u32,
-    figures: &mut [u32],
-    work: &mut [u32],
-) -> bool
-    requires { ⌜ (graph-code (now graph) ≡ 0) × (j < 8) × (length (now figures) ≡ 8192) × (length (now work) ≡ 4 * at16 (now graph) 5) ⌝ }
-    ensures { λ r. ⌜
-        (r ≡ step-takes (now (graph .entry)) keys j since stamp (now (figures .entry)))
-        × (now (figures .exit) ≡ stepped (now (graph .entry)) keys j since stamp (now (figures .entry)))
-        × (length (now (work .exit)) ≡ length (now (work .entry)))
-        ⌝ }
-{
-    let n = vertices(graph);
-    let from = 1024 * j;
-    let end = from + 4 * n;
-    cells::step(keys, graph, since, stamp, &mut figures[from..end], work)
-}
-
-// BY PULL, the round after r: over all edges. (Those from absent vertices, which have stamp 0, bring nothing.)
+// BY PULL: every vertex is walked, over all edges into it.
 fn pull_round(
     path: PackedPath,
+    c: PathConstants,
     graph: &[u8],
+    heads: &[u16],
+    nexts: &[u16],
     j: usize,
     r: u16,
-    figures: &mut [u32],
-    work: &mut [u32],
+    figures: &mut [u64],
+    work: &mut [u64],
 ) -> bool
     requires { ⌜
-        (graph-code (now graph) ≡ 0) × (j < 8) × PathFits (at16 (now graph) 5) (path-of path) × (r < 65535)
-        × Sound (at16 (now graph) 5) (path-of path) r (now figures) j × (length (now work) ≡ 4 * at16 (now graph) 5)
+        Threads (now graph) (now heads) (now nexts) × (j < 8) × PathFits (at16 (now graph) 5) (path-of path) × (c ≡ constants (path-of path .keys))
+        × (r < 1023) × Sound (at16 (now graph) 5) (path-of path) r (now figures) j × (12 + at16 (now graph) 5 ≤ length (now work))
         ⌝ }
     ensures { λ b. ⌜
         PullRound (graph-of (now (graph .entry))) (path-of path) r j (now (figures .entry)) (now (figures .exit)) b
         × (length (now (work .exit)) ≡ length (now (work .entry)))
         ⌝ }
 {
-    step_at(path.keys, graph, j, 1, r as u32 + 2, figures, work)
+    table::touch_all(incoming::vertices(graph), work);
+    table::step(c, j, graph, heads, nexts, figures, work)
 }
 
-// BY PUSH: over the edges from vertices that round r changed.
+// BY PUSH: the successors of the vertices that the round before changed are walked, over the edges from changed ones (Definition 3).
 fn push_round(
     path: PackedPath,
+    c: PathConstants,
     graph: &[u8],
+    heads: &[u16],
+    nexts: &[u16],
+    successors: &[u64],
     j: usize,
     r: u16,
-    figures: &mut [u32],
-    work: &mut [u32],
+    figures: &mut [u64],
+    work: &mut [u64],
 ) -> bool
     requires { ⌜
-        (graph-code (now graph) ≡ 0) × (j < 8) × PathFits (at16 (now graph) 5) (path-of path) × (r < 65535)
-        × Sound (at16 (now graph) 5) (path-of path) r (now figures) j × (length (now work) ≡ 4 * at16 (now graph) 5)
+        Indexed (now graph) (now heads) (now nexts) (now successors) × (j < 8) × PathFits (at16 (now graph) 5) (path-of path)
+        × (c ≡ constants (path-of path .keys)) × (r < 1023) × Sound (at16 (now graph) 5) (path-of path) r (now figures) j
+        × (12 + at16 (now graph) 5 ≤ length (now work))
         ⌝ }
     ensures { λ b. ⌜
         PushRound (graph-of (now (graph .entry))) (path-of path) r j (now (figures .entry)) (now (figures .exit)) b
         × (length (now (work .exit)) ≡ length (now (work .entry)))
         ⌝ }
 {
-    step_at(
-        path.keys,
-        graph,
-        j,
-        r as u32 + 1,
-        r as u32 + 2,
-        figures,
-        work,
-    )
+    table::touch(j, incoming::vertices(graph), figures, successors, work);
+    table::step(c, j, graph, heads, nexts, figures, work)
 }
 
 // ---- rounds of all
 
-// The next state of a path reduction that does not rest, by push or by pull. Whether a vertex changed.
+// The next state of path reduction j, by push or by pull: one that no vertex changed for rests, and stays as it is. Whether a vertex changed.
 fn advance(
     push: bool,
     path: PackedPath,
+    c: PathConstants,
     graph: &[u8],
+    heads: &[u16],
+    nexts: &[u16],
+    successors: &[u64],
     j: usize,
     r: u16,
-    figures: &mut [u32],
-    work: &mut [u32],
+    figures: &mut [u64],
+    work: &mut [u64],
 ) -> bool
     requires { ⌜
-        (graph-code (now graph) ≡ 0) × (j < 8) × PathFits (at16 (now graph) 5) (path-of path) × (r < 65535)
-        × Stands (graph-of (now graph)) (path-of path) r j 0 (now figures) × (length (now work) ≡ 4 * at16 (now graph) 5)
+        Indexed (now graph) (now heads) (now nexts) (now successors) × (j < 8) × PathFits (at16 (now graph) 5) (path-of path)
+        × (c ≡ constants (path-of path .keys)) × Stands (graph-of (now graph)) (path-of path) r j (now figures)
+        × (12 + at16 (now graph) 5 ≤ length (now work))
         ⌝ }
     ensures { λ b. ⌜
         Advanced (graph-of (now (graph .entry))) (path-of path) r j (now (figures .entry)) (now (figures .exit)) b
         × (length (now (work .exit)) ≡ length (now (work .entry)))
         ⌝ }
 {
-    if push {
-        return push_round(path, graph, j, r, figures, work);
-    }
-    pull_round(path, graph, j, r, figures, work)
-}
-
-// The turn of path reduction j in the round after r: one that is quiet rests, and stays as it is. Whether a vertex changed.
-fn turn(
-    push: bool,
-    path: PackedPath,
-    graph: &[u8],
-    j: usize,
-    r: u16,
-    rest: &mut [u8],
-    figures: &mut [u32],
-    work: &mut [u32],
-) -> bool
-    requires { ⌜
-        (graph-code (now graph) ≡ 0) × (j < 8) × PathFits (at16 (now graph) 5) (path-of path) × (r < 65535)
-        × Waits (graph-of (now graph)) (path-of path) r j (now rest) (now figures) × (length (now work) ≡ 4 * at16 (now graph) 5)
-        ⌝ }
-    ensures { λ b. ⌜
-        Turned (graph-of (now (graph .entry))) (path-of path) r j (now (rest .entry)) (now (rest .exit)) (now (figures .entry)) (now (figures .exit)) b
-        × (length (now (work .exit)) ≡ length (now (work .entry)))
-        ⌝ }
-{
-    if rest[j] == 1 {
+    if incoming::vertices(graph) <= vertex_set::next(figures, j, 0) {
         return false;
     }
-    if advance(push, path, graph, j, r, figures, work) {
-        return true;
+    if push {
+        return push_round(
+            path,
+            c,
+            graph,
+            heads,
+            nexts,
+            successors,
+            j,
+            r,
+            figures,
+            work,
+        );
     }
-    rest[j] = 1;
-    false
+    pull_round(path, c, graph, heads, nexts, j, r, figures, work)
 }
 
 // The round after r of all path reductions. Whether any changed.
 fn round(
     push: bool,
     graph: &[u8],
+    heads: &[u16],
+    nexts: &[u16],
+    successors: &[u64],
     paths: usize,
     table: [PackedPath; 8],
+    all: [PathConstants; 8],
     r: u16,
-    rest: &mut [u8],
-    figures: &mut [u32],
-    work: &mut [u32],
+    figures: &mut [u64],
+    work: &mut [u64],
 ) -> bool
     requires { ⌜
-        (graph-code (now graph) ≡ 0) × (paths ≤ 8) × All (PathFits (at16 (now graph) 5)) (paths-in paths table) × (r < 65535)
-        × AllStand (graph-of (now graph)) paths table r (now rest) (now figures) × (length (now work) ≡ 4 * at16 (now graph) 5)
+        Indexed (now graph) (now heads) (now nexts) (now successors) × (paths ≤ 8) × All (PathFits (at16 (now graph) 5)) (paths-in paths table)
+        × Constants paths table all × AllStand (graph-of (now graph)) paths table r (now figures) × (12 + at16 (now graph) 5 ≤ length (now work))
         ⌝ }
     ensures { λ b. ⌜
-        AllStand (graph-of (now (graph .entry))) paths table (suc r) (now (rest .exit)) (now (figures .exit))
+        AllStand (graph-of (now (graph .entry))) paths table (suc r) (now (figures .exit))
         × (b ≡ not (quiet-after (graph-of (now (graph .entry))) paths table r)) × (length (now (work .exit)) ≡ length (now (work .entry)))
         ⌝ }
 {
@@ -216,7 +206,20 @@ fn round(
     let mut j: usize = 0;
     while j < paths {
         let path = table[j];
-        let moved = turn(push, path, graph, j, r, rest, figures, work);
+        let c = all[j];
+        let moved = advance(
+            push,
+            path,
+            c,
+            graph,
+            heads,
+            nexts,
+            successors,
+            j,
+            r,
+            figures,
+            work,
+        );
         changed = changed | moved;
         j += 1;
     }
@@ -227,29 +230,95 @@ fn round(
 fn rounds(
     push: bool,
     graph: &[u8],
+    heads: &[u16],
+    nexts: &[u16],
+    successors: &[u64],
     paths: usize,
     table: [PackedPath; 8],
+    all: [PathConstants; 8],
     limit: u16,
-    figures: &mut [u32],
-    work: &mut [u32],
+    figures: &mut [u64],
+    work: &mut [u64],
 ) -> u16
     requires { ⌜
-        (graph-code (now graph) ≡ 0) × (paths ≤ 8) × All (PathFits (at16 (now graph) 5)) (paths-in paths table)
-        × AllStand (graph-of (now graph)) paths table 0 (replicate 8 0) (now figures) × (length (now work) ≡ 4 * at16 (now graph) 5)
+        Indexed (now graph) (now heads) (now nexts) (now successors) × (paths ≤ 8) × All (PathFits (at16 (now graph) 5)) (paths-in paths table)
+        × Constants paths table all × AllStand (graph-of (now graph)) paths table 0 (now figures) × (12 + at16 (now graph) 5 ≤ length (now work))
         ⌝ }
     ensures { λ r. ⌜ Ran (graph-of (now (graph .entry))) paths table limit r (now (figures .exit))
         × (length (now (work .exit)) ≡ length (now (work .entry))) ⌝ }
 {
-    let mut rest = [0u8; 8];
     let mut r: u16 = 0;
     while r < limit {
-        let changed = round(push, graph, paths, table, r, &mut rest, figures, work);
+        let changed = round(
+            push,
+            graph,
+            heads,
+            nexts,
+            successors,
+            paths,
+            table,
+            all,
+            r,
+            figures,
+            work,
+        );
         r += 1;
         if !changed {
             return r;
         }
     }
     r
+}
+
+// ---- a run
+
+// In tables that are lent: the index of the graph, the initial values, the rounds.
+fn run_in(
+    push: bool,
+    graph: &[u8],
+    paths: usize,
+    table: [PackedPath; 8],
+    limit: u16,
+    heads: &mut [u16],
+    nexts: &mut [u16],
+    successors: &mut [u64],
+    figures: &mut [u64],
+    work: &mut [u64],
+) -> u16
+    requires { ⌜
+        (graph-code (now graph) ≡ 0) × (paths ≤ 8) × All (PathFits (at16 (now graph) 5)) (paths-in paths table)
+        × (at16 (now graph) 5 ≤ length (now heads)) × (at16 (now graph) 7 ≤ length (now nexts)) × (4 * at16 (now graph) 5 ≤ length (now successors))
+        × (32 + 8 * at16 (now graph) 5 ≤ length (now figures)) × (12 + at16 (now graph) 5 ≤ length (now work))
+        ⌝ }
+    ensures { λ r. ⌜ Ran (graph-of (now (graph .entry))) paths table limit r (now (figures .exit)) ⌝ }
+{
+    incoming::index(graph, heads, nexts, successors);
+    let all = all_constants(incoming::vertices(graph), paths, table);
+    initialize_all(graph, paths, table, all, figures);
+    rounds(
+        push,
+        graph,
+        heads,
+        nexts,
+        successors,
+        paths,
+        table,
+        all,
+        limit,
+        figures,
+        work,
+    )
+}
+
+// Has the graph few vertices and edges? Its tables are short then, so that a small one does not pay for 256 vertices.
+pub fn is_small(graph: &[u8]) -> bool
+    requires { ⌜ graph-code (now graph) ≡ 0 ⌝ }
+    ensures { λ r. ⌜ r ≡ small (now (graph .entry)) ⌝ }
+{
+    if 16 < incoming::vertices(graph) {
+        return false;
+    }
+    incoming::rows(graph) <= 64
 }
 
 // A run: rounds until one changes nothing, at most `limit`, by push over the edges from vertices that changed in the round before, by pull over all. How many
@@ -260,15 +329,51 @@ pub fn run(
     paths: usize,
     table: [PackedPath; 8],
     limit: u16,
-    figures: &mut [u32],
+    figures: &mut [u64],
 ) -> u16
     requires { ⌜
-        (graph-code (now graph) ≡ 0) × (paths ≤ 8) × All (PathFits (at16 (now graph) 5)) (paths-in paths table) × (length (now figures) ≡ 8192)
+        (graph-code (now graph) ≡ 0) × (paths ≤ 8) × All (PathFits (at16 (now graph) 5)) (paths-in paths table)
+        × (32 + 8 * at16 (now graph) 5 ≤ length (now figures))
         ⌝ }
     ensures { λ r. ⌜ Ran (graph-of (now (graph .entry))) paths table limit r (now (figures .exit)) ⌝ }
 {
-    let mut room = [0u32; 1024];
-    let w = 4 * vertices(graph);
-    initialize_all(graph, paths, table, figures);
-    rounds(push, graph, paths, table, limit, figures, &mut room[..w])
+    if is_small(graph) {
+        return run_in(
+            push,
+            graph,
+            paths,
+            table,
+            limit,
+            &mut [0u16; 16],
+            &mut [0u16; 64],
+            &mut [0u64; 64],
+            figures,
+            &mut [0u64; 28],
+        );
+    }
+    run_in(
+        push,
+        graph,
+        paths,
+        table,
+        limit,
+        &mut [0u16; 256],
+        &mut [0u16; 1024],
+        &mut [0u64; 1024],
+        figures,
+        &mut [0u64; 268],
+    )
+}
+
+// The values of all path reductions at n vertices, in place of their figures.
+pub fn read_values(n: usize, paths: usize, table: [PackedPath; 8], figures: &mut [u64])
+    requires { ⌜ (n ≤ 256) × (paths ≤ 8) × All (PathFits n) (paths-in paths table) × AllSound n paths table (now figures) ⌝ }
+    ensures { λ _. ⌜ Read n paths table (now (figures .entry)) (now (figures .exit)) ⌝ }
+{
+    let mut j: usize = 0;
+    while j < paths {
+        let path = table[j];
+        table::read_values(constants_of(path), n, j, figures);
+        j += 1;
+    }
 }

@@ -1,3 +1,4 @@
 pub mod Cells
 pub mod Walks
 pub mod Rounds
+pub mod Touched

@@ -11,21 +11,17 @@ use Rattle.value.specs.declared.Value.the-variants.{Absent, Number}
 use Rattle.wire.specs.Wire.{at16}
 use Rattle.graph.specs.Graph.{edge-in, graph-code}
 use Rattle.incoming.specs.Incoming.{Threaded}
-use Rattle.vertex_set.specs.Sets.{inserted, member}
+use Rattle.vertex_set.specs.Sets.{emptied, filled, inserted, joined, joined-chosen, member}
 use Rattle.packed_figures.specs.declared.PathConstants.{PathConstants}
 use Rattle.packed_figures.specs.Packed.{absent, base-word, figure-of}
 use Rattle.packed_figures.specs.Packed as packed
 use Rattle.packed_figures.specs.Rounds.{gathered}
 use Rattle.packed_figures.specs.Rounds as words
-use Rattle.table.specs.Table.{any-vertex, cell, cell-in}
+use Rattle.table.specs.Table.{Others, any-vertex, cell, cell-in}
 
 -- the word of path reduction j at vertex v
 abbrev pub word-in : List ℕ → ℕ → ℕ → ℕ
 word-in l j v = getD l (32 + 8 * v + j) 0
-
--- the other path reductions have what they had, at n vertices
-abbrev pub Others : ℕ → ℕ → List ℕ → List ℕ → Type 0
-Others n j old new = (i : ℕ) → i < 8 → (i ≡ j → ⊥) → (v : ℕ) → v < n → cell-in new i v ≡ cell-in old i v
 
 -- ---- initial values
 
@@ -112,6 +108,15 @@ pub record Stepped (s : List ℕ) (c : PathConstants) (j : ℕ) (old work new : 
   pub others : Others (at16 s 5) j old new
   pub stirs : says ≡ any-vertex (at16 s 5) (λ v. cell-in new j v .changed)
   pub size : length new ≡ length old
+
+-- ---- sets 0 and 1 of `work` before a round
+
+-- by push those that the last round changed, and their successors; by pull all
+unfoldable pub touched : ℕ → ℕ → List ℕ → List ℕ → List ℕ → List ℕ
+touched j n figures successors work = joined-chosen (emptied (joined (emptied work 0) 0 figures j) 1) 1 figures j successors n
+
+unfoldable pub touched-all : ℕ → List ℕ → List ℕ
+touched-all n work = filled (filled work 0 n) 1 n
 
 -- ---- the values read off the words
 

@@ -58,3 +58,7 @@ pub record SoundWord (ks : List ℕ) (r x : ℕ) : Type 0 where
 pub record Sound (n : ℕ) (c : PathReduction) (r : ℕ) (l : List ℕ) (j : ℕ) : Type 0 where
   pub long : 32 + 8 * n ≤ length l
   pub words : (v : ℕ) → v < n → SoundWord (c .keys) r (cell-in l j v .word)
+
+-- the other path reductions have what they had
+abbrev pub Others : ℕ → ℕ → List ℕ → List ℕ → Type 0
+Others n j old new = (i : ℕ) → i < 8 → (i ≡ j → ⊥) → (v : ℕ) → v < n → cell-in new i v ≡ cell-in old i v

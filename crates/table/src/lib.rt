@@ -13,7 +13,7 @@ ghost use Rattle.packed_figures.specs.Packed.{Sound};
 ghost use Rattle.packed_path.specs.Packed.{sources-of};
 ghost use Rattle.packed_path.specs.Steps.{begins};
 ghost use Rattle.table.specs.Steps.{Began, Blank, Committed, Inside, Movable, Ready, Stepped, Valued, Walked, brings, reduced-word, started};
-ghost use Rattle.table.specs.Steps.{value-word, walked-at};
+ghost use Rattle.table.specs.Steps.{touched, touched-all, value-word, walked-at};
 
 // A row number as an index.
 fn row_number(x: u16) -> usize
@@ -53,14 +53,7 @@ pub fn initialize(path: PackedPath, c: PathConstants, n: usize, j: usize, figure
 // ---- a round of one path reduction
 
 // What edge i brings to its end: the word of its start with one more edge, or ABSENT where its start is not in set 0 of `work`.
-fn brought(
-    c: PathConstants,
-    j: usize,
-    i: usize,
-    graph: &[u8],
-    figures: &[u64],
-    work: &[u64],
-) -> u64
+fn brought(c: PathConstants, j: usize, i: usize, graph: &[u8], figures: &[u64], work: &[u64]) -> u64
     requires { ⌜ Inside (now graph) c j (now figures) (now work) × (i < at16 (now graph) 7) ⌝ }
     ensures { λ r. ⌜ r ≡ brings (now (graph .entry)) c j (now (figures .entry)) (now (work .entry)) i ⌝ }
 {
@@ -170,6 +163,26 @@ pub fn step(
     walk(c, j, graph, heads, nexts, figures, work);
     commit(j, figures, work);
     vertex_set::next(work, 2, 0) < 256
+}
+
+// By push: set 0 is that of the vertices that the last round of path reduction j changed, set 1 that of their successors.
+pub fn touch(j: usize, n: usize, figures: &[u64], successors: &[u64], work: &mut [u64])
+    requires { ⌜ (j < 8) × (n ≤ 256) × (32 ≤ length (now figures)) × (4 * n ≤ length (now successors)) × (12 ≤ length (now work)) ⌝ }
+    ensures { λ _. ⌜ now (work .exit) ≡ touched j n (now (figures .entry)) (now (successors .entry)) (now (work .entry)) ⌝ }
+{
+    vertex_set::clear(work, 0);
+    vertex_set::join(work, 0, figures, j);
+    vertex_set::clear(work, 1);
+    vertex_set::join_chosen(work, 1, figures, j, n, successors);
+}
+
+// By pull: both are full.
+pub fn touch_all(n: usize, work: &mut [u64])
+    requires { ⌜ 12 ≤ length (now work) ⌝ }
+    ensures { λ _. ⌜ now (work .exit) ≡ touched-all n (now (work .entry)) ⌝ }
+{
+    vertex_set::fill(work, 0, n);
+    vertex_set::fill(work, 1, n);
 }
 
 // ---- values

@@ -156,6 +156,18 @@ module _ (words : List ℕ) (f : ℕ) (chosen : List ℕ) (c : ℕ) (others : Li
           ∙ rw (eq-eqb f f refl, e) (or-assoc (member words f v) (some-below (λ g. member chosen c g && member others g v) n) (member others n v))
       go false e = e ∙ ap (λ (b : Bool). member words f v || b) (or-false (some-below (λ g. member chosen c g && member others g v) n))
 
+  -- the other sets stay
+  pub member-chosen-other : (n g v : ℕ) → v < 256 → 4 * f + 4 ≤ length words → (g ≡ f → ⊥)
+      → member (joined-chosen words f chosen c others n) g v ≡ member words g v
+  unfolding joined-chosen
+  member-chosen-other zero g v h room a = refl
+  member-chosen-other (suc n) g v h room a = go (member chosen c n) (member-chosen-other n g v h room a)
+    where
+      go : (b : Bool) → member (joined-chosen words f chosen c others n) g v ≡ member words g v
+          → member (cond b (joined (joined-chosen words f chosen c others n) f others n) (joined-chosen words f chosen c others n)) g v ≡ member words g v
+      go true e = member-joined (joined-chosen words f chosen c others n) f others n g v h (rw (chosen-length n) room) ∙ rw (ne-eqb g f a) e
+      go false e = e
+
 -- ---- one member more
 
 -- the table is as long as before
@@ -285,24 +297,6 @@ next-word words f k h z =
 pub next-end : (words : List ℕ) (f : ℕ) → next-member words f 256 ≡ 256
 unfolding next-member
 next-end words f = least-end (member words f) 256
-
--- ---- no member
-
--- ---- sets of the same members
-
--- word k of set f and of set g of another table
-pub same-word : (a : List ℕ) (f : ℕ) (b : List ℕ) (g k : ℕ) → getD a (4 * f + k) 0 < 2 ^ 64 → getD b (4 * g + k) 0 < 2 ^ 64
-    → ((v : ℕ) → v < 256 → member a f v ≡ member b g v) → k < 4 → getD a (4 * f + k) 0 ≡ getD b (4 * g + k) 0
-same-word a f b g k ha hb same h =
-    same-digits 64 _ _ ha hb (λ j l. sym (member-at a f k j l) ∙ same (64 * k + j) (omega arith) ∙ member-at b g k j l)
-
--- SETS OF THE SAME MEMBERS ARE THE SAME WORDS
-pub same-set : (a b : List ℕ) → length a ≡ 4 → length b ≡ 4 → ((i : ℕ) → getD a i 0 < 2 ^ 64) → ((i : ℕ) → getD b i 0 < 2 ^ 64)
-    → ((v : ℕ) → v < 256 → member a 0 v ≡ member b 0 v) → a ≡ b
-same-set a b la lb ha hb same = ext-getD 0 a b (la ∙ sym lb) word
-  where
-    word : (i : ℕ) → i < length a → getD a i 0 ≡ getD b i 0
-    word i l = let e : 4 * 0 + i ≡ i = omega arith in rw e at (same-word a 0 b 0 i (rw e (ha i)) (rw e (hb i)) same (omega arith))
 
 -- ---- WHAT A STORE ELSEWHERE LEAVES: a table may hold other words behind its sets
 

@@ -143,14 +143,7 @@ pub fn next(words: &[u64], f: usize, from: usize) -> usize
 }
 
 // The members of the sets of another table whose numbers below n are in set c of `chosen`, into set f.
-pub fn join_chosen(
-    words: &mut [u64],
-    f: usize,
-    chosen: &[u64],
-    c: usize,
-    n: usize,
-    others: &[u64],
-)
+pub fn join_chosen(words: &mut [u64], f: usize, chosen: &[u64], c: usize, n: usize, others: &[u64])
     requires { ⌜ (4 * f + 4 ≤ length (now words)) × (4 * c + 4 ≤ length (now chosen)) × (n ≤ 256) × (4 * n ≤ length (now others)) ⌝ }
     ensures { λ _. ⌜ now (words .exit) ≡ joined-chosen (now (words .entry)) f (now (chosen .entry)) c (now (others .entry)) n ⌝ }
 {

@@ -1,38 +1,74 @@
--- `rounds::advance` meets its contract. Assumes nothing.
-use native.Mathlib.Omega.{arith}
-use Rattle.rounds.proofs.Standing.{pull-stands, push-stands}
-use Rattle.cell_laws.proofs.Path.{Given}
 use borrow.Author.Needs.{needs}
 use Rattle.rounds.proofs.advance.Statement.{statement}
 use Rattle.rounds.proofs.advance.Tie as tie
+use Rattle.rounds.proofs.advance.Reads as reads
+use Rattle.rounds.proofs.advance.Lts as lts
+use Rattle.incoming.proofs.vertices.Reads as vertices-reads
+use Rattle.rounds.proofs.pull_round.Reads as pull-round-reads
+use Rattle.rounds.proofs.push_round.Reads as push-round-reads
+use Rattle.vertex_set.proofs.next.Reads as next-reads
 
+-- src/lib.rt:162:8
+vertices-requires : tie.Need-vertices-requires
+vertices-requires c κs = search needs
+
+-- src/lib.rt:162:37
+next-requires : tie.Need-next-requires
+next-requires c κs = search needs
+
+-- src/lib.rt:163:9
+same-length : tie.Need-same-length
+same-length c = search needs
+
+-- src/lib.rt:163:9
 returns : tie.Need-returns
-returns c =
-    let s = c .before .before .before .before .before .before .before .before .before .before .before in
-    let a = s .args in
-    let known = c .before .before .before .before .before .before .before .before .before .before .shared-slice-known in
-    let given : Given (a .graph .now) (a .path) = record { bytes = λ i. omega (arith, known .given i); accepted = s .pre .0; fits = s .pre .2 } in
-    let t = c .before .before .before .before .push-round in
-    (push-stands (a .graph .now) (a .path) given (a .j) (a .r) (a .figures .now) (s .pre .4) _ _ (t .ensures .0), t .ensures .1)
+returns c = ?
 
+-- src/lib.rt:166:9
+push-round-requires : tie.Need-push-round-requires
+push-round-requires c κs = ?
+
+-- src/lib.rt:166:9
+same-length-2 : tie.Need-same-length-2
+same-length-2 c = search needs
+
+-- src/lib.rt:166:9
+same-length-3 : tie.Need-same-length-3
+same-length-3 c = search needs
+
+-- src/lib.rt:166:9
 returns-2 : tie.Need-returns-2
-returns-2 c =
-    let s = c .before .before .before .before .before .before .before .before .before .before .before in
-    let a = s .args in
-    let known = c .before .before .before .before .before .before .before .before .before .before .shared-slice-known in
-    let given : Given (a .graph .now) (a .path) = record { bytes = λ i. omega (arith, known .given i); accepted = s .pre .0; fits = s .pre .2 } in
-    let t = c .before .before .before .before .pull-round in
-    (pull-stands (a .graph .now) (a .path) given (a .j) (a .r) (a .figures .now) (s .pre .4) _ _ (t .ensures .0), t .ensures .1)
+returns-2 c = ?
+
+-- src/lib.rt:179:5
+pull-round-requires : tie.Need-pull-round-requires
+pull-round-requires c κs = ?
+
+-- src/lib.rt:139:1
+same-length-4 : tie.Need-same-length-4
+same-length-4 c = search needs
+
+-- src/lib.rt:139:1
+same-length-5 : tie.Need-same-length-5
+same-length-5 c = search needs
+
+-- src/lib.rt:139:1
+returns-3 : tie.Need-returns-3
+returns-3 c = ?
 
 pub advance-spec : {M : Type 1} → statement M
 advance-spec =
     tie.close
     (tie.spec
-    (λ c κs. search needs)
-    (λ c. search needs)
-    (λ c. search needs)
+    vertices-requires
+    next-requires
+    same-length
     returns
-    (λ c κs. search needs)
-    (λ c. search needs)
-    (λ c. search needs)
-    returns-2)
+    push-round-requires
+    same-length-2
+    same-length-3
+    returns-2
+    pull-round-requires
+    same-length-4
+    same-length-5
+    returns-3)

@@ -1,22 +1,37 @@
--- `rounds::push_round` meets its contract. Assumes nothing.
-use native.Mathlib.Omega.{arith}
-use Rattle.rounds.proofs.Shown.{push-round-at}
-use Rattle.cell_laws.proofs.Path.{Given}
 use borrow.Author.Needs.{needs}
 use Rattle.rounds.proofs.push_round.Statement.{statement}
 use Rattle.rounds.proofs.push_round.Tie as tie
+use Rattle.rounds.proofs.push_round.Reads as reads
+use Rattle.rounds.proofs.push_round.Lts as lts
+use Rattle.incoming.proofs.vertices.Reads as vertices-reads
+use Rattle.table.proofs.step.Reads as step-reads
+use Rattle.table.proofs.touch.Reads as touch-reads
 
+-- src/lib.rt:132:21
+vertices-requires : tie.Need-vertices-requires
+vertices-requires c κs = search needs
+
+-- src/lib.rt:132:5
+touch-requires : tie.Need-touch-requires
+touch-requires c κs = search needs
+
+-- src/lib.rt:133:5
+step-requires : tie.Need-step-requires
+step-requires c κs = ?
+
+-- src/lib.rt:110:1
+same-length : tie.Need-same-length
+same-length c = search needs
+
+-- src/lib.rt:110:1
+same-length-2 : tie.Need-same-length-2
+same-length-2 c = search needs
+
+-- src/lib.rt:110:1
 returns : tie.Need-returns
-returns c =
-    let s = c .before .before .before .before .before .before .before .before .before .before in
-    let a = s .args in
-    let known = c .before .before .before .before .before .before .before .before .before .shared-slice-known in
-    let t = c .before .before .before .before .step-at in
-    let given : Given (a .graph .now) (a .path) = record { bytes = λ i. omega (arith, known .given i); accepted = s .pre .0; fits = s .pre .2 } in (
-      rw (t .ensures .0, t .ensures .1) (push-round-at (a .graph .now) (a .path) given (a .j) (s .pre .1) (a .r) (a .figures .now) (s .pre .4) (s .pre .3)),
-      t .ensures .2,
-    )
+returns c = ?
 
 pub push-round-spec : {M : Type 1} → statement M
 push-round-spec =
-    tie.close (tie.spec (λ c. omega arith) (λ c. omega arith) (λ c κs. search needs) (λ c. search needs) (λ c. search needs) returns)
+    tie.close
+    (tie.spec vertices-requires touch-requires step-requires same-length same-length-2 returns)

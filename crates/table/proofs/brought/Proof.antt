@@ -50,8 +50,12 @@ brought-spec =
     (λ c. search needs)
     (λ c. search needs)
     (λ c. search needs)
-    (λ c. omega (arith, c .before .before .before .from-at .ensures .1, c .before .before .before .before .before .before .before .pre .0 .table-fits,
-    c .before .before .before .before .before .before .before .pre .0 .slot))
+    (λ c. omega (
+      arith,
+      c .before .before .before .from-at .ensures .1,
+      c .before .before .before .before .before .before .before .pre .0 .table-fits,
+      c .before .before .before .before .before .before .before .pre .0 .slot,
+    ))
     through-requires
     (λ c κs. (c .before .before .before .before .from-at .ensures .2, omega (arith, c .before .before .before .before .before .before .before .before .pre .0 .work-fits)))
     returns

@@ -94,9 +94,12 @@ loop-holds c =
     let s = c .before .before .before in
     let a = s .args in
     let h = next-least (a .work .now) 2 0 (omega arith) in
-    rw (c .next .ensures)
-    (h .most, h .passes, passed (a .j) (s .pre .0) (a .figures .now) (a .work .now) (a .figures .now) 0 _ (λ u k l. h .none-before u k l) (h .from)
-    (none-yet (a .j) (s .pre .0) (a .figures .now) (a .work .now) (a .figures .now)))
+    rw (c .next .ensures) (
+      h .most,
+      h .passes,
+      passed (a .j) (s .pre .0) (a .figures .now) (a .work .now) (a .figures .now) 0 _ (λ u k l. h .none-before u k l) (h .from)
+          (none-yet (a .j) (s .pre .0) (a .figures .now) (a .work .now) (a .figures .now)),
+    )
 
 loop-less : tie.Need-loop-less Inv-loop μ-loop
 loop-less c =
@@ -111,10 +114,13 @@ loop-again c =
     let l = c .before .before .before .loop in
     let m = l .inv .1 (omega arith) in
     let h = next-least (a .work .now) 2 (l .v + 1) (omega arith) in
-    rw (c .next2 .ensures)
-    (h .most, h .passes, passed (a .j) (s .pre .0) (a .figures .now) (a .work .now) _ (l .v + 1) _ (λ u k w. h .none-before u k w) (h .from)
-    (one-more (a .j) (s .pre .0) (a .figures .now) (a .work .now) (l .figures) (l .v) m
-    (omega (arith, s .pre .0, s .pre .1 .2 (l .v) (omega arith) m .0)) (l .inv .2)))
+    rw (c .next2 .ensures) (
+      h .most,
+      h .passes,
+      passed (a .j) (s .pre .0) (a .figures .now) (a .work .now) _ (l .v + 1) _ (λ u k w. h .none-before u k w) (h .from)
+          (one-more (a .j) (s .pre .0) (a .figures .now) (a .work .now) (l .figures) (l .v) m
+          (omega (arith, s .pre .0, s .pre .1 .2 (l .v) (omega arith) m .0)) (l .inv .2)),
+    )
 
 returns : tie.Need-returns Inv-loop μ-loop
 returns c =
@@ -135,24 +141,42 @@ commit-spec =
     loop-holds
     (λ c. omega arith)
     (λ c. omega arith)
-    (λ c. omega (arith, c .before .before .before .before .before .before .pre .1 .2 (c .before .before .loop .v) (omega arith)
-    (c .before .before .loop .inv .1 (omega arith)) .1))
+    (λ c. omega (
+      arith,
+      c .before .before .before .before .before .before .pre .1 .2 (c .before .before .loop .v) (omega arith)
+          (c .before .before .loop .inv .1 (omega arith)) .1,
+    ))
     (λ c. omega arith)
     (λ c. omega arith)
     (λ c. omega arith)
     (λ c. omega arith)
-    (λ c. omega (arith, c .before .before .before .before .before .before .pre .0, c .before .before .loop .inv .2 .size,
-    c .before .before .before .before .before .before .pre .1 .2 (c .before .before .loop .v) (omega arith)
-    (c .before .before .loop .inv .1 (omega arith)) .0))
+    (λ c. omega (
+      arith,
+      c .before .before .before .before .before .before .pre .0,
+      c .before .before .loop .inv .2 .size,
+      c .before .before .before .before .before .before .pre .1 .2 (c .before .before .loop .v) (omega arith)
+          (c .before .before .loop .inv .1 (omega arith)) .0,
+    ))
     (λ c. omega arith)
     (λ c κs. (omega arith, omega (arith, c .before .before .before .before .before .before .pre .1 .0)))
     loop-less
     loop-again
-    (λ c κs. omega (arith, c .before .before .before .before .before .before .pre .0, c .before .before .before .before .before .before .pre .1 .1,
-    c .before .before .loop .inv .2 .size))
-    (λ c κs. (omega (arith, c .before .before .before .before .before .before .before .before .before .before .pre .0,
-    c .before .before .before .before .before .before .before .before .before .before .pre .1 .1, c .before .before .before .before .before .before .loop .inv .2 .size,
-    c .before .before .before .clear .kept .0), c .before .before .before .before .before .before .before .before .before .before .pre .1 .0))
+    (λ c κs. omega (
+      arith,
+      c .before .before .before .before .before .before .pre .0,
+      c .before .before .before .before .before .before .pre .1 .1,
+      c .before .before .loop .inv .2 .size,
+    ))
+    (λ c κs. (
+      omega (
+        arith,
+        c .before .before .before .before .before .before .before .before .before .before .pre .0,
+        c .before .before .before .before .before .before .before .before .before .before .pre .1 .1,
+        c .before .before .before .before .before .before .loop .inv .2 .size,
+        c .before .before .before .clear .kept .0,
+      ),
+      c .before .before .before .before .before .before .before .before .before .before .pre .1 .0,
+    ))
     (λ c. c .before .before .join .kept .0 ∙ c .before .before .before .before .before .before .clear .kept .0
     ∙ c .before .before .before .before .before .before .before .before .before .loop .inv .2 .size)
     returns)

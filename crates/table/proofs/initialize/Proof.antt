@@ -107,8 +107,14 @@ insert-if-requires c κs =
     let s = c .before .before .before .before .before .before .before .before .before .before in
     let l = c .before .before .before .before .loop in (
       omega (arith, s .pre .1),
-      omega (arith, s .pre .2, s .pre .3, length-set (l .figures) (32 + 8 * l .v + s .args .j) (c .before .start-word .result), l .inv .1 .size,
-      c .before .before .before .before .before .before .before .clear .kept .0),
+      omega (
+        arith,
+        s .pre .2,
+        s .pre .3,
+        length-set (l .figures) (32 + 8 * l .v + s .args .j) (c .before .start-word .result),
+        l .inv .1 .size,
+        c .before .before .before .before .before .before .before .clear .kept .0,
+      ),
     )
 
 loop-again : tie.Need-loop-again Inv-loop μ-loop
@@ -119,8 +125,11 @@ loop-again c =
     let e = c .before .before .before .before .before .before .before .before .before .before .clear .ensures in
     let old = ap length e ∙ replaced-length (a .figures .now) (a .j) _ in (
       omega arith,
-      rw (c .before .before .insert-if .ensures, c .before .before .before .before .start-word .ensures,
-          c .before .before .before .before .before .starts-at .ensures)
+      rw (
+        c .before .before .insert-if .ensures,
+        c .before .before .before .before .start-word .ensures,
+        c .before .before .before .before .before .starts-at .ensures,
+      )
           (one-more (begins (sources-of (a .path))) (a .c) (a .j) _ (l .figures) (l .v) (s .pre .2) (omega (arith, s .pre .1))
           (omega (arith, s .pre .2, s .pre .3, old)) (l .inv .1)),
     )
@@ -151,14 +160,20 @@ initialize-spec =
     (λ c κs. omega (arith, c .before .before .pre .2, c .before .before .pre .3))
     loop-holds
     (λ c κs. tt)
-    (λ c κs. (c .before .before .before .before .before .before .before .before .pre .0,
-    omega (arith, c .before .before .before .before .before .before .before .before .pre .1)))
+    (λ c κs. (
+      c .before .before .before .before .before .before .before .before .pre .0,
+      omega (arith, c .before .before .before .before .before .before .before .before .pre .1),
+    ))
     (λ c. omega arith)
     (λ c. omega arith)
     (λ c. omega arith)
     (λ c. omega arith)
-    (λ c. omega (arith, c .before .before .before .before .before .before .before .before .before .pre .2,
-    c .before .before .before .before .before .before .before .before .before .pre .3, c .before .before .before .loop .inv .1 .size))
+    (λ c. omega (
+      arith,
+      c .before .before .before .before .before .before .before .before .before .pre .2,
+      c .before .before .before .before .before .before .before .before .before .pre .3,
+      c .before .before .before .loop .inv .1 .size,
+    ))
     insert-if-requires
     (λ c. omega arith)
     (λ c. omega arith)

@@ -113,8 +113,11 @@ reduced-spec =
     (λ c. omega arith)
     (λ c. omega arith)
     (λ c. omega arith)
-    (λ c. omega (arith, c .before .before .before .before .before .before .before .pre .0 .inside .table-fits,
-    c .before .before .before .before .before .before .before .pre .0 .inside .slot))
+    (λ c. omega (
+      arith,
+      c .before .before .before .before .before .before .before .pre .0 .inside .table-fits,
+      c .before .before .before .before .before .before .before .pre .0 .inside .slot,
+    ))
     (λ c. omega arith)
     (λ c. omega (arith, c .before .before .before .before .before .before .before .before .pre .0 .heads-fit))
     (λ c κs. tt)
@@ -122,8 +125,11 @@ reduced-spec =
     brought-requires
     (λ c κs. tt)
     (λ c. omega arith)
-    (λ c. omega (arith, c .before .before .before .before .before .before .before .before .before .before .before .before .before .before .pre .0 .nexts-fit,
-    c .before .before .before .before .before .before .before .before .rows .ensures .0))
+    (λ c. omega (
+      arith,
+      c .before .before .before .before .before .before .before .before .before .before .before .before .before .before .pre .0 .nexts-fit,
+      c .before .before .before .before .before .before .before .before .rows .ensures .0,
+    ))
     (λ c κs. tt)
     loop-less
     loop-again

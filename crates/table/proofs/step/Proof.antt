@@ -27,7 +27,7 @@ commit-requires c κs =
     let bytes : Bytes (a .graph .now) = λ i. omega (arith, c .before .before .before .before .before .before .before .before .before .before .before .before .before .before .before .shared-slice-known .given i) in (
       s .pre .inside .slot,
       commit-ready (a .graph .now) bytes (a .c) (a .j) (a .heads .now) (a .nexts .now) (a .figures .now) (a .work .now) (s .pre) (c .before .before .before .before .walk .last .1 .1 .1 .1 .1 .1 .0)
-      (rw (c .before .before .before .before .before .before .before .before .before .clear .ensures) at (c .before .before .before .before .walk .ensures)),
+          (rw (c .before .before .before .before .before .before .before .before .before .clear .ensures) at (c .before .before .before .before .walk .ensures)),
     )
 
 returns : tie.Need-returns

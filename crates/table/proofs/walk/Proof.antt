@@ -27,9 +27,12 @@ loop-holds c =
     let z = s .pre .0 .inside .accepted in
     let room = s .pre .0 .inside .work-fits in
     let h = next-least (a .work .now) 1 0 (omega arith) in
-    rw (c .next .ensures)
-    (h .most, h .passes, passed (a .graph .now) bytes z (a .c) (a .j) (a .figures .now) (a .work .now) room (a .work .now) 0 _ (λ u k l. h .none-before u k l)
-    (h .from) (h .most) (walked-none (a .graph .now) bytes z (a .c) (a .j) (a .figures .now) (a .work .now) room (s .pre .1)))
+    rw (c .next .ensures) (
+      h .most,
+      h .passes,
+      passed (a .graph .now) bytes z (a .c) (a .j) (a .figures .now) (a .work .now) room (a .work .now) 0 _ (λ u k l. h .none-before u k l)
+          (h .from) (h .most) (walked-none (a .graph .now) bytes z (a .c) (a .j) (a .figures .now) (a .work .now) room (s .pre .1)),
+    )
 
 walk-at-requires : tie.Need-walk-at-requires Inv-loop μ-loop
 walk-at-requires c κs =
@@ -66,9 +69,12 @@ loop-again c =
     rw (c .before .before .before .before .walk-at .ensures)
     (walked-more (a .graph .now) bytes z (a .c) (a .j) (a .figures .now) (a .work .now) room (l .work) (l .v) p vertex (omega arith) m) in
     let h = next-least (c .before .before .before .before .walk-at .last .1 .1 .1 .1 .1 .1 .1 .0) 1 (l .v + 1) (omega arith) in
-    rw (c .next2 .ensures)
-    (h .most, h .passes, passed (a .graph .now) bytes z (a .c) (a .j) (a .figures .now) (a .work .now) room (c .before .before .before .before .walk-at .last .1 .1 .1 .1 .1 .1 .1 .0) (l .v + 1) _
-    (λ u k w. h .none-before u k w) (h .from) (h .most) after)
+    rw (c .next2 .ensures) (
+      h .most,
+      h .passes,
+      passed (a .graph .now) bytes z (a .c) (a .j) (a .figures .now) (a .work .now) room (c .before .before .before .before .walk-at .last .1 .1 .1 .1 .1 .1 .1 .0) (l .v + 1) _
+          (λ u k w. h .none-before u k w) (h .from) (h .most) after,
+    )
 
 returns : tie.Need-returns Inv-loop μ-loop
 returns c =

@@ -1,74 +1,95 @@
+-- `rounds::advance` meets its contract. Assumes nothing.
+use Prim.Native.Nat.{ℕ, _≤_, _<_}
+use mathlib.Core.Path.{_≡_, refl, sym, _∙_}
+use mathlib.Core.Bool.{true, false}
+use native.Mathlib.Omega.{arith}
+use lib.ListN.{length}
+use Rattle.graph.specs.Graph.{graph-of}
+use Rattle.wire.specs.Wire.{at16}
+use Rattle.vertex_set.specs.Sets.{member, next-member}
+use Rattle.vertex_set.proofs.Sets.{next-least}
+use Rattle.table.specs.Table.{changed-in}
+use Rattle.table.proofs.Cells.{cell-mark}
+use Rattle.rounds.proofs.Given.{Given, graph-legal}
+use Rattle.rounds.proofs.Standing.{awake-early, pull-stands, push-stands, rests}
 use borrow.Author.Needs.{needs}
 use Rattle.rounds.proofs.advance.Statement.{statement}
 use Rattle.rounds.proofs.advance.Tie as tie
-use Rattle.rounds.proofs.advance.Reads as reads
-use Rattle.rounds.proofs.advance.Lts as lts
-use Rattle.incoming.proofs.vertices.Reads as vertices-reads
-use Rattle.rounds.proofs.pull_round.Reads as pull-round-reads
-use Rattle.rounds.proofs.push_round.Reads as push-round-reads
-use Rattle.vertex_set.proofs.next.Reads as next-reads
 
--- src/lib.rt:162:8
-vertices-requires : tie.Need-vertices-requires
-vertices-requires c κs = search needs
-
--- src/lib.rt:162:37
-next-requires : tie.Need-next-requires
-next-requires c κs = search needs
-
--- src/lib.rt:163:9
-same-length : tie.Need-same-length
-same-length c = search needs
-
--- src/lib.rt:163:9
 returns : tie.Need-returns
-returns c = ?
+unfolding changed-in
+returns c =
+    let s = c .before .before .before .before .before .before .before .before .before .before in
+    let a = s .args in
+    let given : Given (a .graph .now) (a .path) =
+    record { bytes = λ i. omega (arith, c .before .before .before .before .before .before .before .before .before .shared-slice-known .given i); accepted = s .pre .0 .threads .accepted; fits = s .pre .2 } in
+    let few = graph-legal (a .graph .now) (a .path) given .few-vertices in
+    let l = next-least (a .figures .now) (a .j) 0 (omega arith) in
+    let end : at16 (a .graph .now) 5 ≤ next-member (a .figures .now) (a .j) 0 = omega (arith, c .before .before .before .vertices .ensures .0, c .before .next .ensures, c .if1 .taken) in
+    (rests (a .graph .now) (a .path) given (a .j) (a .r) (a .figures .now) (s .pre .4)
+    (λ v h. cell-mark (a .figures .now) (a .j) v ∙ l .none-before v (omega arith) (omega (arith, end))), refl)
 
--- src/lib.rt:166:9
 push-round-requires : tie.Need-push-round-requires
-push-round-requires c κs = ?
+unfolding changed-in
+push-round-requires c κs =
+    let s = c .before .before .before .before .before .before .before .before .before .before .before .before .before in
+    let a = s .args in
+    let given : Given (a .graph .now) (a .path) =
+    record { bytes = λ i. omega (arith, c .before .before .before .before .before .before .before .before .before .before .before .before .shared-slice-known .given i); accepted = s .pre .0 .threads .accepted; fits = s .pre .2 } in
+    let few = graph-legal (a .graph .now) (a .path) given .few-vertices in
+    let v = next-member (a .figures .now) (a .j) 0 in
+    let l = next-least (a .figures .now) (a .j) 0 (omega arith) in
+    let h : v < at16 (a .graph .now) 5 = omega (arith, c .before .before .before .before .before .before .vertices .ensures .0, c .before .before .before .before .next .ensures, c .before .before .before .if1 .left) in
+    let early = awake-early (a .graph .now) (a .path) given (a .j) (a .r) (a .figures .now) (s .pre .4) v h
+    (cell-mark (a .figures .now) (a .j) v ∙ l .passes (omega (arith, h, few))) in
+    (s .pre .0, s .pre .1, s .pre .2, s .pre .3, early, s .pre .4 .sound, s .pre .5)
 
--- src/lib.rt:166:9
-same-length-2 : tie.Need-same-length-2
-same-length-2 c = search needs
-
--- src/lib.rt:166:9
-same-length-3 : tie.Need-same-length-3
-same-length-3 c = search needs
-
--- src/lib.rt:166:9
-returns-2 : tie.Need-returns-2
-returns-2 c = ?
-
--- src/lib.rt:179:5
 pull-round-requires : tie.Need-pull-round-requires
-pull-round-requires c κs = ?
+unfolding changed-in
+pull-round-requires c κs =
+    let s = c .before .before .before .before .before .before .before .before .before .before .before .before .before in
+    let a = s .args in
+    let given : Given (a .graph .now) (a .path) =
+    record { bytes = λ i. omega (arith, c .before .before .before .before .before .before .before .before .before .before .before .before .shared-slice-known .given i); accepted = s .pre .0 .threads .accepted; fits = s .pre .2 } in
+    let few = graph-legal (a .graph .now) (a .path) given .few-vertices in
+    let v = next-member (a .figures .now) (a .j) 0 in
+    let l = next-least (a .figures .now) (a .j) 0 (omega arith) in
+    let h : v < at16 (a .graph .now) 5 = omega (arith, c .before .before .before .before .before .before .vertices .ensures .0, c .before .before .before .before .next .ensures, c .before .before .before .if1 .left) in
+    let early = awake-early (a .graph .now) (a .path) given (a .j) (a .r) (a .figures .now) (s .pre .4) v h
+    (cell-mark (a .figures .now) (a .j) v ∙ l .passes (omega (arith, h, few))) in
+    (s .pre .0 .threads, s .pre .1, s .pre .2, s .pre .3, early, s .pre .4 .sound, s .pre .5)
 
--- src/lib.rt:139:1
-same-length-4 : tie.Need-same-length-4
-same-length-4 c = search needs
+returns-2 : tie.Need-returns-2
+returns-2 c =
+    let s = c .before .before .before .before .before .before .before .before .before .before .before .before .before .before .before .before .before .before in
+    let a = s .args in
+    let given : Given (a .graph .now) (a .path) =
+    record { bytes = λ i. omega (arith, c .before .before .before .before .before .before .before .before .before .before .before .before .before .before .before .before .before .shared-slice-known .given i); accepted = s .pre .0 .threads .accepted; fits = s .pre .2 } in
+    let t = c .before .before .before .before .push-round in
+    (push-stands (a .graph .now) (a .path) given (a .j) (a .r) (a .figures .now) (s .pre .4) _ _ (t .ensures .0), t .ensures .1)
 
--- src/lib.rt:139:1
-same-length-5 : tie.Need-same-length-5
-same-length-5 c = search needs
-
--- src/lib.rt:139:1
 returns-3 : tie.Need-returns-3
-returns-3 c = ?
+returns-3 c =
+    let s = c .before .before .before .before .before .before .before .before .before .before .before .before .before .before .before .before .before .before in
+    let a = s .args in
+    let given : Given (a .graph .now) (a .path) =
+    record { bytes = λ i. omega (arith, c .before .before .before .before .before .before .before .before .before .before .before .before .before .before .before .before .before .shared-slice-known .given i); accepted = s .pre .0 .threads .accepted; fits = s .pre .2 } in
+    let t = c .before .before .before .before .pull-round in
+    (pull-stands (a .graph .now) (a .path) given (a .j) (a .r) (a .figures .now) (s .pre .4) _ _ (t .ensures .0), t .ensures .1)
 
 pub advance-spec : {M : Type 1} → statement M
 advance-spec =
     tie.close
     (tie.spec
-    vertices-requires
-    next-requires
-    same-length
+    (λ c κs. c .before .before .before .before .before .before .pre .0 .threads .accepted)
+    (λ c κs. (omega arith, omega (arith, c .before .before .before .before .before .before .before .before .pre .1, c .before .before .before .before .before .before .before .before .pre .4 .sound .long)))
+    (λ c. refl)
     returns
     push-round-requires
-    same-length-2
-    same-length-3
+    (λ c. c .before .before .before .before .push-round .kept .1 .1 .1 .1 .1 .1 .1 .1 .0)
+    (λ c. c .before .before .before .before .push-round .ensures .1)
     returns-2
     pull-round-requires
-    same-length-4
-    same-length-5
+    (λ c. c .before .before .before .before .pull-round .kept .1 .1 .1 .1 .1 .1 .1 .0)
+    (λ c. c .before .before .before .before .pull-round .ensures .1)
     returns-3)

@@ -1,59 +1,54 @@
+-- `rounds::all_constants` meets its contract: the first j path reductions have their constants. Assumes nothing.
+use Prim.Native.Nat.{ℕ, _+_, _-_, _≤_, _<_}
+use mathlib.Core.Path.{_≡_, refl, _∙_}
+use mathlib.Core.List.{List}
+use native.Mathlib.Omega.{arith}
+use native.Mathlib.Nat.{not-suc-le-zero}
+use native.Mathlib.Decide.{ℕ-discrete}
+use borrow.Author.Needs.{needs}
+use lib.ListN.{length, set, getD, length-set}
+use lib.Seq.{getD-set-same, getD-set-other}
+use Rattle.meaning.specs.Limits.{PathFits}
+use Rattle.packed_path.specs.declared.PackedPath.{PackedPath}
+use Rattle.packed_figures.specs.declared.PathConstants.{PathConstants}
+use Rattle.packed_figures.specs.Packed.{constants}
+use Rattle.table.specs.Table.{path-at}
+use Rattle.rounds.specs.Steps.{Constants, no-constants}
+use Rattle.rounds.proofs.Tables.{legal-at}
 use Rattle.rounds.proofs.all_constants.Statement.{statement}
 use Rattle.rounds.proofs.all_constants.Tie as tie
-use Rattle.rounds.proofs.all_constants.Reads as reads
-use Rattle.rounds.proofs.all_constants.Lts as lts
-use Rattle.packed_figures.proofs.path_constants.Reads as path-constants-reads
-use Rattle.rounds.proofs.constants_of.Reads as constants-of-reads
+
+one-more : (table : List PackedPath) (all : List PathConstants) (j : ℕ) (x : PathConstants) → j < length all → Constants j table all
+    → x ≡ constants (path-at table j .keys) → Constants (j + 1) table (set all j x)
+one-more table all j x here p e i h = go (ℕ-discrete i j)
+  where
+    go : Dec (i ≡ j) → getD (set all j x) i no-constants ≡ constants (path-at table i .keys)
+    go (yes q) = rw q (getD-set-same all j x no-constants here ∙ e)
+    go (no q) = let m : ¬ (i ≡ j) = q in getD-set-other all j i x no-constants q ∙ p i (omega arith)
 
 abbrev Inv-loop : tie.InvT-loop
-Inv-loop n paths table all₀ j₀ all j = ?
+Inv-loop n paths table all₀ j₀ all j = (j ≤ paths) × (length all ≡ 8) × Constants j table all
 
 abbrev μ-loop : tie.MeasureT-loop
-μ-loop n paths table all₀ j₀ all j = ?
+μ-loop n paths table all₀ j₀ all j = paths - j
 
--- src/lib.rt:36:20
-path-constants-requires : tie.Need-path-constants-requires Inv-loop μ-loop
-path-constants-requires c κs = ?
-
--- src/lib.rt:38:5
-loop-holds : tie.Need-loop-holds Inv-loop μ-loop
-loop-holds c = ?
-
--- src/lib.rt:39:20
-mul-path : tie.Need-mul-path Inv-loop μ-loop
-mul-path c = ?
-
--- src/lib.rt:39:20
-array-copy-out-path : tie.Need-array-copy-out-path Inv-loop μ-loop
-array-copy-out-path c = ?
-
--- src/lib.rt:40:18
 constants-of-requires : tie.Need-constants-of-requires Inv-loop μ-loop
-constants-of-requires c κs = ?
+constants-of-requires c κs =
+    let s = c .before .before .before .before in
+    let a = s .args in
+    let j = c .before .before .loop .j in
+    let e : length {A = PackedPath} (a .t3) ≡ 8 = s .good .1 .1 .0 .1 .0 .1 in
+    let h : j < a .paths = omega arith in
+    legal-at (PathFits (a .n)) (a .t3) (a .paths) (s .pre .1) j h (omega (arith, s .pre .0)) .0
 
--- src/lib.rt:40:9
-mul-all : tie.Need-mul-all Inv-loop μ-loop
-mul-all c = ?
-
--- src/lib.rt:40:9
-array-set-from-all : tie.Need-array-set-from-all Inv-loop μ-loop
-array-set-from-all c = ?
-
--- src/lib.rt:41:9
-add-j : tie.Need-add-j Inv-loop μ-loop
-add-j c = ?
-
--- src/lib.rt:38:5
-loop-less : tie.Need-loop-less Inv-loop μ-loop
-loop-less c = ?
-
--- src/lib.rt:38:5
 loop-again : tie.Need-loop-again Inv-loop μ-loop
-loop-again c = ?
-
--- src/lib.rt:32:1
-returns : tie.Need-returns Inv-loop μ-loop
-returns c = ?
+loop-again c =
+    let s = c .before .before .before .before .before in
+    let l = c .before .before .before .loop in (
+      omega arith,
+      length-set (l .all) (l .j) (c .constants-of .result) ∙ l .inv .1,
+      one-more (s .args .t3) (l .all) (l .j) (c .constants-of .result) (omega (arith, s .pre .0, l .inv .1)) (l .inv .2) (c .constants-of .ensures),
+    )
 
 pub all-constants-spec : {M : Type 1} → statement M
 all-constants-spec =
@@ -61,14 +56,14 @@ all-constants-spec =
     (tie.spec
     Inv-loop
     μ-loop
-    path-constants-requires
-    loop-holds
-    mul-path
-    array-copy-out-path
+    (λ c κs. search needs)
+    (λ c. (omega arith, refl, λ i h. absurd (not-suc-le-zero h)))
+    (λ c. omega (arith, c .before .before .before .pre .0))
+    (λ c. omega (arith, c .before .before .before .pre .0))
     constants-of-requires
-    mul-all
-    array-set-from-all
-    add-j
-    loop-less
+    (λ c. omega (arith, c .before .before .before .before .before .pre .0))
+    (λ c. omega (arith, c .before .before .before .before .before .pre .0))
+    (λ c. omega arith)
+    (λ c. omega arith)
     loop-again
-    returns)
+    (λ c i h. c .before .loop .inv .2 i (omega arith)))

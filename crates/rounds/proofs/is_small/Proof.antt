@@ -1,26 +1,22 @@
+-- `rounds::is_small` meets its contract. Assumes nothing.
+use Prim.Native.Nat.{_≤_, _<_}
+use mathlib.Core.Path.{refl}
+use native.Mathlib.Omega.{arith}
 use borrow.Author.Needs.{needs}
+use borrow.Author.Tests.{le-leb, lt-leb}
+use Rattle.wire.specs.Wire.{at16}
 use Rattle.rounds.proofs.is_small.Statement.{statement}
 use Rattle.rounds.proofs.is_small.Tie as tie
-use Rattle.rounds.proofs.is_small.Reads as reads
-use Rattle.rounds.proofs.is_small.Lts as lts
-use Rattle.incoming.proofs.rows.Reads as rows-reads
-use Rattle.incoming.proofs.vertices.Reads as vertices-reads
 
--- src/lib.rt:318:13
-vertices-requires : tie.Need-vertices-requires
-vertices-requires c κs = search needs
-
--- src/lib.rt:319:9
 returns : tie.Need-returns
-returns c = ?
+returns c =
+    let s = c .before .before .before .args .graph .now in
+    let h : 16 < at16 s 5 = omega (arith, c .before .vertices .ensures .0) in rw (lt-leb (at16 s 5) 16 h) refl
 
--- src/lib.rt:321:5
-rows-requires : tie.Need-rows-requires
-rows-requires c κs = search needs
-
--- src/lib.rt:314:1
 returns-2 : tie.Need-returns-2
-returns-2 c = ?
+returns-2 c =
+    let s = c .before .before .before .before .args .graph .now in
+    let h : at16 s 5 ≤ 16 = omega (arith, c .before .before .vertices .ensures .0) in rw (le-leb (at16 s 5) 16 h, c .rows .ensures .0) refl
 
 pub is-small-spec : {M : Type 1} → statement M
-is-small-spec = tie.close (tie.spec vertices-requires returns rows-requires returns-2)
+is-small-spec = tie.close (tie.spec (λ c κs. search needs) returns (λ c κs. search needs) returns-2)

@@ -1,37 +1,41 @@
+-- `rounds::pull_round` meets its contract. Assumes nothing.
+use native.Mathlib.Omega.{arith}
+use mathlib.Core.Path.{_≡_, sym, _∙_}
+use lib.ListN.{length}
+use Rattle.rounds.proofs.Given.{Given}
+use Rattle.rounds.proofs.Touched.{pull-ready, pull-round-at}
 use borrow.Author.Needs.{needs}
 use Rattle.rounds.proofs.pull_round.Statement.{statement}
 use Rattle.rounds.proofs.pull_round.Tie as tie
-use Rattle.rounds.proofs.pull_round.Reads as reads
-use Rattle.rounds.proofs.pull_round.Lts as lts
-use Rattle.incoming.proofs.vertices.Reads as vertices-reads
-use Rattle.table.proofs.step.Reads as step-reads
-use Rattle.table.proofs.touch_all.Reads as touch-all-reads
 
--- src/lib.rt:105:22
-vertices-requires : tie.Need-vertices-requires
-vertices-requires c κs = search needs
-
--- src/lib.rt:105:5
-touch-all-requires : tie.Need-touch-all-requires
-touch-all-requires c κs = search needs
-
--- src/lib.rt:106:5
 step-requires : tie.Need-step-requires
-step-requires c κs = ?
+step-requires c κs =
+    let s = c .before .before .before .before .before .before .before .before .before .before .before .before in
+    let a = s .args in
+    let given : Given (a .graph .now) (a .path) =
+    record { bytes = λ i. omega (arith, c .before .before .before .before .before .before .before .before .before .before .before .shared-slice-known .given i); accepted = s .pre .0 .accepted; fits = s .pre .2 } in
+    rw (c .before .before .before .before .touch-all .ensures, c .before .before .before .before .before .before .vertices .ensures .0, s .pre .3)
+    (pull-ready (a .graph .now) (a .path) given (a .j) (s .pre .1) (a .r) (s .pre .4) (a .figures .now) (s .pre .5) (a .work .now) (s .pre .6)
+    (a .heads .now) (a .nexts .now) (s .pre .0))
 
--- src/lib.rt:85:1
-same-length : tie.Need-same-length
-same-length c = search needs
-
--- src/lib.rt:85:1
-same-length-2 : tie.Need-same-length-2
-same-length-2 c = search needs
-
--- src/lib.rt:85:1
 returns : tie.Need-returns
-returns c = ?
+returns c =
+    let s = c .before .before .before .before .before .before .before .before .before .before .before .before .before .before .before .before .before in
+    let a = s .args in
+    let given : Given (a .graph .now) (a .path) =
+    record { bytes = λ i. omega (arith, c .before .before .before .before .before .before .before .before .before .before .before .before .before .before .before .before .shared-slice-known .given i); accepted = s .pre .0 .accepted; fits = s .pre .2 } in (
+      pull-round-at (a .graph .now) (a .path) given (a .j) (s .pre .1) (a .r) (s .pre .4) (a .figures .now) (s .pre .5) (a .work .now) (s .pre .6) _ _
+          (rw (c .before .before .before .before .before .before .before .before .before .touch-all .ensures, c .before .before .before .before .before .before .before .before .before .before .before .vertices .ensures .0, s .pre .3) at (c .before .before .before .before .step .ensures .0)),
+      c .before .before .before .before .step .ensures .1 ∙ c .before .before .before .before .before .before .before .before .before .touch-all .kept .1 .0,
+    )
 
 pub pull-round-spec : {M : Type 1} → statement M
 pull-round-spec =
     tie.close
-    (tie.spec vertices-requires touch-all-requires step-requires same-length same-length-2 returns)
+    (tie.spec
+    (λ c κs. c .before .before .before .before .before .pre .0 .accepted)
+    (λ c κs. omega (arith, c .before .before .before .before .before .before .before .pre .6))
+    step-requires
+    (λ c. c .before .before .before .before .step .kept .1 .1 .1 .1 .1 .0)
+    (λ c. c .before .before .before .before .step .ensures .1 ∙ c .before .before .before .before .before .before .before .before .before .touch-all .kept .1 .0)
+    returns)

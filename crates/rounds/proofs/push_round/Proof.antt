@@ -1,37 +1,43 @@
+-- `rounds::push_round` meets its contract. Assumes nothing.
+use native.Mathlib.Omega.{arith}
+use mathlib.Core.Path.{_≡_, sym, _∙_}
+use lib.ListN.{length}
+use Rattle.rounds.proofs.Given.{Given, graph-legal}
+use Rattle.rounds.proofs.Touched.{push-ready, push-round-at}
 use borrow.Author.Needs.{needs}
 use Rattle.rounds.proofs.push_round.Statement.{statement}
 use Rattle.rounds.proofs.push_round.Tie as tie
-use Rattle.rounds.proofs.push_round.Reads as reads
-use Rattle.rounds.proofs.push_round.Lts as lts
-use Rattle.incoming.proofs.vertices.Reads as vertices-reads
-use Rattle.table.proofs.step.Reads as step-reads
-use Rattle.table.proofs.touch.Reads as touch-reads
 
--- src/lib.rt:132:21
-vertices-requires : tie.Need-vertices-requires
-vertices-requires c κs = search needs
-
--- src/lib.rt:132:5
-touch-requires : tie.Need-touch-requires
-touch-requires c κs = search needs
-
--- src/lib.rt:133:5
 step-requires : tie.Need-step-requires
-step-requires c κs = ?
+step-requires c κs =
+    let s = c .before .before .before .before .before .before .before .before .before .before .before .before .before .before in
+    let a = s .args in
+    let given : Given (a .graph .now) (a .path) =
+    record { bytes = λ i. omega (arith, c .before .before .before .before .before .before .before .before .before .before .before .before .before .shared-slice-known .given i); accepted = s .pre .0 .threads .accepted; fits = s .pre .2 } in
+    rw (c .before .before .before .before .touch .ensures, c .before .before .before .before .before .before .before .vertices .ensures .0, s .pre .3)
+    (push-ready (a .graph .now) (a .path) given (a .j) (s .pre .1) (a .r) (s .pre .4) (a .figures .now) (s .pre .5) (a .work .now) (s .pre .6)
+    (a .heads .now) (a .nexts .now) (a .successors .now) (s .pre .0))
 
--- src/lib.rt:110:1
-same-length : tie.Need-same-length
-same-length c = search needs
-
--- src/lib.rt:110:1
-same-length-2 : tie.Need-same-length-2
-same-length-2 c = search needs
-
--- src/lib.rt:110:1
 returns : tie.Need-returns
-returns c = ?
+returns c =
+    let s = c .before .before .before .before .before .before .before .before .before .before .before .before .before .before .before .before .before .before .before in
+    let a = s .args in
+    let given : Given (a .graph .now) (a .path) =
+    record { bytes = λ i. omega (arith, c .before .before .before .before .before .before .before .before .before .before .before .before .before .before .before .before .before .before .shared-slice-known .given i); accepted = s .pre .0 .threads .accepted; fits = s .pre .2 } in (
+      push-round-at (a .graph .now) (a .path) given (a .j) (s .pre .1) (a .r) (s .pre .4) (a .figures .now) (s .pre .5) (a .work .now) (s .pre .6)
+          (a .heads .now) (a .nexts .now) (a .successors .now) (s .pre .0) _ _
+          (rw (c .before .before .before .before .before .before .before .before .before .touch .ensures, c .before .before .before .before .before .before .before .before .before .before .before .before .vertices .ensures .0, s .pre .3) at (c .before .before .before .before .step .ensures .0)),
+      c .before .before .before .before .step .ensures .1 ∙ c .before .before .before .before .before .before .before .before .before .touch .kept .1 .1 .1 .1 .0,
+    )
 
 pub push-round-spec : {M : Type 1} → statement M
 push-round-spec =
     tie.close
-    (tie.spec vertices-requires touch-requires step-requires same-length same-length-2 returns)
+    (tie.spec
+    (λ c κs. c .before .before .before .before .before .before .pre .0 .threads .accepted)
+    (λ c κs. (c .before .before .before .before .before .before .before .before .before .pre .1, c .before .before .vertices .ensures .1, omega (arith, c .before .before .before .before .before .before .before .before .before .pre .5 .long),
+    omega (arith, c .before .before .vertices .ensures .0, c .before .before .before .before .before .before .before .before .before .pre .0 .leads-fit), omega (arith, c .before .before .before .before .before .before .before .before .before .pre .6)))
+    step-requires
+    (λ c. c .before .before .before .before .step .kept .1 .1 .1 .1 .1 .0)
+    (λ c. c .before .before .before .before .step .ensures .1 ∙ c .before .before .before .before .before .before .before .before .before .touch .kept .1 .1 .1 .1 .0)
+    returns)

@@ -22,11 +22,10 @@ use Rattle.meaning.specs.Run.{pull, values-at}
 use Rattle.meaning.proofs.Lists.{all-unmapped}
 use Rattle.meaning.proofs.Rounds.{network-fits, path-in-order, rounds-at-most, rounds-final, rounds-go-on, rounds-smallest, rounds-stop}
 use Rattle.packed_path.specs.declared.PackedPath.{PackedPath}
-use Rattle.cells.specs.Table.{figures-in, path-at, paths-in}
-use Rattle.rounds.specs.Run.{Ended, Ran}
-use Rattle.rounds.specs.Steps.{value-in}
-use Rattle.rounds.proofs.Joint.{legal-at}
-use Rattle.rounds.proofs.Values.{value-shown}
+use Rattle.table.specs.Steps.{value-in}
+use Rattle.table.specs.Table.{figures-in, path-at, paths-in}
+use Rattle.rounds.specs.Run.{AllSound, Ended, Ran, Read}
+use Rattle.rounds.proofs.Tables.{legal-at}
 
 -- what a function gives at the path reduction with index j
 at-index : {B : Type 0} (f : PathReduction → B) (table : List PackedPath) (paths j : ℕ) (d : B) → j < paths → j < length table
@@ -49,9 +48,9 @@ module _ (g : Graph) (legal-graph : GraphLegal g) (paths : ℕ) (table : List Pa
   fits-at : (j : ℕ) → j < paths → PathFits (g .vertices) (path-at table j)
   fits-at j h = legal-at (PathFits (g .vertices)) table paths legal j h (omega arith)
 
-  -- what is read is the value of what is shown
-  pub value-read : (j : ℕ) → j < paths → (v : ℕ) → v < g .vertices → value-in figures j v ≡ value (figures-in (path-at table j) figures j v)
-  value-read j h v k = value-shown (g .vertices) (legal-graph .few-vertices) (c j) (fits-at j h .0) done figures j (omega arith) (ran .sound j h) v k
+  -- its words can be read
+  pub all-sound : AllSound (g .vertices) paths table figures
+  all-sound j h = (done, ran .sound j h)
 
   -- once quiet, always so: the figures after the given number of rounds are those of the rounds done
   settled : (j : ℕ) → j < paths → (v : ℕ) → v < g .vertices → Ended g paths table limit done → pull g (c j) done v ≡ pull g (c j) limit v
@@ -94,9 +93,10 @@ module _ (g : Graph) (legal-graph : GraphLegal g) (paths : ℕ) (table : List Pa
       value (figures-in (path-at table j) figures j v) ≡ getD (values-at (pull g) (paths-in paths table) limit v) j Absent
   given-values j h v k = values-of limit j h v (shows-limit j h v k)
 
-  pub given-read : (j : ℕ) → j < paths → (v : ℕ) → v < g .vertices → value-in figures j v
-      ≡ getD (values-at (pull g) (paths-in paths table) limit v) j Absent
-  given-read j h v k = value-read j h v k ∙ given-values j h v k
+  -- and what is read off the table
+  pub given-read : (values : List ℕ) → Read (g .vertices) paths table figures values → (j : ℕ) → j < paths → (v : ℕ) → v < g .vertices
+      → value-in values j v ≡ getD (values-at (pull g) (paths-in paths table) limit v) j Absent
+  given-read values read j h v k = read j h v k ∙ given-values j h v k
 
   -- and those of the rounds done
   pub done-values : (j : ℕ) → j < paths → (v : ℕ) → v < g .vertices →
@@ -125,9 +125,9 @@ module _ (g : Graph) (legal-graph : GraphLegal g) (paths : ℕ) (table : List Pa
         ≡ getD (values-at (pull g) (paths-in paths table) (rounds (g .vertices) (map (pull g) (paths-in paths table))) v) j Absent
     quiet-values j h v k = done-values j h v k ∙ ap (λ (r : ℕ). getD (values-at (pull g) cs r v) j Absent) quiet-rounds
 
-    pub quiet-read : (j : ℕ) → j < paths → (v : ℕ) → v < g .vertices →
-        value-in figures j v ≡ getD (values-at (pull g) (paths-in paths table) (rounds (g .vertices) (map (pull g) (paths-in paths table))) v) j Absent
-    quiet-read j h v k = value-read j h v k ∙ quiet-values j h v k
+    pub quiet-read : (values : List ℕ) → Read (g .vertices) paths table figures values → (j : ℕ) → j < paths → (v : ℕ) → v < g .vertices →
+        value-in values j v ≡ getD (values-at (pull g) (paths-in paths table) (rounds (g .vertices) (map (pull g) (paths-in paths table))) v) j Absent
+    quiet-read values read j h v k = read j h v k ∙ quiet-values j h v k
 
     -- the least count, one or more, whose last round changed nothing
     pub quiet-smallest : Smallest g (paths-in paths table) done

@@ -16,7 +16,7 @@ use Rattle.walks.proofs.Steps.{pull-steps, push-steps}
 use Rattle.meaning.specs.Limits.{GraphFits, PathFits}
 use Rattle.meaning.specs.Query.{PathReduction, network-of}
 use Rattle.meaning.proofs.Rounds.{network-fits, path-in-order}
-use Rattle.cells.specs.Table.{changed-in, figures-in}
+use Rattle.table.specs.Table.{changed-in, figures-in}
 use Rattle.rounds.specs.Run.{Begun, PullRound, PushRound}
 
 module _ (g : Graph) (fits : GraphFits g) (c : PathReduction) (legal : PathFits (g .vertices) c) (j : ℕ) where

@@ -2,7 +2,7 @@
 use Prim.Native.Nat.{ℕ, _≤_, _<_}
 use mathlib.Core.Path.{_≡_, refl, sym, ap, _∙_}
 use mathlib.Core.Bool.{Bool, true, false, cond}
-use mathlib.Core.List.{List, _++_}
+use mathlib.Core.List.{List, [], _∷_, _++_}
 use native.Mathlib.Omega.{arith}
 use borrow.Author.Tests.{ltb-false, eqb-true, eqb-false, eq-eqb, ne-eqb}
 use lib.Dec.{ltb, eqb}
@@ -84,10 +84,10 @@ pub answer-laid : (n rounds kind : ℕ) (vs : List Value) (out : List ℕ) → l
 unfolding answer-bytes
 answer-laid n rounds kind vs out h = sets-front out (head-bytes n rounds kind) (rows-bytes (answer-rows n kind vs)) 10 refl h
 
-module _ (n rounds kind : ℕ) (vs : List Value) (full : length vs ≡ 256) where
-  -- how many bytes there are, of 256 values handed over
+module _ (n rounds kind : ℕ) (vs : List Value) (enough : Fields n kind → row-count n kind ≤ length vs) where
+  -- how many bytes there are, of as many values as there are rows, or more
   pub answer-sized : Fields n kind → length (answer-bytes n rounds kind vs) ≡ answer-size n kind
-  answer-sized f = answer-length n rounds kind vs (omega (arith, count-most n kind 256 (f .few-vertices) (omega arith)))
+  answer-sized f = answer-length n rounds kind vs (enough f)
 
   -- THE REPLY IS BY THE JUDGE'S NUMBER
   pub reply-judged : (room : ℕ) → answer-reply n rounds kind vs room ≡ unless (answer-code n kind room) (done (answer-bytes n rounds kind vs))
@@ -108,6 +108,15 @@ module _ (n rounds kind : ℕ) (vs : List Value) (full : length vs ≡ 256) wher
   -- it does not: all bytes are written
   pub reply-done : (room : ℕ) → answer-code n kind room ≡ 0 → answer-reply n rounds kind vs room ≡ done (answer-bytes n rounds kind vs)
   reply-done room z = reply-judged room ∙ rw (eq-eqb _ _ z)
+
+-- 256 values are enough, of any kind
+pub enough-rows : (n kind : ℕ) (vs : List Value) → length vs ≡ 256 → Fields n kind → row-count n kind ≤ length vs
+enough-rows n kind vs full f = omega (arith, count-most n kind 256 (f .few-vertices) (omega arith))
+
+-- of kind 1 the first value alone is written
+pub reply-one : (n rounds : ℕ) (v : Value) (vs : List Value) (room : ℕ) → answer-reply n rounds 1 (v ∷ vs) room ≡ answer-reply n rounds 1 (v ∷ []) room
+unfolding answer-reply answer-bytes
+reply-one n rounds v vs room = refl
 
 -- ---- the encoding
 

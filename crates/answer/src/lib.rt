@@ -2,6 +2,7 @@
 use value::Row;
 use value::Value;
 ghost use mathlib.Core.Path.{_≡_};
+ghost use mathlib.Core.List.{_∷_, []};
 ghost use Prim.Native.Nat.{_+_, _*_, _/_, _%_, _<_, _≤_};
 ghost use lib.ListN.{length, take, set};
 ghost use lib.Seq.{sets};
@@ -130,4 +131,17 @@ pub fn write(n: u16, rounds: u16, kind: u8, rows: [Row; 256], out: &mut [u8]) ->
     put_head(out, n, rounds, kind);
     put_rows(out, row_count(n, kind), rows);
     size(n, kind) as u32
+}
+
+// An answer of kind 1, of its one value: `write` with no array of rows.
+pub fn write_one(n: u16, rounds: u16, value: Value, out: &mut [u8]) -> u32
+    ensures { λ r. ⌜ Returned (answer-reply n rounds 1 (value ∷ []) (length (now (out .entry)))) r (now (out .entry)) (now (out .exit)) ⌝ }
+{
+    let k = judge(n, 1, out.len());
+    if k != 0 {
+        return 65536 + k as u32;
+    }
+    put_head(out, n, rounds, 1);
+    put_row(out, 10, Row { value });
+    19
 }

@@ -18,7 +18,7 @@ use Rattle.board_text.specs.Steps.{board-scan}
 use Rattle.board_text.proofs.Exact.{board-read}
 use Rattle.board_text.proofs.Reading.{counted}
 use Rattle.board_text.proofs.Joint.{drop-bytes, first-bytes, first-passed, scan-holds, scan-judges}
-use Rattle.cells.specs.Table.{paths-in}
+use Rattle.table.specs.Table.{paths-in}
 use Rattle.engine.specs.declared.Limit.{Limit}
 use Rattle.engine.specs.Run.{outcome, sources-code}
 use Rattle.engine.specs.Steps.{Settled, paths-of, rounds-for, run-code}

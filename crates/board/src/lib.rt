@@ -69,7 +69,7 @@ fn slots_of(own: [PackedPath; 8], paths: usize, joint: [PackedPath; 8]) -> [usiz
 fn answer_plan(
     plan: &[u8],
     joint: [PackedPath; 8],
-    figures: &[u32],
+    figures: &[u64],
     n: u16,
     rounds: u16,
     out: &mut [u8],
@@ -81,15 +81,14 @@ fn answer_plan(
     let own = w.table;
     let paths = wire::lesser(w.paths, 8);
     let slots = slots_of(own, paths, joint);
-    let list = rows::body_rows(plan, figures, slots, paths, n as usize);
-    answer::write(n, rounds, wire::byte(plan, 5), list, out)
+    rows::write(plan, figures, slots, paths, n, rounds, out)
 }
 
 // The answer of an accepted query: that of the plan that it is fused to.
 fn answer_query(
     query: &[u8],
     joint: [PackedPath; 8],
-    figures: &[u32],
+    figures: &[u64],
     n: u16,
     rounds: u16,
     out: &mut [u8],
@@ -108,7 +107,7 @@ fn answer_all(
     board: &[u8],
     count: usize,
     joint: [PackedPath; 8],
-    figures: &[u32],
+    figures: &[u64],
     n: u16,
     rounds: u16,
     out: &mut [u8],
@@ -155,7 +154,7 @@ fn finish(push: bool, limit: Limit, board: &[u8], w: Progress, graph: &[u8], out
     }
     let joint = w.table;
     let paths = wire::lesser(w.paths, 8);
-    let mut figures = [0u32; 8192];
+    let mut figures = [0u64; 2080];
     let rounds = engine::settle(push, limit, paths, joint, graph, &mut figures);
     answer_all(board, count, joint, &figures, n, rounds, out)
 }

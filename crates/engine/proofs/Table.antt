@@ -4,7 +4,6 @@ use mathlib.Core.Path.{_≡_, refl, sym, ap, _∙_, subst}
 use mathlib.Core.List.{List, [], _∷_}
 use native.Mathlib.Omega.{arith}
 use lib.ListN.{length, getD, take, length-map, length-take}
-use Rattle.cells.specs.Table.{paths-in}
 use Rattle.graph.specs.Graph.{graph-code, graph-of}
 use Rattle.graph.proofs.Exact as graph
 use Rattle.meaning.specs.Limits.{GraphLegal, PathFits}
@@ -17,8 +16,9 @@ use Rattle.packed_path.specs.Packed.{path-of}
 use Rattle.plan.specs.Plan.{plan-scan}
 use Rattle.plan.specs.Tree.{plan-of}
 use Rattle.progress.specs.declared.Progress.{Progress}
-use Rattle.rounds.specs.Run.{Ran}
-use Rattle.rounds.specs.Steps.{value-in}
+use Rattle.table.specs.Steps.{value-in}
+use Rattle.table.specs.Table.{paths-in}
+use Rattle.rounds.specs.Run.{Ran, Read}
 use Rattle.rounds_laws.proofs.Main.{given-read, quiet-read, quiet-rounds}
 use Rattle.rows.proofs.Exact.{Holds}
 use Rattle.value.specs.declared.Value.the-variants.{Absent}
@@ -36,7 +36,8 @@ use Rattle.engine.proofs.Numbers.{paths-held}
 
 module _ (m : List ℕ) (bm : Bytes m) (ok : graph-code m ≡ 0) (paths : ℕ) (table : List PackedPath) (few : paths ≤ 8) (eight : length table ≡ 8)
     (legal : All (PathFits (at16 m 5)) (paths-in paths table)) (limit : Limit) (done : ℕ) (figures : List ℕ)
-    (ran : Ran (graph-of m) paths table (most-of limit (at16 m 5)) done figures) where
+    (ran : Ran (graph-of m) paths table (most-of limit (at16 m 5)) done figures) (values : List ℕ)
+    (read : Read (at16 m 5) paths table figures values) where
   abbrev cs : List PathReduction
   cs = paths-in paths table
 
@@ -50,20 +51,20 @@ module _ (m : List ℕ) (bm : Bytes m) (ok : graph-code m ≡ 0) (paths : ℕ) (
   count = length-map (take paths table) path-of ∙ omega (arith, length-take paths table)
 
   -- WHAT IS LEFT
-  pub settled : Settled limit (graph-of m) (paths-in paths table) (reported-of limit done) figures
+  pub settled : Settled limit (graph-of m) (paths-in paths table) (reported-of limit done) values
   settled = go limit ran
     where
-      go : (l : Limit) → Ran g paths table (most-of l (at16 m 5)) done figures → Settled l g cs (reported-of l done) figures
+      go : (l : Limit) → Ran g paths table (most-of l (at16 m 5)) done figures → Settled l g cs (reported-of l done) values
       go (Rounds r) x = record {
         rounds = refl;
-        holds = λ v h j i. given-read g graph-legal paths table few eight legal r done figures x j (omega (arith, count)) v h;
+        holds = λ v h j i. given-read g graph-legal paths table few eight legal r done figures x values read j (omega (arith, count)) v h;
       }
       go Quiet x =
           let n = quiet-rounds g graph-legal paths table few eight legal (2 * at16 m 5) done figures x (omega arith) in
           record {
             rounds = n;
             holds = λ v h j i.
-                quiet-read g graph-legal paths table few eight legal (2 * at16 m 5) done figures x (omega arith) j (omega (arith, count)) v h
+                quiet-read g graph-legal paths table few eight legal (2 * at16 m 5) done figures x (omega arith) values read j (omega (arith, count)) v h
                 ∙ ap (λ (r : ℕ). getD (values-at (pull g) cs r v) j Absent) (sym n);
           }
 

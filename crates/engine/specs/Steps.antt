@@ -3,12 +3,12 @@ use Prim.Native.Nat.{ℕ, _*_, _<_}
 use mathlib.Core.Path.{_≡_}
 use mathlib.Core.List.{List, map}
 use lib.ListN.{length, getD}
-use Rattle.cells.specs.Table.{paths-in}
 use Rattle.graph.specs.Graph.{graph-code}
 use Rattle.meaning.specs.Query.{PathReduction}
 use Rattle.meaning.specs.Run.{pull, values-at}
 use Rattle.progress.specs.declared.Progress.{Progress}
-use Rattle.rounds.specs.Steps.{value-in}
+use Rattle.table.specs.Steps.{value-in}
+use Rattle.table.specs.Table.{paths-in}
 use Rattle.value.specs.declared.Value.the-variants.{Absent}
 use Rattle.walks.specs.Rounds.{rounds}
 use Rattle.walks.specs.Walks.{Graph}

@@ -2,13 +2,13 @@
 use packed_path::PackedPath;
 use progress::Progress;
 ghost use mathlib.Core.Path.{_≡_};
-ghost use Prim.Native.Nat.{_≤_};
+ghost use Prim.Native.Nat.{_+_, _*_, _≤_};
 ghost use lib.ListN.{length};
 ghost use Rattle.walks.specs.Lists.{All};
 ghost use Rattle.meaning.specs.Limits.{PathFits};
 ghost use Rattle.graph.specs.Graph.{graph-code, graph-of};
 ghost use Rattle.packed_path.specs.Packed.{sources-of};
-ghost use Rattle.cells.specs.Table.{paths-in};
+ghost use Rattle.table.specs.Table.{paths-in};
 ghost use Rattle.plan.specs.Plan.{plan-scan};
 ghost use Rattle.wire.specs.Wire.{at16, Returned};
 ghost use Rattle.engine.specs.Run.{outside-code, sources-code, run-reply};
@@ -99,43 +99,62 @@ fn reported(limit: Limit, done: u16) -> u16
     }
 }
 
-// The rounds of a run of the first path reductions of a table: how many are reported; the figures then reached are left in `figures`.
+// The rounds of a run of the first path reductions of a table: how many are reported; the values then reached are left in `figures`.
 pub fn settle(
     push: bool,
     limit: Limit,
     paths: usize,
     table: [PackedPath; 8],
     graph: &[u8],
-    figures: &mut [u32],
+    figures: &mut [u64],
 ) -> u16
     requires { ⌜
-        (graph-code (now graph) ≡ 0) × (paths ≤ 8) × All (PathFits (at16 (now graph) 5)) (paths-in paths table) × (length (now figures) ≡ 8192)
+        (graph-code (now graph) ≡ 0) × (paths ≤ 8) × All (PathFits (at16 (now graph) 5)) (paths-in paths table)
+        × (32 + 8 * at16 (now graph) 5 ≤ length (now figures))
         ⌝ }
     ensures { λ r. ⌜ Settled limit (graph-of (now (graph .entry))) (paths-in paths table) r (now (figures .exit)) ⌝ }
 {
-    let most = most(limit, vertices(graph));
+    let n = vertices(graph);
+    let most = most(limit, n);
     let done = rounds::run(push, graph, paths, table, most, figures);
+    rounds::read_values(n as usize, paths, table, figures);
     reported(limit, done)
 }
 
-// What follows where nothing is refused before 15: 15, the rounds, the rows, the answer.
+// The rounds, the rows and the answer, in a table that is lent.
+fn answer_in(
+    push: bool,
+    limit: Limit,
+    plan: &[u8],
+    w: Progress,
+    graph: &[u8],
+    figures: &mut [u64],
+    out: &mut [u8],
+) -> u32
+    requires { ⌜ (w ≡ plan-scan (now plan)) × (run-code w (now graph) ≡ 0) × (32 + 8 * at16 (now graph) 5 ≤ length (now figures)) ⌝ }
+    ensures { λ r. ⌜ Returned (run-reply limit (now (plan .entry)) (now (graph .entry)) (length (now (out .entry)))) r (now (out .entry))
+        (now (out .exit)) ⌝ }
+{
+    let paths = wire::lesser(w.paths, 8);
+    let table = w.table;
+    let done = settle(push, limit, paths, table, graph, figures);
+    rows::write(plan, figures, OWN, paths, vertices(graph), done, out)
+}
+
+// What follows where nothing is refused before 15: 15, then the rest in a table as long as the map needs.
 fn finish(push: bool, limit: Limit, plan: &[u8], w: Progress, graph: &[u8], out: &mut [u8]) -> u32
     requires { ⌜ (w ≡ plan-scan (now plan)) × (run-code w (now graph) ≡ 0) ⌝ }
     ensures { λ r. ⌜ Returned (run-reply limit (now (plan .entry)) (now (graph .entry)) (length (now (out .entry)))) r (now (out .entry))
         (now (out .exit)) ⌝ }
 {
-    let n = vertices(graph);
-    let kind = wire::byte(plan, 5);
-    let k = answer::judge(n, kind, out.len());
+    let k = answer::judge(vertices(graph), wire::byte(plan, 5), out.len());
     if k != 0 {
         return 65536 + k as u32;
     }
-    let paths = wire::lesser(w.paths, 8);
-    let table = w.table;
-    let mut figures = [0u32; 8192];
-    let done = settle(push, limit, paths, table, graph, &mut figures);
-    let list = rows::body_rows(plan, &figures, OWN, paths, n as usize);
-    answer::write(n, done, kind, list, out)
+    if rounds::is_small(graph) {
+        return answer_in(push, limit, plan, w, graph, &mut [0u64; 160], out);
+    }
+    answer_in(push, limit, plan, w, graph, &mut [0u64; 2080], out)
 }
 
 // A run by push or by pull: the worksheet and the map are judged, then it goes on.

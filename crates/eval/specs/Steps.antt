@@ -4,7 +4,7 @@
 use Prim.Native.Nat.{ℕ, zero, suc, _+_, _-_, _%_, min}
 use mathlib.Core.Bool.{Bool, cond, _||_}
 use mathlib.Core.List.{List, [], _∷_, _++_, map}
-use lib.Dec.{leb, eqb}
+use lib.Dec.{leb, ltb, eqb}
 use lib.ListN.{length, getD, replicate}
 use Rattle.meaning.specs.Run.{tabulate}
 use Rattle.value.specs.declared.Value.{Value}
@@ -52,6 +52,16 @@ evaluated (suc left) s rows at = joined (evaluated left s rows) (head s rows at)
 -- "an answer row holds one"
 abbrev pub row : Value → Row
 row v = record { value = v }
+
+-- leaf k, of those that stand as words: `least` stands for the number 0; a lesser word is absent, and so is a leaf for which `slots` names no word
+unfoldable pub leaf-in : List ℕ → List ℕ → ℕ → ℕ → Value
+leaf-in leaves slots least k =
+    let word = getD leaves (getD slots k 0) 0 in
+    cond (leb 8 k) Absent (cond (leb (length leaves) (getD slots k 0)) Absent (cond (ltb word least) Absent (Number (word - least))))
+
+-- all of them, as eight rows
+unfoldable pub rows-in : List ℕ → List ℕ → ℕ → List Row
+rows-in leaves slots least = tabulate 8 zero (λ k. row (leaf-in leaves slots least k))
 
 -- values as eight rows, absent ones behind them
 abbrev pub eight : List Value → List Row

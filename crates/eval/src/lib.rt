@@ -1,11 +1,8 @@
 // The value of a plan's expression (document 01, worksheet), read straight from its accepted bytes: of an entry, over the values of
 // the path reductions at a vertex; of the final expression, over the results of the entries.
-use value::Row;
 use value::Value;
 ghost use mathlib.Core.Path.{_≡_};
-ghost use lib.ListN.{getD};
-ghost use Rattle.value.specs.Value.{values};
-ghost use Rattle.eval.specs.Steps.{condition-found, entry-end, evaluated, expression-end, head, one-of};
+ghost use Rattle.eval.specs.Steps.{entry-end, entry-found, evaluated, head, leaf-in, one-of, rows-in};
 
 // The value of a term, and where the term behind it starts.
 pub struct Found {
@@ -19,16 +16,23 @@ pub enum Head {
     Apply(u8, usize),
 }
 
-// The value of row i, absent where there is no such row.
-fn value_at(rows: [Row; 8], i: u8) -> Value
-    ensures { λ r. ⌜ r ≡ getD (values rows) i Value.Absent ⌝ }
+// Leaf k: the word that `slots` names for it stands for a number from `least` on, `least` for 0; absent where it is less, and where there is no such word.
+fn leaf(leaves: &[u64], slots: &[usize; 8], least: u64, k: u8) -> Value
+    ensures { λ r. ⌜ r ≡ leaf-in (now (leaves .entry)) (now (slots .entry)) least k ⌝ }
 {
-    let k = i as usize;
-    if k < 8 {
-        let row = rows[k];
-        return row.value;
+    let i = k as usize;
+    if 8 <= i {
+        return Value::Absent;
     }
-    Value::Absent
+    let at = slots[i];
+    if leaves.len() <= at {
+        return Value::Absent;
+    }
+    let word = leaves[at];
+    if word < least {
+        return Value::Absent;
+    }
+    Value::Number(word - least)
 }
 
 // Is the tag either of two?
@@ -42,8 +46,8 @@ fn one_of(tag: u8, a: u8, b: u8) -> bool
 }
 
 // What stands at a position, by its tag.
-fn head_of(s: &[u8], rows: [Row; 8], at: usize) -> Head
-    ensures { λ r. ⌜ r ≡ head (now (s .entry)) rows at ⌝ }
+fn head_of(s: &[u8], leaves: &[u64], slots: &[usize; 8], least: u64, at: usize) -> Head
+    ensures { λ r. ⌜ r ≡ head (now (s .entry)) (rows-in (now (leaves .entry)) (now (slots .entry)) least) at ⌝ }
 {
     if s.len() <= at {
         return Head::Leaf(Found {
@@ -54,7 +58,7 @@ fn head_of(s: &[u8], rows: [Row; 8], at: usize) -> Head
     let tag = s[at];
     if one_of(tag, 0x30, 0x31) {
         return Head::Leaf(Found {
-            value: value_at(rows, wire::byte(s, at + 1)),
+            value: leaf(leaves, slots, least, wire::byte(s, at + 1)),
             next: at + 2,
         });
     }
@@ -73,9 +77,17 @@ fn head_of(s: &[u8], rows: [Row; 8], at: usize) -> Head
     })
 }
 
-// The value of the term at `at`, with so many levels of depth left; absent where no term of an expression stands there.
-pub fn evaluate(s: &[u8], rows: [Row; 8], at: usize, left: usize) -> Found
-    ensures { λ r. ⌜ r ≡ evaluated left (now (s .entry)) rows at ⌝ }
+// The value of the term at `at`, with so many levels of depth left; absent where no term of an expression stands there. Its leaves are lent as words, so that
+// nothing is copied on the way down.
+pub fn evaluate(
+    s: &[u8],
+    leaves: &[u64],
+    slots: &[usize; 8],
+    least: u64,
+    at: usize,
+    left: usize,
+) -> Found
+    ensures { λ r. ⌜ r ≡ evaluated left (now (s .entry)) (rows-in (now (leaves .entry)) (now (slots .entry)) least) at ⌝ }
 {
     if left == 0 {
         return Found {
@@ -83,11 +95,11 @@ pub fn evaluate(s: &[u8], rows: [Row; 8], at: usize, left: usize) -> Found
             next: at,
         };
     }
-    match head_of(s, rows, at) {
+    match head_of(s, leaves, slots, least, at) {
         Head::Leaf(found) => found,
         Head::Apply(operator, next) => {
-            let first = evaluate(s, rows, next, left - 1);
-            let second = evaluate(s, rows, first.next, left - 1);
+            let first = evaluate(s, leaves, slots, least, next, left - 1);
+            let second = evaluate(s, leaves, slots, least, first.next, left - 1);
             let a = first.value;
             let b = second.value;
             Found {
@@ -98,39 +110,27 @@ pub fn evaluate(s: &[u8], rows: [Row; 8], at: usize, left: usize) -> Found
     }
 }
 
-// A condition at `at`, and the value behind it: absent where the vertex does not count.
-pub fn condition(s: &[u8], rows: [Row; 8], at: usize) -> Value
-    ensures { λ r. ⌜ r ≡ condition-found (now (s .entry)) rows at ⌝ }
-{
-    let first = evaluate(s, rows, at, 16);
-    let second = evaluate(s, rows, first.next, 16);
-    let test = first.value;
-    let value = second.value;
-    value::where_counts(test, value)
-}
-
-// Where the expression at `at` ends: that rests on its bytes alone.
-fn expression_end(s: &[u8], at: usize) -> usize
-    ensures { λ r. ⌜ r ≡ expression-end (now (s .entry)) at ⌝ }
-{
-    let absent = Row {
-        value: Value::Absent,
-    };
-    let rows = [absent; 8];
-    let found = evaluate(s, rows, at, 16);
-    found.next
-}
-
-// Where the entry whose reduction byte stands at `at` ends.
-pub fn entry_end(s: &[u8], at: usize) -> usize
-    ensures { λ r. ⌜ r ≡ entry-end (now (s .entry)) at ⌝ }
+// The entry whose reduction byte stands at `at`: its value at a vertex whose figures are the leaves, each one more than the number, and where it ends. With 128
+// added to the reduction byte a condition precedes the value: absent where the vertex does not count.
+pub fn entry(s: &[u8], leaves: &[u64], slots: &[usize; 8], at: usize) -> Found
+    ensures { λ r. ⌜ (r .value ≡ entry-found (now (s .entry)) (rows-in (now (leaves .entry)) (now (slots .entry)) 1) at)
+        × (r .next ≡ entry-end (now (s .entry)) at) ⌝ }
 {
     if s.len() <= at {
-        return at;
+        return Found {
+            value: Value::Absent,
+            next: at,
+        };
     }
-    let end = expression_end(s, at + 1);
+    let first = evaluate(s, leaves, slots, 1, at + 1, 16);
     if s[at] < 128 {
-        return end;
+        return first;
     }
-    expression_end(s, end)
+    let second = evaluate(s, leaves, slots, 1, first.next, 16);
+    let test = first.value;
+    let value = second.value;
+    Found {
+        value: value::where_counts(test, value),
+        next: second.next,
+    }
 }

@@ -7,13 +7,27 @@ use lib.Dec.{eqb}
 use lib.ListN.{length, getD, replicate}
 use Rattle.meaning.specs.Run.{tabulate}
 use Rattle.value.specs.declared.Row.{Row}
-use Rattle.value.specs.declared.Value.the-variants.{Absent}
+use Rattle.value.specs.declared.Value.{Value}
+use Rattle.value.specs.declared.Value.the-variants.{Absent, Number}
 use Rattle.eval.specs.Steps.{eight, row}
-use Rattle.rounds.specs.Steps.{value-in}
+use Rattle.table.specs.Steps.{value-in}
 
 -- the values of the path reductions at the vertex v, as eight rows: that of path reduction j stands in slot `getD slots j 0` of the table
 unfoldable pub rows-at : List ℕ → List ℕ → ℕ → ℕ → List Row
 rows-at figures slots paths v = eight (tabulate (min paths 8) zero (λ j. value-in figures (getD slots j 0) v))
+
+-- the slots of the path reductions in use; 8, which is no slot, behind them
+unfoldable pub used-slots : List ℕ → ℕ → List ℕ
+used-slots slots paths = tabulate (min paths 8) zero (λ j. getD slots j 0) ++ replicate (8 - min paths 8) 8
+
+-- a result as a word and a slot: an absent one has none, which is slot 8
+abbrev pub word-of : Value → ℕ
+word-of Absent = 0
+word-of (Number x) = x
+
+abbrev pub slot-of : Value → ℕ → ℕ
+slot-of Absent k = 8
+slot-of (Number x) k = k
 
 -- rows in an array of 256, absent ones behind them
 abbrev pub many : List Row → List Row

@@ -154,7 +154,8 @@ reduced r (Number x ∷ vs) = ap finish (reached r (join (joining r) (Number (st
 unfoldable pub after : ℕ → List Row → ℕ → Partial
 after r rows i = foldl (step r) Empty (values (take i rows))
 
-snoc : (r : ℕ) (p : Partial) (rows : List Row) (row : Row) → foldl (step r) p (values (rows ++ (row ∷ [])))
+-- the last value is the last step
+pub snoc : (r : ℕ) (p : Partial) (rows : List Row) (row : Row) → foldl (step r) p (values (rows ++ (row ∷ [])))
     ≡ step r (foldl (step r) p (values rows)) (row .value)
 snoc r p [] row = refl
 snoc r p (x ∷ rows) row = snoc r (step r p (x .value)) rows row

@@ -183,7 +183,7 @@ fn so_far_of(reduction: u8, partial: Partial, x: u64) -> Value
 }
 
 // One more value of a reduction: "A reduction over places skips absent values". A sum that is too large stays absent.
-fn step_of(reduction: u8, partial: Partial, v: Value) -> Partial
+pub fn step_of(reduction: u8, partial: Partial, v: Value) -> Partial
     ensures { λ r. ⌜ r ≡ step reduction partial v ⌝ }
 {
     let Value::Number(x) = v else {
@@ -195,7 +195,8 @@ fn step_of(reduction: u8, partial: Partial, v: Value) -> Partial
     Partial::Reached(compute_of(joining_of(reduction), y, x))
 }
 
-fn finish_of(partial: Partial) -> Value
+// What a reduction has come to: "with none left it is absent".
+pub fn finish_of(partial: Partial) -> Value
     ensures { λ r. ⌜ r ≡ finish partial ⌝ }
 {
     match partial {

@@ -1,4 +1,5 @@
 -- `answer::write` meets its contract. Assumes nothing.
+use Prim.Native.Nat.{ℕ, _≤_}
 use mathlib.Core.Path.{_≡_, sym, _∙_}
 use mathlib.Core.List.{List}
 use native.Mathlib.Omega.{arith}
@@ -6,18 +7,19 @@ use borrow.Author.Needs.{needs}
 use lib.ListN.{length, length-map}
 use Rattle.value.specs.declared.Row.{Row}
 use Rattle.value.specs.Value.{values}
+use Rattle.answer.specs.Answer.{row-count}
 use Rattle.answer.proofs.Bytes.{count-most}
-use Rattle.answer.proofs.Reply.{answer-laid, answer-sized, judged-right, reply-done, reply-refused}
+use Rattle.answer.proofs.Reply.{Fields, answer-laid, answer-sized, enough-rows, judged-right, reply-done, reply-refused}
 use Rattle.answer.proofs.write.Statement.{statement}
 use Rattle.answer.proofs.write.Tie as tie
 
-full : (rows : List Row) → length rows ≡ 256 → length (values rows) ≡ 256
-full rows e = length-map rows (λ (r : Row). r .value) ∙ e
+full : (n kind : ℕ) (rows : List Row) → length rows ≡ 256 → Fields n kind → row-count n kind ≤ length (values rows)
+full n kind rows e = enough-rows n kind (values rows) (length-map rows (λ (r : Row). r .value) ∙ e)
 
 returns : tie.Need-returns
 returns c =
     let a = c .before .before .before .args in
-    let e = reply-refused (a .n) (a .rounds) (a .kind) (values (a .rows)) (full (a .rows) (omega arith)) (length (a .out .now)) _
+    let e = reply-refused (a .n) (a .rounds) (a .kind) (values (a .rows)) (full (a .n) (a .kind) (a .rows) (omega arith)) (length (a .out .now)) _
     (c .before .judge .ensures) (c .if1 .taken) in
     (rw e, rw e)
 
@@ -42,7 +44,7 @@ returns-2 : tie.Need-returns-2
 returns-2 c =
     let a = c .before .before .before .before .before .before .before .before .before .before .before .before .before .args in
     let vs = values (a .rows) in
-    let all = full (a .rows) (omega arith) in
+    let all = full (a .n) (a .kind) (a .rows) (omega arith) in
     let room = length (a .out .now) in
     let z = sym (c .before .before .before .before .before .before .before .before .before .before .before .judge .ensures)
     ∙ c .before .before .before .before .before .before .before .before .before .before .if1 .left in

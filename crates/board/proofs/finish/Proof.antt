@@ -8,7 +8,7 @@ use borrow.Author.Needs.{needs}
 use lib.ListN.{length, getD, drop}
 use Rattle.board_text.specs.Board.{queries-of}
 use Rattle.board_text.specs.Steps.{board-scan}
-use Rattle.cells.specs.Table.{paths-in}
+use Rattle.table.specs.Table.{paths-in}
 use Rattle.engine.specs.Steps.{Settled, run-code}
 use Rattle.graph.specs.Graph.{graph-of}
 use Rattle.meaning.specs.Limits.{PathFits}

@@ -7,7 +7,7 @@ use native.Mathlib.Omega.{arith}
 use borrow.Author.Needs.{needs}
 use borrow.Author.Tests.{ne-eqb}
 use lib.ListN.{length}
-use Rattle.cells.specs.Table.{paths-in}
+use Rattle.table.specs.Table.{paths-in}
 use Rattle.graph.specs.Graph.{graph-of}
 use Rattle.meaning.specs.Limits.{PathFits}
 use Rattle.plan.specs.Plan.{plan-scan}

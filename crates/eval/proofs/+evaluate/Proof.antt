@@ -14,15 +14,15 @@ use Rattle.value.proofs.operate_on.Reads as operate-on-reads
 use Rattle.eval.proofs.+evaluate.{statement}
 use Rattle.eval.proofs.+evaluate.Tie.{close}
 
-abbrev μ-evaluate : Measures 1 evaluate-kinds.ps ℕ
-μ-evaluate κs a = a .1 .1 .1 .0
+abbrev μ-evaluate : Measures 3 evaluate-kinds.ps ℕ
+μ-evaluate κs a = a .1 .1 .1 .1 .1 .0
 
-abbrev evaluate-at : ℕ → In 1 evaluate-kinds.ps
-evaluate-at t = and 1 evaluate-kinds.ps (is 1 evaluate-kinds.ps μ-evaluate t) evaluate.Pre
+abbrev evaluate-at : ℕ → In 3 evaluate-kinds.ps
+evaluate-at t = and 3 evaluate-kinds.ps (is 3 evaluate-kinds.ps μ-evaluate t) evaluate.Pre
 
-abbrev evaluate-below : ℕ → In 1 evaluate-kinds.ps
+abbrev evaluate-below : ℕ → In 3 evaluate-kinds.ps
 evaluate-below t =
-    and 1 evaluate-kinds.ps (falls 1 evaluate-kinds.ps _<_ μ-evaluate t) evaluate.Pre
+    and 3 evaluate-kinds.ps (falls 3 evaluate-kinds.ps _<_ μ-evaluate t) evaluate.Pre
 
 -- what is asked and learnt at each call
 abbrev claims : ℕ → evaluate-lts.Claims

@@ -1,0 +1,88 @@
+-- `rows::write` meets its contract. Assumes nothing.
+use Prim.Native.Nat.{ℕ, _+_, min}
+use mathlib.Core.Path.{_≡_, sym, ap, ap₂, _∙_}
+use mathlib.Core.List.{List, [], _∷_}
+use native.Mathlib.Omega.{arith}
+use borrow.Author.Needs.{needs}
+use lib.ListN.{getD, length, replicate}
+use Rattle.value.specs.declared.Row.{Row}
+use Rattle.value.specs.declared.Value.{Value}
+use Rattle.value.specs.declared.Value.the-variants.{Absent}
+use Rattle.value.specs.Value.{values}
+use Rattle.wire.specs.Wire.{Reply, reply-buffer, reply-number}
+use Rattle.plan.specs.Plan.{count-at}
+use Rattle.answer.specs.Answer.{answer-code, answer-reply}
+use Rattle.answer.proofs.Reply.{enough-rows, judged-right, reply-one, reply-refused}
+use Rattle.eval.specs.Steps.{body-found, entry-rows, final-found, row}
+use Rattle.rows.specs.Steps.{many, rows-at}
+use Rattle.rows.proofs.Laws.{body-each, body-one, full-rows}
+use Rattle.rows.proofs.write.Statement.{statement}
+use Rattle.rows.proofs.write.Tie as tie
+
+returns : tie.Need-returns
+returns c =
+    let a = c .before .before .before .before .before .before .args in
+    let plan : List ℕ = a .plan .now in
+    let kind = getD plan 5 0 in
+    let vs = values (many (body-found plan (rows-at (a .figures .now) (a .slots) (a .paths)) (min (a .n) 256))) in
+    let room = length (a .out .now) in
+    let e = reply-refused (a .n) (a .rounds) kind vs (enough-rows (a .n) kind vs (full-rows plan (a .figures .now) (a .slots) (a .paths) (a .n))) room
+    _ (c .before .judge .ensures ∙ ap (λ (k : ℕ). answer-code (a .n) k room) (c .before .before .byte .ensures)) (c .if1 .taken) in
+    (rw e, rw e)
+
+entry-rows-requires : tie.Need-entry-rows-requires
+entry-rows-requires c κs =
+    let a = c .before .before .before .before .before .before .before .before .before .before .args in
+    judged-right (a .n) (c .before .before .before .before .before .before .byte .result) (length (a .out .now)) (sym (c .before .before .before .before .before .judge .ensures) ∙ c .before .before .before .before .if1 .left) .0 .few-vertices
+
+returns-2 : tie.Need-returns-2
+returns-2 c =
+    let a = c .before .before .before .before .before .before .before .before .before .before .before .before .before .before .before .args in
+    let plan : List ℕ = a .plan .now in
+    let figures : List ℕ = a .figures .now in
+    let room = length (a .out .now) in
+    let few = judged-right (a .n) (c .before .before .before .before .before .before .before .before .before .before .before .byte .result) room (sym (c .before .before .before .before .before .before .before .before .before .before .judge .ensures) ∙ c .before .before .before .before .before .before .before .before .before .if1 .left) .0 .few-vertices in
+    let kind = sym (c .before .before .before .before .before .before .before .before .before .before .before .byte .ensures) ∙ c .before .before .before .before .before .before .if2 .taken in
+    let rows = c .before .before .before .before .entry-rows .ensures
+    ∙ ap many (ap₂ (λ (i : ℕ) (used : List ℕ). entry-rows plan (i + 1) (rows-at figures used 8) (a .n)) (c .before .before .before .before .before .before .before .count-at .ensures .0)
+    (c .before .before .before .before .before .before .before .before .slots-used .ensures)
+    ∙ body-each plan figures (a .slots) (a .paths) (a .n) few kind) in
+    let reply = ap₂ (λ (k : ℕ) (rows : List Row). answer-reply (a .n) (a .rounds) k (values rows) room) (sym kind) rows in
+    let written = c .before .before .write .ensures in
+    (written .0 ∙ ap reply-number reply, written .1 ∙ ap (λ (r : Reply). reply-buffer r (a .out .now)) reply)
+
+final-of-requires : tie.Need-final-of-requires
+final-of-requires c κs =
+    let a = c .before .before .before .before .before .before .before .before .before .before .before .before .before .args in
+    let j = judged-right (a .n) (c .before .before .before .before .before .before .before .before .before .byte .result) (length (a .out .now)) (sym (c .before .before .before .before .before .before .before .before .judge .ensures) ∙ c .before .before .before .before .before .before .before .if1 .left) .0 in
+    (j .some-vertex, j .few-vertices, c .before .lesser .ensures .1)
+
+returns-3 : tie.Need-returns-3
+returns-3 c =
+    let a = c .before .before .before .before .before .before .before .before .before .before .before .before .before .before .before .before .before .before .args in
+    let plan : List ℕ = a .plan .now in
+    let figures : List ℕ = a .figures .now in
+    let room = length (a .out .now) in
+    let fields = judged-right (a .n) (c .before .before .before .before .before .before .before .before .before .before .before .before .before .before .byte .result) room (sym (c .before .before .before .before .before .before .before .before .before .before .before .before .before .judge .ensures) ∙ c .before .before .before .before .before .before .before .before .before .before .before .before .if1 .left) .0 in
+    let read = c .before .before .before .before .before .before .before .before .before .before .before .before .before .before .byte .ensures in
+    let other : getD plan 5 0 ≡ 0 → ⊥ = λ z. c .before .before .before .before .before .before .before .before .before .if2 .left (read ∙ z) in
+    let kind : 1 ≡ getD plan 5 0 = omega (arith, fields .known-kind, other, read) in
+    let at = c .before .before .before .before .before .before .before .before .before .before .count-at .ensures .0 in
+    let count = c .before .before .before .before .before .before .lesser .ensures .0
+    ∙ ap (λ (k : ℕ). min k 8) (c .before .before .before .before .before .before .before .wide .ensures .0 ∙ c .before .before .before .before .before .before .before .before .byte2 .ensures ∙ ap (λ (i : ℕ). getD plan i 0) at) in
+    let value = c .before .before .before .before .final-of .ensures
+    ∙ ap (λ (k : ℕ). final-found k plan (c .before .before .before .before .before .before .before .before .before .before .count-at .result + 1) (rows-at figures (c .before .before .before .before .before .before .before .before .before .before .before .slots-used .result) 8) (a .n)) count
+    ∙ ap₂ (λ (i : ℕ) (used : List ℕ). final-found (min (getD plan (count-at plan) 0) 8) plan (i + 1) (rows-at figures used 8) (a .n)) at
+    (c .before .before .before .before .before .before .before .before .before .before .before .slots-used .ensures) in
+    let rows = ap (λ (v : Value). row v ∷ []) value ∙ body-one plan figures (a .slots) (a .paths) (a .n) (fields .few-vertices) other in
+    let reply = sym (reply-one (a .n) (a .rounds) (c .before .before .before .before .final-of .result) (values (replicate 255 (row Absent))) room)
+    ∙ ap₂ (λ (k : ℕ) (rows : List Row). answer-reply (a .n) (a .rounds) k (values (many rows)) room) kind rows in
+    let written = c .before .before .write-one .ensures in
+    (written .0 ∙ ap reply-number reply, written .1 ∙ ap (λ (r : Reply). reply-buffer r (a .out .now)) reply)
+
+pub write-spec : {M : Type 1} → statement M
+write-spec =
+    tie.close
+    (tie.spec (λ c κs. search needs) (λ c κs. search needs) (λ c. search needs) (λ c. search needs) returns (λ c κs. search needs) (λ c κs. search needs)
+    (λ c. search needs) entry-rows-requires (λ c κs. search needs) (λ c. search needs) returns-2 (λ c κs. search needs) (λ c κs. search needs)
+    (λ c κs. search needs) (λ c. search needs) final-of-requires (λ c κs. search needs) (λ c. search needs) returns-3)

@@ -1,4 +1,4 @@
--- What the code's proofs cite: a row's value, one level of depth. Assumes nothing.
+-- What the code's proofs cite: a row's value, leaves as rows, one level of depth, where a term ends. Assumes nothing.
 use Prim.Native.Nat.{ℕ, zero, suc, _+_, _-_, _≤_}
 use mathlib.Core.Path.{_≡_, refl, ap, _∙_}
 use mathlib.Core.Bool.{Bool, true, false, cond}
@@ -11,7 +11,6 @@ use Rattle.value.specs.declared.Row.{Row}
 use Rattle.value.specs.declared.Value.the-variants.{Absent, Number}
 use Rattle.value.specs.Value.{values}
 use Rattle.wire.specs.Wire.{at32}
-use Rattle.meaning.specs.Run.{tabulate}
 use Rattle.meaning.proofs.Lists.{tabulate-at, tabulate-length}
 use Rattle.eval.specs.declared.Found.{Found}
 use Rattle.eval.specs.declared.Head.{Head}

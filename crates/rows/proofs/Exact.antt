@@ -59,7 +59,7 @@ front l k h =
     ap (take k) (map-append (λ (r : Row). r .value) l (replicate (256 - length l) (row Absent)))
     ∙ take-at (values l) (values (replicate (256 - length l) (row Absent))) k h
 
--- THE ROWS OF THE ANSWER: what `body_rows` gives, on a graph of n vertices
+-- THE ROWS OF THE ANSWER: what `write` writes, on a graph of n vertices
 pub answer-rows : (p : Plan) → PlanLegal 256 p → (l slots : List ℕ) (n : ℕ) → n ≤ 256 → (G : ℕ → List Value)
     → Holds n (length (p .paths)) l slots G
     → take (body-count (encode p) n) (values (many (body-found (encode p) (rows-at l slots (length (p .paths))) (min n 256)))) ≡ body-rows (p .body) G n

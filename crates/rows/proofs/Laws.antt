@@ -232,7 +232,9 @@ module _ (s : List ℕ) (F : ℕ → List Row) (n : ℕ) where
       none i b h = rw (lt-leb 8 i b, h, le-leb (length words) 8 (omega (arith, long)))
 
       some : (i x : ℕ) → i < 8 → getD slots i 0 ≡ i → getD words i 0 ≡ x → Number x ≡ leaf-in words slots 0 i
-      some i x b h k = rw (lt-leb 8 i b, h, lt-leb (length words) i (omega (arith, long)), k, le-ltb x 0 (omega arith)) (ap Number (let z : x ≡ x - 0 = omega arith in z))
+      some i x b h k =
+          let z : x ≡ x - 0 = omega arith in
+          rw (lt-leb 8 i b, h, lt-leb (length words) i (omega (arith, long)), k, le-ltb x 0 (omega arith)) (ap Number z)
 
       by : (i : ℕ) → i < 8 → (v : Value) → getD slots i 0 ≡ slot-of v i → getD words i 0 ≡ word-of v → v ≡ leaf-in words slots 0 i
       by i b Absent h k = none i b h
@@ -278,7 +280,8 @@ module _ (plan figures slots : List ℕ) (paths n : ℕ) where
       F : ℕ → List Row
       F = rows-at figures slots paths
 
-      go : (t : Bool) → length (cond t (entry-rows plan (at + 1) F (min n 256)) (row (final-found (min (getD plan at 0) 8) plan (at + 1) F (min n 256)) ∷ [])) ≤ 256
+      go : (t : Bool)
+          → length (cond t (entry-rows plan (at + 1) F (min n 256)) (row (final-found (min (getD plan at 0) 8) plan (at + 1) F (min n 256)) ∷ [])) ≤ 256
       go true = omega (arith, tabulate-length (min n 256) zero (λ v. row (entry-found plan (F v) (at + 1))))
       go false = omega arith
 
@@ -286,5 +289,7 @@ module _ (plan figures slots : List ℕ) (paths n : ℕ) where
   pub full-rows : length (values (many (body-found plan (rows-at figures slots paths) (min n 256)))) ≡ 256
   full-rows =
       let l : List Row = body-found plan (rows-at figures slots paths) (min n 256) in
+      let rest : List Row = replicate (256 - length l) (row Absent) in
+      let full : length (many l) ≡ 256 = omega (arith, few-rows, length-append l rest, length-replicate (256 - length l) (row Absent)) in
       length-map (many l) (λ (r : Row). r .value)
-      ∙ (let e : length (many l) ≡ 256 = omega (arith, few-rows, length-append l (replicate (256 - length l) (row Absent)), length-replicate (256 - length l) (row Absent)) in e)
+      ∙ full

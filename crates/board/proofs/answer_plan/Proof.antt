@@ -7,19 +7,9 @@ use Rattle.board.proofs.answer_plan.Tie as tie
 returns : tie.Need-returns
 unfolding plan-reply plan-values
 returns c =
-    let byte = c .before .before .before .before in
-    let slots = byte .before .before in
-    rw (
-      ← slots .before .before .before .scan .ensures,
-      ← slots .before .lesser .ensures .0,
-      ← slots .slots-of .ensures,
-      ← byte .before .body-rows .ensures,
-      ← byte .byte .ensures,
-    )
-    (c .before .before .write .ensures)
+    let slots = c .before .before .before .before in
+    rw (← slots .before .before .before .scan .ensures, ← slots .before .lesser .ensures .0, ← slots .slots-of .ensures) (c .before .before .write .ensures)
 
 pub answer-plan-spec : {M : Type 1} → statement M
 answer-plan-spec =
-    tie.close
-    (tie.spec (λ c κs. search needs) (λ c κs. search needs) (λ c κs. search needs) (λ c κs. search needs) (λ c κs. search needs)
-    (λ c κs. search needs) (λ c. search needs) returns)
+    tie.close (tie.spec (λ c κs. search needs) (λ c κs. search needs) (λ c κs. search needs) (λ c κs. search needs) (λ c. search needs) returns)

@@ -73,7 +73,7 @@ settle-requires c κs =
     let a = start .args in
     let there : All (PathFits (at16 (a .graph .now) 5)) (paths-in (min (a .w .paths) 8) (a .w .table)) =
     rw (start .pre .0) (joint-legal (a .board .now) (a .graph .now) (board-bytes known) (graph-bytes known) (passed start) (a .limit)) in
-    (accepted known .graph-ok, search needs, rw (c .before .lesser .ensures .0) there, search needs)
+    (accepted known .graph-ok, search needs, rw (c .before .lesser .ensures .0) there, omega (arith, accepted known .graph-legal .few-vertices))
 
 -- what is written are the answers
 answers : (c : tie.After-settle)

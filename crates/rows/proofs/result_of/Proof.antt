@@ -4,9 +4,7 @@ use mathlib.Core.Path.{_≡_, ap, ap₂, _∙_}
 use mathlib.Core.List.{List}
 use native.Mathlib.Omega.{arith}
 use borrow.Author.Needs.{needs}
-use Rattle.value.specs.declared.Partial.{Partial}
 use Rattle.value.specs.declared.Row.{Row}
-use Rattle.value.specs.declared.Value.{Value}
 use Rattle.value.specs.Steps.{finish, step}
 use Rattle.value.specs.Value.{reduce, values}
 use Rattle.eval.specs.Steps.{entry-end, entry-rows}

@@ -32,20 +32,27 @@ returns c =
 
 entry-rows-requires : tie.Need-entry-rows-requires
 entry-rows-requires c κs =
-    let a = c .before .before .before .before .before .before .before .before .before .before .args in
-    judged-right (a .n) (c .before .before .before .before .before .before .byte .result) (length (a .out .now)) (sym (c .before .before .before .before .before .judge .ensures) ∙ c .before .before .before .before .if1 .left) .0 .few-vertices
+    let judged = c .before .before .before .before in
+    let a = judged .before .before .before .before .before .before .args in
+    let z = sym (judged .before .judge .ensures) ∙ judged .if1 .left in
+    judged-right (a .n) (judged .before .before .byte .result) (length (a .out .now)) z .0 .few-vertices
 
 returns-2 : tie.Need-returns-2
 returns-2 c =
-    let a = c .before .before .before .before .before .before .before .before .before .before .before .before .before .before .before .args in
+    let made = c .before .before .before .before in
+    let counted = made .before .before .before in
+    let judged = counted .before .before in
+    let a = judged .before .before .before .before .before .before .args in
+    let read = judged .before .before .byte in
     let plan : List ℕ = a .plan .now in
     let figures : List ℕ = a .figures .now in
     let room = length (a .out .now) in
-    let few = judged-right (a .n) (c .before .before .before .before .before .before .before .before .before .before .before .byte .result) room (sym (c .before .before .before .before .before .before .before .before .before .before .judge .ensures) ∙ c .before .before .before .before .before .before .before .before .before .if1 .left) .0 .few-vertices in
-    let kind = sym (c .before .before .before .before .before .before .before .before .before .before .before .byte .ensures) ∙ c .before .before .before .before .before .before .if2 .taken in
-    let rows = c .before .before .before .before .entry-rows .ensures
-    ∙ ap many (ap₂ (λ (i : ℕ) (used : List ℕ). entry-rows plan (i + 1) (rows-at figures used 8) (a .n)) (c .before .before .before .before .before .before .before .count-at .ensures .0)
-    (c .before .before .before .before .before .before .before .before .slots-used .ensures)
+    let z = sym (judged .before .judge .ensures) ∙ judged .if1 .left in
+    let few = judged-right (a .n) (read .result) room z .0 .few-vertices in
+    let kind = sym (read .ensures) ∙ made .before .before .if2 .taken in
+    let rows = made .entry-rows .ensures
+    ∙ ap many (ap₂ (λ (i : ℕ) (used : List ℕ). entry-rows plan (i + 1) (rows-at figures used 8) (a .n)) (counted .count-at .ensures .0)
+    (counted .before .slots-used .ensures)
     ∙ body-each plan figures (a .slots) (a .paths) (a .n) few kind) in
     let reply = ap₂ (λ (k : ℕ) (rows : List Row). answer-reply (a .n) (a .rounds) k (values rows) room) (sym kind) rows in
     let written = c .before .before .write .ensures in
@@ -53,29 +60,36 @@ returns-2 c =
 
 final-of-requires : tie.Need-final-of-requires
 final-of-requires c κs =
-    let a = c .before .before .before .before .before .before .before .before .before .before .before .before .before .args in
-    let j = judged-right (a .n) (c .before .before .before .before .before .before .before .before .before .byte .result) (length (a .out .now)) (sym (c .before .before .before .before .before .before .before .before .judge .ensures) ∙ c .before .before .before .before .before .before .before .if1 .left) .0 in
-    (j .some-vertex, j .few-vertices, c .before .lesser .ensures .1)
+    let judged = c .before .before .before .before .before .before .before in
+    let a = judged .before .before .before .before .before .before .args in
+    let z = sym (judged .before .judge .ensures) ∙ judged .if1 .left in
+    let fields = judged-right (a .n) (judged .before .before .byte .result) (length (a .out .now)) z .0 in
+    (fields .some-vertex, fields .few-vertices, c .before .lesser .ensures .1)
 
 returns-3 : tie.Need-returns-3
 returns-3 c =
-    let a = c .before .before .before .before .before .before .before .before .before .before .before .before .before .before .before .before .before .before .args in
+    let made = c .before .before .before .before in
+    let fewer = made .before .before in
+    let counted = fewer .before .before .before .before in
+    let judged = counted .before .before in
+    let a = judged .before .before .before .before .before .before .args in
     let plan : List ℕ = a .plan .now in
     let figures : List ℕ = a .figures .now in
     let room = length (a .out .now) in
-    let fields = judged-right (a .n) (c .before .before .before .before .before .before .before .before .before .before .before .before .before .before .byte .result) room (sym (c .before .before .before .before .before .before .before .before .before .before .before .before .before .judge .ensures) ∙ c .before .before .before .before .before .before .before .before .before .before .before .before .if1 .left) .0 in
-    let read = c .before .before .before .before .before .before .before .before .before .before .before .before .before .before .byte .ensures in
-    let other : getD plan 5 0 ≡ 0 → ⊥ = λ z. c .before .before .before .before .before .before .before .before .before .if2 .left (read ∙ z) in
-    let kind : 1 ≡ getD plan 5 0 = omega (arith, fields .known-kind, other, read) in
-    let at = c .before .before .before .before .before .before .before .before .before .before .count-at .ensures .0 in
-    let count = c .before .before .before .before .before .before .lesser .ensures .0
-    ∙ ap (λ (k : ℕ). min k 8) (c .before .before .before .before .before .before .before .wide .ensures .0 ∙ c .before .before .before .before .before .before .before .before .byte2 .ensures ∙ ap (λ (i : ℕ). getD plan i 0) at) in
-    let value = c .before .before .before .before .final-of .ensures
-    ∙ ap (λ (k : ℕ). final-found k plan (c .before .before .before .before .before .before .before .before .before .before .count-at .result + 1) (rows-at figures (c .before .before .before .before .before .before .before .before .before .before .before .slots-used .result) 8) (a .n)) count
-    ∙ ap₂ (λ (i : ℕ) (used : List ℕ). final-found (min (getD plan (count-at plan) 0) 8) plan (i + 1) (rows-at figures used 8) (a .n)) at
-    (c .before .before .before .before .before .before .before .before .before .before .before .slots-used .ensures) in
+    let read = judged .before .before .byte in
+    let z = sym (judged .before .judge .ensures) ∙ judged .if1 .left in
+    let fields = judged-right (a .n) (read .result) room z .0 in
+    let other : getD plan 5 0 ≡ 0 → ⊥ = λ z. fewer .before .before .before .if2 .left (read .ensures ∙ z) in
+    let kind : 1 ≡ getD plan 5 0 = omega (arith, fields .known-kind, other, read .ensures) in
+    let at = counted .count-at .ensures .0 in
+    let byte = fewer .before .wide .ensures .0 ∙ fewer .before .before .byte2 .ensures ∙ ap (λ (i : ℕ). getD plan i 0) at in
+    let count = fewer .lesser .ensures .0 ∙ ap (λ (k : ℕ). min k 8) byte in
+    let used = counted .before .slots-used in
+    let value = made .final-of .ensures
+    ∙ ap (λ (k : ℕ). final-found k plan (counted .count-at .result + 1) (rows-at figures (used .result) 8) (a .n)) count
+    ∙ ap₂ (λ (i : ℕ) (used : List ℕ). final-found (min (getD plan (count-at plan) 0) 8) plan (i + 1) (rows-at figures used 8) (a .n)) at (used .ensures) in
     let rows = ap (λ (v : Value). row v ∷ []) value ∙ body-one plan figures (a .slots) (a .paths) (a .n) (fields .few-vertices) other in
-    let reply = sym (reply-one (a .n) (a .rounds) (c .before .before .before .before .final-of .result) (values (replicate 255 (row Absent))) room)
+    let reply = sym (reply-one (a .n) (a .rounds) (made .final-of .result) (values (replicate 255 (row Absent))) room)
     ∙ ap₂ (λ (k : ℕ) (rows : List Row). answer-reply (a .n) (a .rounds) k (values (many rows)) room) kind rows in
     let written = c .before .before .write-one .ensures in
     (written .0 ∙ ap reply-number reply, written .1 ∙ ap (λ (r : Reply). reply-buffer r (a .out .now)) reply)

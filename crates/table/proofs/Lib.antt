@@ -1,4 +1,4 @@
 pub mod Cells
+pub mod Lent
 pub mod Walks
 pub mod Rounds
-pub mod Touched

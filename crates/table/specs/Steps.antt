@@ -1,6 +1,6 @@
 -- One path reduction's words and marks as the program goes: initial values, a round vertex by vertex, the values read off. Nothing to believe: the contracts
 -- of `rounds` say what these are in the words of the theory.
-use Prim.Native.Nat.{ℕ, _+_, _-_, _*_, _≤_, _<_}
+use Prim.Native.Nat.{ℕ, zero, suc, _+_, _-_, _*_, _≤_, _<_, min}
 use mathlib.Core.Path.{_≡_}
 use mathlib.Core.Bool.{Bool, true, false, cond, not, _&&_}
 use mathlib.Core.List.{List}
@@ -10,13 +10,12 @@ use Rattle.value.specs.declared.Value.{Value}
 use Rattle.value.specs.declared.Value.the-variants.{Absent, Number}
 use Rattle.wire.specs.Wire.{at16}
 use Rattle.graph.specs.Graph.{edge-in, graph-code}
-use Rattle.incoming.specs.Incoming.{Threaded}
-use Rattle.vertex_set.specs.Sets.{emptied, filled, inserted, joined, joined-chosen, member}
+use Rattle.incoming.specs.Incoming.{Threaded, enters}
+use Rattle.vertex_set.specs.Least.{some-below}
+use Rattle.vertex_set.specs.Sets.{inserted, member}
 use Rattle.packed_figures.specs.declared.PathConstants.{PathConstants}
-use Rattle.packed_figures.specs.Packed.{absent, base-word, figure-of}
+use Rattle.packed_figures.specs.Packed.{absent, base-word, figure-of, onward}
 use Rattle.packed_figures.specs.Packed as packed
-use Rattle.packed_figures.specs.Rounds.{gathered}
-use Rattle.packed_figures.specs.Rounds as words
 use Rattle.table.specs.Table.{Others, any-vertex, cell, cell-in}
 
 -- the word of path reduction j at vertex v
@@ -35,88 +34,105 @@ pub record Began (begins : ℕ → Bool) (c : PathConstants) (n j : ℕ) (old ne
   pub others : (m : ℕ) → m ≤ 256 → Others m j old new
   pub size : length new ≡ length old
 
--- ---- a round, over the edges from vertices of set 0 of `work`, at the vertices of set 1
+-- ---- a round at the vertices of set 0 of `work`, by the words lent there
 
--- does edge i start at a vertex of set 0?
-abbrev pub from-live : List ℕ → List ℕ → ℕ → Bool
-from-live s work i = member work 0 (edge-in s i .from)
+-- the word that a vertex lends
+abbrev pub lent : List ℕ → ℕ → ℕ
+lent work u = getD work (8 + u) 0
 
 -- what edge i brings
-abbrev pub brings : List ℕ → PathConstants → ℕ → List ℕ → List ℕ → ℕ → ℕ
-brings s c j figures work i = words.brought (from-live s work i) c (edge-in s i) (word-in figures j)
+abbrev pub brings : List ℕ → PathConstants → List ℕ → ℕ → ℕ
+brings s c work i = onward c (lent work (edge-in s i .from)) (edge-in s i .weight) (edge-in s i .capacity)
 
--- what all edges into v bring, reduced into the word that it had
-unfoldable pub reduced-word : List ℕ → PathConstants → ℕ → List ℕ → List ℕ → ℕ → ℕ
-reduced-word s c j figures work v = gathered (edge-in s) c (from-live s work) (word-in figures j) v (at16 s 7)
+-- what the edges below i that enter v bring, reduced into the word that it had
+unfoldable pub reduced-upto : List ℕ → PathConstants → List ℕ → ℕ → ℕ → ℕ → ℕ
+reduced-upto s c work word v zero = word
+reduced-upto s c work word v (suc i) =
+    cond (enters s v i) (min (reduced-upto s c work word v i) (brings s c work i)) (reduced-upto s c work word v i)
 
--- is that another word?
+-- all of them
+abbrev pub reduced-word : List ℕ → PathConstants → List ℕ → ℕ → ℕ → ℕ
+reduced-word s c work word v = reduced-upto s c work word v (at16 s 7)
+
+-- of the word in the table; is it another?
+abbrev pub next-word : List ℕ → PathConstants → ℕ → List ℕ → List ℕ → ℕ → ℕ
+next-word s c j figures work v = reduced-word s c work (word-in figures j v) v
+
 abbrev pub moves : List ℕ → PathConstants → ℕ → List ℕ → List ℕ → ℕ → Bool
-moves s c j figures work v = not (eqb (reduced-word s c j figures work v) (word-in figures j v))
+moves s c j figures work v = not (eqb (next-word s c j figures work v) (word-in figures j v))
 
--- what a round asks: an accepted graph and its index, tables as long as it needs, and words that are at most ABSENT
-pub record Inside (s : List ℕ) (c : PathConstants) (j : ℕ) (figures work : List ℕ) : Type 0 where
+-- what an edge asks: an accepted graph, and words lent that are at most ABSENT
+pub record Lends (s : List ℕ) (c : PathConstants) (work : List ℕ) : Type 0 where
   pub accepted : graph-code s ≡ 0
   pub sound : packed.Sound c
-  pub slot : j < 8
-  pub table-fits : 32 + 8 * at16 s 5 ≤ length figures
-  pub work-fits : 12 + at16 s 5 ≤ length work
-  pub words : (u : ℕ) → u < at16 s 5 → word-in figures j u ≤ absent
+  pub work-fits : 8 + at16 s 5 ≤ length work
+  pub words-lent : (u : ℕ) → u < at16 s 5 → lent work u ≤ absent
 
-pub record Ready (s : List ℕ) (c : PathConstants) (j : ℕ) (heads nexts figures work : List ℕ) : Type 0 where
-  pub inside : Inside s c j figures work
+-- and the edges into a vertex: the index
+pub record Edges (s : List ℕ) (c : PathConstants) (heads nexts work : List ℕ) : Type 0 where
+  pub lends : Lends s c work
   pub threaded : Threaded s 0 heads nexts
   pub heads-fit : at16 s 5 ≤ length heads
   pub nexts-fit : at16 s 7 ≤ length nexts
-  pub walked-fit : (v : ℕ) → v < 256 → member work 1 v ≡ true → v < at16 s 5
 
--- the vertex v is walked
-unfoldable pub walked-at : List ℕ → PathConstants → ℕ → List ℕ → List ℕ → ℕ → List ℕ
-walked-at s c j figures work v =
-    let stored = set work (12 + v) (reduced-word s c j figures work v) in
-    cond (moves s c j figures work v) (inserted stored 2 v) stored
+-- and a round: a table as long as it needs, and vertices to walk
+pub record Ready (s : List ℕ) (c : PathConstants) (j : ℕ) (heads nexts figures work : List ℕ) : Type 0 where
+  pub edges : Edges s c heads nexts work
+  pub slot : j < 8
+  pub table-fits : 32 + 8 * at16 s 5 ≤ length figures
+  pub walked-fit : (v : ℕ) → v < 256 → member work 0 v ≡ true → v < at16 s 5
 
--- set 2 is empty
+-- the vertex v is walked: the table, and the sets
+unfoldable pub walked-word : List ℕ → PathConstants → ℕ → List ℕ → List ℕ → ℕ → List ℕ
+walked-word s c j figures work v = set figures (32 + 8 * v + j) (next-word s c j figures work v)
+
+unfoldable pub walked-mark : List ℕ → PathConstants → ℕ → List ℕ → List ℕ → ℕ → List ℕ
+walked-mark s c j figures work v = cond (moves s c j figures work v) (inserted work 1 v) work
+
+-- set 1 is empty
 abbrev pub Blank : List ℕ → Type 0
-Blank work = (v : ℕ) → v < 256 → member work 2 v ≡ false
+Blank work = (v : ℕ) → v < 256 → member work 1 v ≡ false
 
--- the vertices of set 1 below v are walked: their words stand behind the sets, those that move are in set 2
-pub record Walked (s : List ℕ) (c : PathConstants) (j : ℕ) (figures work work′ : List ℕ) (v : ℕ) : Type 0 where
-  pub live : (u : ℕ) → u < 256 → member work′ 0 u ≡ member work 0 u
-  pub walked : (u : ℕ) → u < 256 → member work′ 1 u ≡ member work 1 u
-  pub reduced : (u : ℕ) → u < v → u < 256 → member work 1 u ≡ true → getD work′ (12 + u) 0 ≡ reduced-word s c j figures work u
-  pub moved : (u : ℕ) → u < v → u < 256 → member work′ 2 u ≡ (member work 1 u && moves s c j figures work u)
-  pub rest : (u : ℕ) → v ≤ u → u < 256 → member work′ 2 u ≡ false
-  pub size : length work′ ≡ length work
-
--- the vertices of set 2 have a word of the table, and one behind the sets
-abbrev pub Movable : List ℕ → List ℕ → Type 0
-Movable figures work =
-    (12 ≤ length work) × (32 ≤ length figures)
-    × ((v : ℕ) → v < 256 → member work 2 v ≡ true → (32 + 8 * v + 8 ≤ length figures) × (12 + v < length work))
-
--- they have that word, and are the changed ones
-pub record Committed (j : ℕ) (old work new : List ℕ) : Type 0 where
-  pub words : (v : ℕ) → v < 256 → word-in new j v ≡ cond (member work 2 v) (getD work (12 + v) 0) (word-in old j v)
-  pub marks : (v : ℕ) → v < 256 → member new j v ≡ member work 2 v
-  pub others : (m : ℕ) → m ≤ 256 → Others m j old new
+-- the vertices of set 0 below v are walked
+pub record Walked (s : List ℕ) (c : PathConstants) (j : ℕ) (old work new work′ : List ℕ) (v : ℕ) : Type 0 where
+  pub done : (u : ℕ) → u < v → u < 256 → word-in new j u ≡ cond (member work 0 u) (next-word s c j old work u) (word-in old j u)
+  pub left : (u : ℕ) → v ≤ u → word-in new j u ≡ word-in old j u
+  pub others : (i : ℕ) → i < 8 → (i ≡ j → ⊥) → (u : ℕ) → word-in new i u ≡ word-in old i u
+  pub marks : (i : ℕ) → i < 8 → (u : ℕ) → u < 256 → member new i u ≡ member old i u
   pub size : length new ≡ length old
+  pub chosen : (u : ℕ) → u < 256 → member work′ 0 u ≡ member work 0 u
+  pub kept : (u : ℕ) → lent work′ u ≡ lent work u
+  pub moved : (u : ℕ) → u < v → u < 256 → member work′ 1 u ≡ (member work 0 u && moves s c j old work u)
+  pub rest : (u : ℕ) → v ≤ u → u < 256 → member work′ 1 u ≡ false
+  pub room : length work′ ≡ length work
 
--- what a round leaves, on n vertices, and says
+-- what a round leaves, and says
 pub record Stepped (s : List ℕ) (c : PathConstants) (j : ℕ) (old work new : List ℕ) (says : Bool) : Type 0 where
   pub cells : (v : ℕ) → v < at16 s 5 →
-      cell-in new j v ≡ cell (cond (member work 1 v) (reduced-word s c j old work v) (word-in old j v)) (member work 1 v && moves s c j old work v)
+      cell-in new j v ≡ cell (cond (member work 0 v) (next-word s c j old work v) (word-in old j v)) (member work 0 v && moves s c j old work v)
   pub others : Others (at16 s 5) j old new
   pub stirs : says ≡ any-vertex (at16 s 5) (λ v. cell-in new j v .changed)
   pub size : length new ≡ length old
 
--- ---- sets 0 and 1 of `work` before a round
+-- ---- what a round walks, and the words lent to it
 
--- by push those that the last round changed, and their successors; by pull all
-unfoldable pub touched : ℕ → ℕ → List ℕ → List ℕ → List ℕ → List ℕ
-touched j n figures successors work = joined-chosen (emptied (joined (emptied work 0) 0 figures j) 1) 1 figures j successors n
+-- the vertices that pass the test lend their word, the others ABSENT; sets 0 and 1 stay
+pub record Lent (live : ℕ → Bool) (j n : ℕ) (figures work work′ : List ℕ) : Type 0 where
+  pub words : (u : ℕ) → u < n → lent work′ u ≡ cond (live u) (word-in figures j u) absent
+  pub sets : (f : ℕ) → f < 2 → (v : ℕ) → v < 256 → member work′ f v ≡ member work f v
+  pub room : length work′ ≡ length work
 
-unfoldable pub touched-all : ℕ → List ℕ → List ℕ
-touched-all n work = filled (filled work 0 n) 1 n
+-- by push those that the last round changed lend, and their successors are walked
+pub record Touched (j n : ℕ) (figures successors work work′ : List ℕ) : Type 0 where
+  pub words : (u : ℕ) → u < n → lent work′ u ≡ cond (member figures j u) (word-in figures j u) absent
+  pub walked : (v : ℕ) → v < 256 → member work′ 0 v ≡ some-below (λ g. member figures j g && member successors g v) n
+  pub room : length work′ ≡ length work
+
+-- by pull all do, and are
+pub record TouchedAll (j n : ℕ) (figures work work′ : List ℕ) : Type 0 where
+  pub words : (u : ℕ) → u < n → lent work′ u ≡ word-in figures j u
+  pub walked : (v : ℕ) → v < 256 → member work′ 0 v ≡ ltb v n
+  pub room : length work′ ≡ length work
 
 -- ---- the values read off the words
 

@@ -2,18 +2,22 @@
 //
 // The table's first 32 words are eight sets of vertices (crate vertex_set), one for each path reduction: the vertices that its last round changed, before the
 // first those with an initial value. Behind them a vertex has eight words, one for each path reduction: its figures in one word (crate packed_figures).
-// `work` has three sets, 0 the vertices whose edges count, 1 those that are walked, 2 those that change, and behind them a word for each vertex.
+// `work` has two sets, 0 the vertices that a round walks, 1 those that it changes, and behind them a word for each vertex, which it lends to the edges from it:
+// that of the round before, or ABSENT where its edges do not count. So no edge needs a test, and the table can be changed while former words are read.
 use packed_figures::PathConstants;
 use packed_path::PackedPath;
 ghost use mathlib.Core.Path.{_≡_};
+ghost use mathlib.Core.Bool.{true, false};
+ghost use mathlib.Core.List.{[]};
 ghost use Prim.Native.Nat.{_+_, _*_, _<_, _≤_};
 ghost use lib.ListN.{length};
 ghost use Rattle.wire.specs.Wire.{at16};
+ghost use Rattle.vertex_set.specs.Sets.{member};
 ghost use Rattle.packed_figures.specs.Packed.{Sound};
 ghost use Rattle.packed_path.specs.Packed.{sources-of};
 ghost use Rattle.packed_path.specs.Steps.{begins};
-ghost use Rattle.table.specs.Steps.{Began, Blank, Committed, Inside, Movable, Ready, Stepped, Valued, Walked, brings, reduced-word, started};
-ghost use Rattle.table.specs.Steps.{touched, touched-all, value-word, walked-at};
+ghost use Rattle.table.specs.Steps.{Began, Blank, Edges, Lends, Lent, Ready, Stepped, Touched, TouchedAll, Valued, Walked, brings};
+ghost use Rattle.table.specs.Steps.{reduced-word, started, value-word, walked-mark, walked-word};
 
 // A row number as an index.
 fn row_number(x: u16) -> usize
@@ -52,46 +56,41 @@ pub fn initialize(path: PackedPath, c: PathConstants, n: usize, j: usize, figure
 
 // ---- a round of one path reduction
 
-// What edge i brings to its end: the word of its start with one more edge, or ABSENT where its start is not in set 0 of `work`.
-fn brought(c: PathConstants, j: usize, i: usize, graph: &[u8], figures: &[u64], work: &[u64]) -> u64
-    requires { ⌜ Inside (now graph) c j (now figures) (now work) × (i < at16 (now graph) 7) ⌝ }
-    ensures { λ r. ⌜ r ≡ brings (now (graph .entry)) c j (now (figures .entry)) (now (work .entry)) i ⌝ }
+// What edge i brings to its end: the word that its start lends, with one more edge.
+fn brought(c: PathConstants, i: usize, graph: &[u8], work: &[u64]) -> u64
+    requires { ⌜ Lends (now graph) c (now work) × (i < at16 (now graph) 7) ⌝ }
+    ensures { λ r. ⌜ r ≡ brings (now (graph .entry)) c (now (work .entry)) i ⌝ }
 {
     let f = incoming::from_at(graph, i);
     let weight = incoming::field_at(graph, i, 4) as u64;
     let capacity = incoming::field_at(graph, i, 6) as u64;
-    let x = packed_figures::through(c, figures[32 + 8 * f + j], weight, capacity);
-    if vertex_set::has(work, 0, f) {
-        return x;
-    }
-    packed_figures::ABSENT
+    packed_figures::through(c, work[8 + f], weight, capacity)
 }
 
-// Definition 3, at the vertex v: over the edges into it from vertices of set 0, reduced into the word that it had.
+// Definition 3, at the vertex v: what the edges into it bring, one after the other, reduced into the word that it had.
 fn reduced(
     c: PathConstants,
-    j: usize,
     v: usize,
+    word: u64,
     graph: &[u8],
     heads: &[u16],
     nexts: &[u16],
-    figures: &[u64],
     work: &[u64],
 ) -> u64
-    requires { ⌜ Ready (now graph) c j (now heads) (now nexts) (now figures) (now work) × (v < at16 (now graph) 5) ⌝ }
-    ensures { λ r. ⌜ r ≡ reduced-word (now (graph .entry)) c j (now (figures .entry)) (now (work .entry)) v ⌝ }
+    requires { ⌜ Edges (now graph) c (now heads) (now nexts) (now work) × (v < at16 (now graph) 5) ⌝ }
+    ensures { λ r. ⌜ r ≡ reduced-word (now (graph .entry)) c (now (work .entry)) word v ⌝ }
 {
     let m = incoming::rows(graph);
-    let mut best = figures[32 + 8 * v + j];
+    let mut best = word;
     let mut i = row_number(heads[v]);
     while i < m {
-        best = packed_figures::least(best, brought(c, j, i, graph, figures, work));
+        best = packed_figures::least(best, brought(c, i, graph, work));
         i = row_number(nexts[i]);
     }
     best
 }
 
-// The vertex v: the word that it then has is left behind the sets, and it is put into set 2 where that is another.
+// The vertex v: it has that word from here on, and is put into set 1 where it is another.
 fn walk_at(
     c: PathConstants,
     j: usize,
@@ -99,53 +98,46 @@ fn walk_at(
     graph: &[u8],
     heads: &[u16],
     nexts: &[u16],
-    figures: &[u64],
+    figures: &mut [u64],
     work: &mut [u64],
 )
     requires { ⌜ Ready (now graph) c j (now heads) (now nexts) (now figures) (now work) × (v < at16 (now graph) 5) ⌝ }
-    ensures { λ _. ⌜ now (work .exit) ≡ walked-at (now (graph .entry)) c j (now (figures .entry)) (now (work .entry)) v ⌝ }
+    ensures { λ _. ⌜
+        (now (figures .exit) ≡ walked-word (now (graph .entry)) c j (now (figures .entry)) (now (work .entry)) v)
+        × (now (work .exit) ≡ walked-mark (now (graph .entry)) c j (now (figures .entry)) (now (work .entry)) v)
+        ⌝ }
 {
-    let best = reduced(c, j, v, graph, heads, nexts, figures, work);
-    work[12 + v] = best;
-    vertex_set::insert_if(work, 2, v, best != figures[32 + 8 * v + j]);
+    let at = 32 + 8 * v + j;
+    let word = figures[at];
+    let best = reduced(c, v, word, graph, heads, nexts, work);
+    figures[at] = best;
+    vertex_set::insert_if(work, 1, v, best != word);
 }
 
-// The vertices of set 1 in rising order. Set 2 is empty before.
+// The vertices of set 0 in rising order. Set 1 is empty before.
 fn walk(
     c: PathConstants,
     j: usize,
     graph: &[u8],
     heads: &[u16],
     nexts: &[u16],
-    figures: &[u64],
+    figures: &mut [u64],
     work: &mut [u64],
 )
     requires { ⌜ Ready (now graph) c j (now heads) (now nexts) (now figures) (now work) × Blank (now work) ⌝ }
-    ensures { λ _. ⌜ Walked (now (graph .entry)) c j (now (figures .entry)) (now (work .entry)) (now (work .exit)) 256 ⌝ }
+    ensures { λ _. ⌜
+        Walked (now (graph .entry)) c j (now (figures .entry)) (now (work .entry)) (now (figures .exit)) (now (work .exit)) 256
+        ⌝ }
 {
-    let mut v = vertex_set::next(work, 1, 0);
+    let mut v = vertex_set::next(work, 0, 0);
     while v < 256 {
         walk_at(c, j, v, graph, heads, nexts, figures, work);
-        v = vertex_set::next(work, 1, v + 1);
+        v = vertex_set::next(work, 0, v + 1);
     }
 }
 
-// The words of the vertices in set 2 into the table, and that set in place of those changed before.
-fn commit(j: usize, figures: &mut [u64], work: &[u64])
-    requires { ⌜ (j < 8) × Movable (now figures) (now work) ⌝ }
-    ensures { λ _. ⌜ Committed j (now (figures .entry)) (now (work .entry)) (now (figures .exit)) ⌝ }
-{
-    let mut v = vertex_set::next(work, 2, 0);
-    while v < 256 {
-        figures[32 + 8 * v + j] = work[12 + v];
-        v = vertex_set::next(work, 2, v + 1);
-    }
-    vertex_set::clear(figures, j);
-    vertex_set::join(figures, j, work, 2);
-}
-
-// A round of path reduction j: over the edges from vertices of set 0 of `work`, at the vertices of set 1; the others keep their word and are not walked.
-// Whether a vertex changed.
+// A round of path reduction j at the vertices of set 0 of `work`, by the words lent there; the others keep their word and are not walked. Whether a vertex
+// changed.
 pub fn step(
     c: PathConstants,
     j: usize,
@@ -159,30 +151,71 @@ pub fn step(
     ensures { λ r. ⌜ Stepped (now (graph .entry)) c j (now (figures .entry)) (now (work .entry)) (now (figures .exit)) r
         × (length (now (work .exit)) ≡ length (now (work .entry))) ⌝ }
 {
-    vertex_set::clear(work, 2);
+    vertex_set::clear(work, 1);
     walk(c, j, graph, heads, nexts, figures, work);
-    commit(j, figures, work);
-    vertex_set::next(work, 2, 0) < 256
+    vertex_set::clear(figures, j);
+    vertex_set::join(figures, j, work, 1);
+    vertex_set::next(work, 1, 0) < 256
 }
 
-// By push: set 0 is that of the vertices that the last round of path reduction j changed, set 1 that of their successors.
+// ---- what a round walks, and the words lent to it
+
+// No vertex lends: ABSENT for each of n.
+fn blank(n: usize, work: &mut [u64])
+    requires { ⌜ 8 + n ≤ length (now work) ⌝ }
+    ensures { λ _. ⌜ Lent (λ u. false) 0 n [] (now (work .entry)) (now (work .exit)) ⌝ }
+{
+    let mut v: usize = 0;
+    while v < n {
+        work[8 + v] = packed_figures::ABSENT;
+        v += 1;
+    }
+}
+
+// The changed ones of n vertices lend the word that they have, and no other.
+fn lend(j: usize, n: usize, figures: &[u64], work: &mut [u64])
+    requires { ⌜ (j < 8) × (n ≤ 256) × (32 + 8 * n ≤ length (now figures)) × (8 + n ≤ length (now work)) ⌝ }
+    ensures { λ _. ⌜ Lent (member (now (figures .entry)) j) j n (now (figures .entry)) (now (work .entry)) (now (work .exit)) ⌝ }
+{
+    blank(n, work);
+    let mut u = vertex_set::next(figures, j, 0);
+    while u < n {
+        work[8 + u] = figures[32 + 8 * u + j];
+        u = vertex_set::next(figures, j, u + 1);
+    }
+}
+
+// All of them do.
+fn lend_all(j: usize, n: usize, figures: &[u64], work: &mut [u64])
+    requires { ⌜ (j < 8) × (32 + 8 * n ≤ length (now figures)) × (8 + n ≤ length (now work)) ⌝ }
+    ensures { λ _. ⌜ Lent (λ u. true) j n (now (figures .entry)) (now (work .entry)) (now (work .exit)) ⌝ }
+{
+    let mut u: usize = 0;
+    while u < n {
+        work[8 + u] = figures[32 + 8 * u + j];
+        u += 1;
+    }
+}
+
+// By push: the successors of the vertices that the last round of path reduction j changed are walked, by the words of these.
 pub fn touch(j: usize, n: usize, figures: &[u64], successors: &[u64], work: &mut [u64])
-    requires { ⌜ (j < 8) × (n ≤ 256) × (32 ≤ length (now figures)) × (4 * n ≤ length (now successors)) × (12 ≤ length (now work)) ⌝ }
-    ensures { λ _. ⌜ now (work .exit) ≡ touched j n (now (figures .entry)) (now (successors .entry)) (now (work .entry)) ⌝ }
+    requires { ⌜
+        (j < 8) × (n ≤ 256) × (32 + 8 * n ≤ length (now figures)) × (4 * n ≤ length (now successors)) × (8 + n ≤ length (now work))
+        ⌝ }
+    ensures { λ _. ⌜ Touched j n (now (figures .entry)) (now (successors .entry)) (now (work .entry)) (now (work .exit)) ⌝ }
 {
     vertex_set::clear(work, 0);
-    vertex_set::join(work, 0, figures, j);
-    vertex_set::clear(work, 1);
-    vertex_set::join_chosen(work, 1, figures, j, n, successors);
+    vertex_set::join_chosen(work, 0, figures, j, n, successors);
+    lend(j, n, figures, work);
 }
 
-// By pull: both are full.
-pub fn touch_all(n: usize, work: &mut [u64])
-    requires { ⌜ 12 ≤ length (now work) ⌝ }
-    ensures { λ _. ⌜ now (work .exit) ≡ touched-all n (now (work .entry)) ⌝ }
+// By pull: all are walked, by the words of all.
+pub fn touch_all(j: usize, n: usize, figures: &[u64], work: &mut [u64])
+    requires { ⌜ (j < 8) × (n ≤ 256) × (32 + 8 * n ≤ length (now figures)) × (8 + n ≤ length (now work)) ⌝ }
+    ensures { λ _. ⌜ TouchedAll j n (now (figures .entry)) (now (work .entry)) (now (work .exit)) ⌝ }
 {
     vertex_set::fill(work, 0, n);
-    vertex_set::fill(work, 1, n);
+    lend_all(j, n, figures, work);
 }
 
 // ---- values

@@ -25,9 +25,11 @@ returns c =
     record { bytes = λ i. omega (arith, c .before .before .before .before .before .before .before .before .before .shared-slice-known .given i); accepted = s .pre .0 .threads .accepted; fits = s .pre .2 } in
     let few = graph-legal (a .graph .now) (a .path) given .few-vertices in
     let l = next-least (a .figures .now) (a .j) 0 (omega arith) in
-    let end : at16 (a .graph .now) 5 ≤ next-member (a .figures .now) (a .j) 0 = omega (arith, c .before .before .before .vertices .ensures .0, c .before .next .ensures, c .if1 .taken) in
-    (rests (a .graph .now) (a .path) given (a .j) (a .r) (a .figures .now) (s .pre .4)
-    (λ v h. cell-mark (a .figures .now) (a .j) v ∙ l .none-before v (omega arith) (omega (arith, end))), refl)
+    let end : at16 (a .graph .now) 5 ≤ next-member (a .figures .now) (a .j) 0 = omega (arith, c .before .before .before .vertices .ensures .0, c .before .next .ensures, c .if1 .taken) in (
+      rests (a .graph .now) (a .path) given (a .j) (a .r) (a .figures .now) (s .pre .4)
+          (λ v h. cell-mark (a .figures .now) (a .j) v ∙ l .none-before v (omega arith) (omega (arith, end))),
+      refl,
+    )
 
 push-round-requires : tie.Need-push-round-requires
 unfolding changed-in

@@ -35,8 +35,13 @@ push-round-spec =
     tie.close
     (tie.spec
     (λ c κs. c .before .before .before .before .before .before .pre .0 .threads .accepted)
-    (λ c κs. (c .before .before .before .before .before .before .before .before .before .pre .1, c .before .before .vertices .ensures .1, omega (arith, c .before .before .before .before .before .before .before .before .before .pre .5 .long),
-    omega (arith, c .before .before .vertices .ensures .0, c .before .before .before .before .before .before .before .before .before .pre .0 .leads-fit), omega (arith, c .before .before .before .before .before .before .before .before .before .pre .6)))
+    (λ c κs. (
+      c .before .before .before .before .before .before .before .before .before .pre .1,
+      c .before .before .vertices .ensures .1,
+      omega (arith, c .before .before .before .before .before .before .before .before .before .pre .5 .long),
+      omega (arith, c .before .before .vertices .ensures .0, c .before .before .before .before .before .before .before .before .before .pre .0 .leads-fit),
+      omega (arith, c .before .before .before .before .before .before .before .before .before .pre .6),
+    ))
     step-requires
     (λ c. c .before .before .before .before .step .kept .1 .1 .1 .1 .1 .0)
     (λ c. c .before .before .before .before .step .ensures .1 ∙ c .before .before .before .before .before .before .before .before .before .touch .kept .1 .1 .1 .1 .0)

@@ -1,80 +1,78 @@
--- `table::walk` meets its contract: the vertices of set 1 below v are walked. Assumes nothing.
-use Prim.Native.Nat.{_+_, _-_, _≤_, _<_}
+-- `table::walk` meets its contract: the vertices of set 0 below v are walked. Assumes nothing.
+use Prim.Native.Nat.{ℕ, _+_, _-_, _≤_, _<_}
 use mathlib.Core.Path.{_≡_, sym, ap, _∙_}
 use mathlib.Core.Bool.{true}
+use mathlib.Core.List.{List}
 use native.Mathlib.Omega.{arith}
 use lib.ListN.{length}
-use Rattle.wire.specs.Wire.{Bytes, at16}
-use Rattle.graph.specs.Graph.{graph-code}
+use Rattle.wire.specs.Wire.{at16}
 use Rattle.vertex_set.specs.Sets.{member}
 use Rattle.vertex_set.proofs.Sets.{next-least}
-use Rattle.table.specs.Steps.{Ready, Walked}
+use Rattle.table.specs.Steps.{Walked}
 use Rattle.table.proofs.Walks.{passed, ready-still, walked-more, walked-none}
 use Rattle.table.proofs.walk.Statement.{statement}
 use Rattle.table.proofs.walk.Tie as tie
 
 abbrev Inv-loop : tie.InvT-loop
-Inv-loop c j graph heads nexts figures work₀ v₀ work v = (v ≤ 256) × (v < 256 → member work 1 v ≡ true) × Walked graph c j figures work₀ work v
+Inv-loop c j graph heads nexts figures₀ work₀ v₀ figures work v =
+    (v ≤ 256) × (v < 256 → member work 0 v ≡ true) × Walked graph c j figures₀ work₀ figures work v
 
 abbrev μ-loop : tie.MeasureT-loop
-μ-loop c j graph heads nexts figures work₀ v₀ work v = 256 - v
+μ-loop c j graph heads nexts figures₀ work₀ v₀ figures work v = 256 - v
 
 loop-holds : tie.Need-loop-holds Inv-loop μ-loop
 loop-holds c =
     let s = c .before .before .before .before .before .before .before in
     let a = s .args in
-    let bytes : Bytes (a .graph .now) = λ i. omega (arith, c .before .before .before .before .before .before .shared-slice-known .given i) in
-    let z = s .pre .0 .inside .accepted in
-    let room = s .pre .0 .inside .work-fits in
-    let h = next-least (a .work .now) 1 0 (omega arith) in
-    rw (c .next .ensures) (
-      h .most,
-      h .passes,
-      passed (a .graph .now) bytes z (a .c) (a .j) (a .figures .now) (a .work .now) room (a .work .now) 0 _ (λ u k l. h .none-before u k l)
-          (h .from) (h .most) (walked-none (a .graph .now) bytes z (a .c) (a .j) (a .figures .now) (a .work .now) room (s .pre .1)),
-    )
+    let slot = s .pre .0 .slot in
+    let h = next-least (a .work .now) 0 0 (omega arith) in
+    rw (c .next .ensures)
+    (h .most, h .passes, passed (a .graph .now) (a .c) (a .j) slot (a .figures .now) (a .work .now) (a .figures .now) (a .work .now) 0 _
+    (λ u k l. h .none-before u k l) (h .from) (walked-none (a .graph .now) (a .c) (a .j) slot (a .figures .now) (a .work .now) (s .pre .1)))
 
 walk-at-requires : tie.Need-walk-at-requires Inv-loop μ-loop
 walk-at-requires c κs =
-    let s = c .before .before .before .before .before .before .before .before .before .before in
+    let s = c .before .before .before .before .before .before .before .before .before .before .before in
     let a = s .args in
-    let l = c .before .before .loop in
+    let l = c .before .before .before .loop in
     let p = l .inv .2 in
     let m = l .inv .1 (omega arith) in (
-      ready-still (a .graph .now) (a .c) (a .j) (a .heads .now) (a .nexts .now) (a .figures .now) (a .work .now) (l .work) (s .pre .0) (p .size) (p .walked),
-      s .pre .0 .walked-fit (l .v) (omega arith) (sym (p .walked (l .v) (omega arith)) ∙ m),
+      ready-still (a .graph .now) (a .c) (a .j) (a .heads .now) (a .nexts .now) (a .figures .now) (a .work .now) (l .figures) (l .work) (s .pre .0) (p .size)
+          (p .room) (p .chosen) (p .kept),
+      s .pre .0 .walked-fit (l .v) (omega arith) (sym (p .chosen (l .v) (omega arith)) ∙ m),
     )
 
 next-requires-2 : tie.Need-next-requires-2 Inv-loop μ-loop
-next-requires-2 c κs = (omega arith, omega (arith, c .before .before .before .walk-at .kept .1 .1 .1 .1 .1 .1 .1 .0, c .before .before .before .before .before .before .loop .inv .2 .size, c .before .before .before .before .before .before .before .before .before .before .before .before .before .before .pre .0 .inside .work-fits))
+next-requires-2 c κs = (omega arith, omega (arith, c .before .before .before .before .before .walk-at .kept .1 .1 .1 .1 .1 .1 .1 .0, c .before .before .before .before .before .before .before .before .before .loop .inv .2 .room, c .before .before .before .before .before .before .before .before .before .before .before .before .before .before .before .before .before .pre .0 .edges .lends .work-fits))
 
 loop-less : tie.Need-loop-less Inv-loop μ-loop
 loop-less c =
-    let l = c .before .before .before .before .before .before .before .loop in
-    let h = next-least (c .before .before .before .before .walk-at .last .1 .1 .1 .1 .1 .1 .1 .0) 1 (l .v + 1) (omega arith) in
-    omega (arith, c .next2 .ensures, h .from)
+    let l = c .before .before .before .before .before .before .before .before .before .before .loop in
+    let small : l .v < 256 = omega (arith, c .before .before .before .before .before .before .before .before .before .loop-test .taken) in
+    let h = next-least (c .before .before .before .before .before .before .walk-at .last .1 .1 .1 .1 .1 .1 .1 .0) 0 (l .v + 1) (omega (arith, small)) in
+    omega (arith, small, c .next2 .ensures, h .from)
 
 loop-again : tie.Need-loop-again Inv-loop μ-loop
 loop-again c =
-    let s = c .before .before .before .before .before .before .before .before .before .before .before .before .before .before .before in
+    let s = c .before .before .before .before .before .before .before .before .before .before .before .before .before .before .before .before .before .before in
     let a = s .args in
-    let bytes : Bytes (a .graph .now) = λ i. omega (arith, c .before .before .before .before .before .before .before .before .before .before .before .before .before .before .shared-slice-known .given i) in
-    let z = s .pre .0 .inside .accepted in
-    let room = s .pre .0 .inside .work-fits in
-    let l = c .before .before .before .before .before .before .before .loop in
+    let slot = s .pre .0 .slot in
+    let l = c .before .before .before .before .before .before .before .before .before .before .loop in
+    let t = c .before .before .before .before .before .before .walk-at in
+    let figures : List ℕ = t .last .1 .1 .1 .1 .1 .1 .0 in
+    let work : List ℕ = t .last .1 .1 .1 .1 .1 .1 .1 .0 in
     let p = l .inv .2 in
-    let m = l .inv .1 (omega arith) in
-    let vertex = s .pre .0 .walked-fit (l .v) (omega arith) (sym (p .walked (l .v) (omega arith)) ∙ m) in
-    let after : Walked (a .graph .now) (a .c) (a .j) (a .figures .now) (a .work .now) (c .before .before .before .before .walk-at .last .1 .1 .1 .1 .1 .1 .1 .0) (l .v + 1) =
-    rw (c .before .before .before .before .walk-at .ensures)
-    (walked-more (a .graph .now) bytes z (a .c) (a .j) (a .figures .now) (a .work .now) room (l .work) (l .v) p vertex (omega arith) m) in
-    let h = next-least (c .before .before .before .before .walk-at .last .1 .1 .1 .1 .1 .1 .1 .0) 1 (l .v + 1) (omega arith) in
-    rw (c .next2 .ensures) (
-      h .most,
-      h .passes,
-      passed (a .graph .now) bytes z (a .c) (a .j) (a .figures .now) (a .work .now) room (c .before .before .before .before .walk-at .last .1 .1 .1 .1 .1 .1 .1 .0) (l .v + 1) _
-          (λ u k w. h .none-before u k w) (h .from) (h .most) after,
-    )
+    let small : l .v < 256 = omega (arith, c .before .before .before .before .before .before .before .before .before .loop-test .taken) in
+    let m = l .inv .1 small in
+    let vertex = s .pre .0 .walked-fit (l .v) small (sym (p .chosen (l .v) small) ∙ m) in
+    let after : Walked (a .graph .now) (a .c) (a .j) (a .figures .now) (a .work .now) figures work (l .v + 1) =
+    rw (t .ensures .0, t .ensures .1)
+    (walked-more (a .graph .now) (a .c) (a .j) slot (a .figures .now) (a .work .now) (l .figures) (l .work) (l .v) p
+    (omega (arith, slot, vertex, s .pre .0 .table-fits)) (omega (arith, s .pre .0 .edges .lends .work-fits)) small m) in
+    let h = next-least work 0 (l .v + 1) (omega (arith, small)) in
+    rw (c .next2 .ensures)
+    (h .most, h .passes, passed (a .graph .now) (a .c) (a .j) slot (a .figures .now) (a .work .now) figures work (l .v + 1) _
+    (λ u k w. h .none-before u k w) (h .from) after)
 
 returns : tie.Need-returns Inv-loop μ-loop
 returns c =
@@ -88,7 +86,7 @@ walk-spec =
     (tie.spec
     Inv-loop
     μ-loop
-    (λ c κs. (omega arith, omega (arith, c .before .before .before .before .before .before .pre .0 .inside .work-fits)))
+    (λ c κs. (omega arith, omega (arith, c .before .before .before .before .before .before .pre .0 .edges .lends .work-fits)))
     loop-holds
     walk-at-requires
     (λ c. omega arith)
@@ -96,4 +94,5 @@ walk-spec =
     loop-less
     loop-again
     (λ c. c .before .loop .inv .2 .size)
+    (λ c. c .before .loop .inv .2 .room)
     returns)

@@ -10,7 +10,7 @@ use Rattle.walks.specs.Rounds.{State, best, brings, gather, through}
 use Rattle.walks.specs.Walks.{Edge, Network}
 use Rattle.packed_figures.specs.declared.PathConstants.{PathConstants}
 use Rattle.packed_figures.specs.Packed.{Packs, absent, constants, word-of}
-use Rattle.packed_figures.specs.Rounds.{brought, gathered}
+use Rattle.packed_figures.specs.Steps.{brought, gathered}
 use Rattle.packed_figures.specs.Held.{Held}
 use Rattle.packed_figures.proofs.Held.{held-best, held-later, held-packs, held-through}
 use Rattle.packed_figures.proofs.Options.{best-none, word-brought, word-most}

@@ -22,7 +22,7 @@ use Rattle.packed_figures.proofs.Legal.{legal-bits}
 use Rattle.packed_figures.proofs.Words.{word-list, word-lt, word-order, word-value}
 
 -- what is absent stays so
-onward-absent : (c : PathConstants) (x weight capacity : ℕ) → absent ≤ x → absent ≤ onward c x weight capacity
+pub onward-absent : (c : PathConstants) (x weight capacity : ℕ) → absent ≤ x → absent ≤ onward c x weight capacity
 unfolding onward
 onward-absent c x weight capacity h =
     let y = x + c .edges + c .weight * weight in

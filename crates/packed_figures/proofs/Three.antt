@@ -11,7 +11,7 @@ use lib.ListN.{take}
 use lib.Seq.{take-nil}
 use Rattle.walks.specs.Keys.{legal-keys, measure}
 use Rattle.packed_figures.specs.Packed.{bits, constants, distinct, shift-of, total, unit-of, width, without}
-use Rattle.packed_figures.specs.Three.{last-shift, path-keys, unit-among, units-of}
+use Rattle.packed_figures.specs.Steps.{last-shift, path-keys, unit-among, units-of}
 
 pick : (b : Bool) (u : ℕ) → cond b u 0 ≡ cond b 1 0 * u
 pick true u = omega arith

@@ -1,4 +1,3 @@
 pub mod Packed
-pub mod Three
-pub mod Rounds
+pub mod Steps
 pub mod Held

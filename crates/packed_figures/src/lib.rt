@@ -8,7 +8,7 @@ ghost use Prim.Native.Nat.{_^_, _<_, _≤_, min, max};
 ghost use lib.Dec.{eqb};
 ghost use Rattle.walks.specs.Keys.{measure, kept};
 ghost use Rattle.packed_figures.specs.Packed.{Extends, Sound, Starts, base-word, constants, figure-of, flip-of, onward, width};
-ghost use Rattle.packed_figures.specs.Three.{SmallUnits, key-or-before, last-shift, path-keys, second-bits, third-bits, unit-among, units-of};
+ghost use Rattle.packed_figures.specs.Steps.{SmallUnits, key-or-before, last-shift, path-keys, second-bits, third-bits, unit-among, units-of};
 
 // What is fixed for a path reduction: what one more edge adds to a word and how it holds the low 16 bits, what the empty walk has, where the value stands.
 pub struct PathConstants {
@@ -56,12 +56,17 @@ fn greatest(x: u64, y: u64) -> u64
     y
 }
 
-// What one more edge makes of a word. ABSENT stays at least ABSENT.
+// What one more edge makes of a word. ABSENT stays at least ABSENT. Without key 5 or 6 the low 16 bits have no bound.
 pub fn through(c: PathConstants, x: u64, weight: u64, capacity: u64) -> u64
     requires { ⌜ Extends c x weight capacity ⌝ }
     ensures { λ r. ⌜ r ≡ onward c x weight capacity ⌝ }
 {
     let y = x + c.edges + c.weight * weight;
+    if c.high == 65535 {
+        if c.low == 0 {
+            return y;
+        }
+    }
     let t = y % 65536;
     let low = (65535 - capacity) & c.low;
     y - t + greatest(low, least(t, capacity + c.high))

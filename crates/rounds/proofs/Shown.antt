@@ -1,5 +1,5 @@
 -- A ROUND ON WORDS IS THE ROUND ON FIGURES, over what the table shows; and so are the initial values. Assumes nothing.
-use Prim.Native.Nat.{ℕ, suc, _+_, _*_, _≤_, _<_}
+use Prim.Native.Nat.{ℕ, zero, suc, _+_, _*_, _≤_, _<_, min}
 use mathlib.Core.Path.{_≡_, refl, sym, ap, ap₂, _∙_, subst}
 use mathlib.Core.Bool.{Bool, true, false, cond, not, _&&_, false≢true}
 use mathlib.Core.List.{List, [], _∷_}
@@ -21,13 +21,13 @@ use Rattle.packed_path.specs.Packed.{path-of, sources-of}
 use Rattle.packed_path.specs.Steps.{begins}
 use Rattle.packed_figures.specs.declared.PathConstants.{PathConstants}
 use Rattle.packed_figures.specs.Held.{Held}
-use Rattle.packed_figures.specs.Packed.{Packs, absent, constants, figures-of, word-of}
-use Rattle.packed_figures.specs.Rounds.{gathered}
-use Rattle.packed_figures.proofs.Gathered.{gathered-held, gathered-is, gathered-same}
+use Rattle.packed_figures.specs.Packed.{Packs, absent, constants, figures-of, onward, word-of}
+use Rattle.packed_figures.specs.Steps.{brought, gathered}
+use Rattle.packed_figures.proofs.Gathered.{gathered-below, gathered-held, gathered-is}
 use Rattle.packed_figures.proofs.Held.{held-base, held-packs}
-use Rattle.packed_figures.proofs.Options.{word-figures, word-initial, word-most, word-reached, word-same}
+use Rattle.packed_figures.proofs.Options.{onward-absent, word-figures, word-initial, word-most, word-reached, word-same}
 use Rattle.vertex_set.specs.Sets.{member}
-use Rattle.table.specs.Steps.{Began, Stepped, from-live, moves, reduced-word, started, word-in}
+use Rattle.table.specs.Steps.{Began, Stepped, lent, moves, next-word, reduced-upto, started, word-in}
 use Rattle.table.specs.Table.{Cell, Sound, SoundWord, cell, cell-in, changed-in, figures-in}
 use Rattle.table.proofs.Cells.{cell-word}
 use Rattle.rounds.specs.Run.{Begun, Round}
@@ -150,8 +150,9 @@ module _ (s : List ℕ) (path : PackedPath) (g : Given s path) (j : ℕ) where
     from-in : (i : ℕ) → i < N .edges → N .edge i .from < n
     from-in i h = rw (sym (edge-is i h)) (ends s (g .bytes) (g .accepted) i (omega (arith, edges-count s)) .0)
 
-    -- over the edges that pass the test `live`, which are those from vertices of set 0
-    module _ (work : List ℕ) (live : ℕ → Bool) (tests : (i : ℕ) → i < at16 s 7 → from-live s work i ≡ live i) where
+    -- over the edges that pass the test `live`: the start of any other lends ABSENT
+    module _ (work : List ℕ) (live : ℕ → Bool)
+        (lends : (i : ℕ) → i < at16 s 7 → lent work (edge-in s i .from) ≡ cond (live i) (word-in old j (edge-in s i .from)) absent) where
       abbrev next : State
       next v = gather (network-of (graph-of s) (path-of path)) (path-of path .keys) live S v (network-of (graph-of s) (path-of path) .edges)
 
@@ -162,21 +163,41 @@ module _ (s : List ℕ) (path : PackedPath) (g : Given s path) (j : ℕ) where
       next-packs : (v : ℕ) → v < n → Packs ks (next v)
       next-packs v h = held-packs ks (suc r) (omega arith) (next v) (next-held v h)
 
-      reduced-is : (v : ℕ) → v < n → reduced-word s K j old work v ≡ word-of ks (next v)
-      unfolding reduced-word
+      -- what an edge brings is what it brings where it passes
+      lent-is : (v : ℕ) → v < n → (i : ℕ) → i ≤ at16 s 7 → reduced-upto s K work (W v) v i ≡ gathered (edge-in s) K live W v i
+      unfolding reduced-upto gathered
+      lent-is v h zero l = refl
+      lent-is v h (suc i) l =
+          rw (lent-is v h i (omega arith), lends i l) (go (live i) (eqb (edge-in s i .to) v))
+        where
+          e : Edge
+          e = edge-in s i
+
+          most : gathered (edge-in s) K live W v i ≤ absent
+          most = gathered-below (edge-in s) K live W v (words-most v h) i
+
+          go : (a b : Bool)
+              → cond b (min (gathered (edge-in s) K live W v i) (onward K (cond a (W (e .from)) absent) (e .weight) (e .capacity))) (gathered (edge-in s) K live W v i)
+              ≡ min (gathered (edge-in s) K live W v i) (brought (a && b) K e W)
+          go true true = refl
+          go true false = omega (arith, most)
+          go false true = omega (arith, most, onward-absent K absent (e .weight) (e .capacity) (omega arith))
+          go false false = omega (arith, most)
+
+      reduced-is : (v : ℕ) → v < n → next-word s K j old work v ≡ word-of ks (next v)
       reduced-is v h =
-          gathered-same (edge-in s) K (from-live s work) live W W v refl (at16 s 7) tests (λ i l. refl)
+          lent-is v h (at16 s 7) (omega arith)
           ∙ ap (gathered (edge-in s) K live W v) (sym (edges-count s))
           ∙ gathered-is N ks (path-legal s path g) (graph-legal s path g .weights) from-in (edge-in s) edge-is S r early S-held W agrees live v h (N .edges)
           (omega arith)
 
-      -- where a vertex outside set 1 would keep its figures
-      module _ (still : (v : ℕ) → v < at16 s 5 → member work 1 v ≡ false → next v ≡ S v) (new : List ℕ) (says : Bool)
+      -- where a vertex outside set 0 would keep its figures
+      module _ (still : (v : ℕ) → v < at16 s 5 → member work 0 v ≡ false → next v ≡ S v) (new : List ℕ) (says : Bool)
           (y : Stepped s (constants (path-of path .keys)) j old work new says) where
         word-is : (v : ℕ) → v < n → cell-in new j v .word ≡ word-of ks (next v)
-        word-is v h = ap (λ (z : Cell). z .word) (y .cells v h) ∙ go (member work 1 v) refl
+        word-is v h = ap (λ (z : Cell). z .word) (y .cells v h) ∙ go (member work 0 v) refl
           where
-            go : (b : Bool) → member work 1 v ≡ b → cond b (reduced-word s K j old work v) (W v) ≡ word-of ks (next v)
+            go : (b : Bool) → member work 0 v ≡ b → cond b (next-word s K j old work v) (W v) ≡ word-of ks (next v)
             go true e = reduced-is v h
             go false e = agrees v h ∙ ap (word-of ks) (sym (still v h e))
 
@@ -184,9 +205,9 @@ module _ (s : List ℕ) (path : PackedPath) (g : Given s path) (j : ℕ) where
         shown-is v h = word-shows (next v) (next-packs v h) new v (word-is v h)
 
         mark-is : (v : ℕ) → v < n → cell-in new j v .changed ≡ not (same (next v) (S v))
-        mark-is v h = ap (λ (z : Cell). z .changed) (y .cells v h) ∙ go (member work 1 v) refl
+        mark-is v h = ap (λ (z : Cell). z .changed) (y .cells v h) ∙ go (member work 0 v) refl
           where
-            go : (b : Bool) → member work 1 v ≡ b → (b && moves s K j old work v) ≡ not (same (next v) (S v))
+            go : (b : Bool) → member work 0 v ≡ b → (b && moves s K j old work v) ≡ not (same (next v) (S v))
             go true e =
                 ap₂ (λ (a d : ℕ). not (eqb a d)) (reduced-is v h) (agrees v h)
                 ∙ ap not (word-same ks (path-legal s path g) (next v) (S v) (next-packs v h) (S-packs v h))

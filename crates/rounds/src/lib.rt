@@ -95,14 +95,14 @@ fn pull_round(
 ) -> bool
     requires { ⌜
         Threads (now graph) (now heads) (now nexts) × (j < 8) × PathFits (at16 (now graph) 5) (path-of path) × (c ≡ constants (path-of path .keys))
-        × (r < 1023) × Sound (at16 (now graph) 5) (path-of path) r (now figures) j × (12 + at16 (now graph) 5 ≤ length (now work))
+        × (r < 1023) × Sound (at16 (now graph) 5) (path-of path) r (now figures) j × (8 + at16 (now graph) 5 ≤ length (now work))
         ⌝ }
     ensures { λ b. ⌜
         PullRound (graph-of (now (graph .entry))) (path-of path) r j (now (figures .entry)) (now (figures .exit)) b
         × (length (now (work .exit)) ≡ length (now (work .entry)))
         ⌝ }
 {
-    table::touch_all(incoming::vertices(graph), work);
+    table::touch_all(j, incoming::vertices(graph), figures, work);
     table::step(c, j, graph, heads, nexts, figures, work)
 }
 
@@ -122,7 +122,7 @@ fn push_round(
     requires { ⌜
         Indexed (now graph) (now heads) (now nexts) (now successors) × (j < 8) × PathFits (at16 (now graph) 5) (path-of path)
         × (c ≡ constants (path-of path .keys)) × (r < 1023) × Sound (at16 (now graph) 5) (path-of path) r (now figures) j
-        × (12 + at16 (now graph) 5 ≤ length (now work))
+        × (8 + at16 (now graph) 5 ≤ length (now work))
         ⌝ }
     ensures { λ b. ⌜
         PushRound (graph-of (now (graph .entry))) (path-of path) r j (now (figures .entry)) (now (figures .exit)) b
@@ -152,7 +152,7 @@ fn advance(
     requires { ⌜
         Indexed (now graph) (now heads) (now nexts) (now successors) × (j < 8) × PathFits (at16 (now graph) 5) (path-of path)
         × (c ≡ constants (path-of path .keys)) × Stands (graph-of (now graph)) (path-of path) r j (now figures)
-        × (12 + at16 (now graph) 5 ≤ length (now work))
+        × (8 + at16 (now graph) 5 ≤ length (now work))
         ⌝ }
     ensures { λ b. ⌜
         Advanced (graph-of (now (graph .entry))) (path-of path) r j (now (figures .entry)) (now (figures .exit)) b
@@ -195,7 +195,7 @@ fn round(
 ) -> bool
     requires { ⌜
         Indexed (now graph) (now heads) (now nexts) (now successors) × (paths ≤ 8) × All (PathFits (at16 (now graph) 5)) (paths-in paths table)
-        × Constants paths table all × AllStand (graph-of (now graph)) paths table r (now figures) × (12 + at16 (now graph) 5 ≤ length (now work))
+        × Constants paths table all × AllStand (graph-of (now graph)) paths table r (now figures) × (8 + at16 (now graph) 5 ≤ length (now work))
         ⌝ }
     ensures { λ b. ⌜
         AllStand (graph-of (now (graph .entry))) paths table (suc r) (now (figures .exit))
@@ -242,7 +242,7 @@ fn rounds(
 ) -> u16
     requires { ⌜
         Indexed (now graph) (now heads) (now nexts) (now successors) × (paths ≤ 8) × All (PathFits (at16 (now graph) 5)) (paths-in paths table)
-        × Constants paths table all × AllStand (graph-of (now graph)) paths table 0 (now figures) × (12 + at16 (now graph) 5 ≤ length (now work))
+        × Constants paths table all × AllStand (graph-of (now graph)) paths table 0 (now figures) × (8 + at16 (now graph) 5 ≤ length (now work))
         ⌝ }
     ensures { λ r. ⌜ Ran (graph-of (now (graph .entry))) paths table limit r (now (figures .exit))
         × (length (now (work .exit)) ≡ length (now (work .entry))) ⌝ }
@@ -288,7 +288,7 @@ fn run_in(
     requires { ⌜
         (graph-code (now graph) ≡ 0) × (paths ≤ 8) × All (PathFits (at16 (now graph) 5)) (paths-in paths table)
         × (at16 (now graph) 5 ≤ length (now heads)) × (at16 (now graph) 7 ≤ length (now nexts)) × (4 * at16 (now graph) 5 ≤ length (now successors))
-        × (32 + 8 * at16 (now graph) 5 ≤ length (now figures)) × (12 + at16 (now graph) 5 ≤ length (now work))
+        × (32 + 8 * at16 (now graph) 5 ≤ length (now figures)) × (8 + at16 (now graph) 5 ≤ length (now work))
         ⌝ }
     ensures { λ r. ⌜ Ran (graph-of (now (graph .entry))) paths table limit r (now (figures .exit)) ⌝ }
 {
@@ -348,7 +348,7 @@ pub fn run(
             &mut [0u16; 64],
             &mut [0u64; 64],
             figures,
-            &mut [0u64; 28],
+            &mut [0u64; 24],
         );
     }
     run_in(
@@ -361,7 +361,7 @@ pub fn run(
         &mut [0u16; 1024],
         &mut [0u64; 1024],
         figures,
-        &mut [0u64; 268],
+        &mut [0u64; 264],
     )
 }
 

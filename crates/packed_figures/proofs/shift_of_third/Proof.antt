@@ -1,5 +1,5 @@
 -- `packed_figures::shift_of_third` meets its contract. Assumes nothing.
-use Rattle.packed_figures.specs.Three.{last-shift}
+use Rattle.packed_figures.specs.Steps.{last-shift}
 use borrow.Author.Needs.{needs}
 use Rattle.packed_figures.proofs.shift_of_third.Statement.{statement}
 use Rattle.packed_figures.proofs.shift_of_third.Tie as tie

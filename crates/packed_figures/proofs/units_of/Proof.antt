@@ -1,6 +1,6 @@
 -- `packed_figures::units_of` meets its contract. Assumes nothing.
 use mathlib.Core.Path.{refl}
-use Rattle.packed_figures.specs.Three.{units-of}
+use Rattle.packed_figures.specs.Steps.{units-of}
 use borrow.Author.Needs.{needs}
 use Rattle.packed_figures.proofs.units_of.Statement.{statement}
 use Rattle.packed_figures.proofs.units_of.Tie as tie

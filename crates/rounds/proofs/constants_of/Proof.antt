@@ -6,7 +6,7 @@ use Rattle.walks.specs.Keys.{legal-keys}
 use Rattle.packed_path.specs.declared.PackedPath.{PackedPath}
 use Rattle.packed_path.specs.Packed.{path-of}
 use Rattle.packed_figures.specs.Packed.{constants}
-use Rattle.packed_figures.specs.Three.{path-keys}
+use Rattle.packed_figures.specs.Steps.{path-keys}
 use Rattle.packed_figures.proofs.Three.{path-constants-are}
 use Rattle.rounds.proofs.constants_of.Statement.{statement}
 use Rattle.rounds.proofs.constants_of.Tie as tie

@@ -14,9 +14,9 @@ step-requires c κs =
     let a = s .args in
     let given : Given (a .graph .now) (a .path) =
     record { bytes = λ i. omega (arith, c .before .before .before .before .before .before .before .before .before .before .before .before .before .shared-slice-known .given i); accepted = s .pre .0 .threads .accepted; fits = s .pre .2 } in
-    rw (c .before .before .before .before .touch .ensures, c .before .before .before .before .before .before .before .vertices .ensures .0, s .pre .3)
-    (push-ready (a .graph .now) (a .path) given (a .j) (s .pre .1) (a .r) (s .pre .4) (a .figures .now) (s .pre .5) (a .work .now) (s .pre .6)
-    (a .heads .now) (a .nexts .now) (a .successors .now) (s .pre .0))
+    rw (s .pre .3)
+    (push-ready (a .graph .now) (a .path) given (a .j) (s .pre .1) (a .r) (s .pre .4) (a .figures .now) (s .pre .5) (a .work .now) _ (s .pre .6)
+    (a .heads .now) (a .nexts .now) (a .successors .now) (s .pre .0) (rw (c .before .before .before .before .before .before .before .vertices .ensures .0) at (c .before .before .before .before .touch .ensures)))
 
 returns : tie.Need-returns
 returns c =
@@ -24,9 +24,9 @@ returns c =
     let a = s .args in
     let given : Given (a .graph .now) (a .path) =
     record { bytes = λ i. omega (arith, c .before .before .before .before .before .before .before .before .before .before .before .before .before .before .before .before .before .before .shared-slice-known .given i); accepted = s .pre .0 .threads .accepted; fits = s .pre .2 } in (
-      push-round-at (a .graph .now) (a .path) given (a .j) (s .pre .1) (a .r) (s .pre .4) (a .figures .now) (s .pre .5) (a .work .now) (s .pre .6)
-          (a .heads .now) (a .nexts .now) (a .successors .now) (s .pre .0) _ _
-          (rw (c .before .before .before .before .before .before .before .before .before .touch .ensures, c .before .before .before .before .before .before .before .before .before .before .before .before .vertices .ensures .0, s .pre .3) at (c .before .before .before .before .step .ensures .0)),
+      push-round-at (a .graph .now) (a .path) given (a .j) (s .pre .1) (a .r) (s .pre .4) (a .figures .now) (s .pre .5) (a .work .now) _ (s .pre .6)
+          (a .heads .now) (a .nexts .now) (a .successors .now) (s .pre .0) (rw (c .before .before .before .before .before .before .before .before .before .before .before .before .vertices .ensures .0) at (c .before .before .before .before .before .before .before .before .before .touch .ensures)) _ _
+          (rw (s .pre .3) at (c .before .before .before .before .step .ensures .0)),
       c .before .before .before .before .step .ensures .1 ∙ c .before .before .before .before .before .before .before .before .before .touch .kept .1 .1 .1 .1 .0,
     )
 
@@ -38,7 +38,7 @@ push-round-spec =
     (λ c κs. (
       c .before .before .before .before .before .before .before .before .before .pre .1,
       c .before .before .vertices .ensures .1,
-      omega (arith, c .before .before .before .before .before .before .before .before .before .pre .5 .long),
+      omega (arith, c .before .before .vertices .ensures .0, c .before .before .before .before .before .before .before .before .before .pre .5 .long),
       omega (arith, c .before .before .vertices .ensures .0, c .before .before .before .before .before .before .before .before .before .pre .0 .leads-fit),
       omega (arith, c .before .before .before .before .before .before .before .before .before .pre .6),
     ))

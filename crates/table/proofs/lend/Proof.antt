@@ -25,10 +25,13 @@ loop-holds c =
     let a = s .args in
     let live = member (a .figures .now) (a .j) in
     let h = next-least (a .figures .now) (a .j) 0 (omega arith) in
-    rw (c .next .ensures)
-    (h .most, h .passes, upto-passed live (a .j) (a .figures .now) (c .before .before .before .blank .last .1 .0) (a .n) (λ u k. c .before .before .before .blank .ensures .words u k)
-    (c .before .before .before .blank .last .1 .0) 0 (min (next-member (a .figures .now) (a .j) 0) (a .n)) (omega arith) (omega arith) (λ u k l. h .none-before u k (omega arith))
-    (upto-none live (a .j) (a .figures .now) (c .before .before .before .blank .last .1 .0)))
+    rw (c .next .ensures) (
+      h .most,
+      h .passes,
+      upto-passed live (a .j) (a .figures .now) (c .before .before .before .blank .last .1 .0) (a .n) (λ u k. c .before .before .before .blank .ensures .words u k)
+          (c .before .before .before .blank .last .1 .0) 0 (min (next-member (a .figures .now) (a .j) 0) (a .n)) (omega arith) (omega arith) (λ u k l. h .none-before u k (omega arith))
+          (upto-none live (a .j) (a .figures .now) (c .before .before .before .blank .last .1 .0)),
+    )
 
 loop-less : tie.Need-loop-less Inv-loop μ-loop
 loop-less c =
@@ -49,10 +52,13 @@ loop-again c =
     let at : min (l .u) (a .n) ≡ l .u = omega arith in
     let p = rw at at (l .inv .2) in
     let next = next-member (a .figures .now) (a .j) (l .u + 1) in
-    rw (c .next2 .ensures)
-    (h .most, h .passes, upto-passed live (a .j) (a .figures .now) base (a .n) (λ u k. c .before .before .before .before .before .before .before .blank .ensures .words u k) _ (l .u + 1) (min next (a .n))
-    (omega (arith, h .from)) (omega arith) (λ u k w. h .none-before u k (omega arith))
-    (upto-more live (a .j) (a .figures .now) base (l .work) (l .u) _ (omega (arith, s .pre .3, c .before .before .before .before .before .before .before .blank .ensures .room)) (rw m refl) p))
+    rw (c .next2 .ensures) (
+      h .most,
+      h .passes,
+      upto-passed live (a .j) (a .figures .now) base (a .n) (λ u k. c .before .before .before .before .before .before .before .blank .ensures .words u k) _ (l .u + 1) (min next (a .n))
+          (omega (arith, h .from)) (omega arith) (λ u k w. h .none-before u k (omega arith))
+          (upto-more live (a .j) (a .figures .now) base (l .work) (l .u) _ (omega (arith, s .pre .3, c .before .before .before .before .before .before .before .blank .ensures .room)) (rw m refl) p),
+    )
 
 returns : tie.Need-returns Inv-loop μ-loop
 returns c =

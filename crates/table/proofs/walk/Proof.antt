@@ -26,9 +26,12 @@ loop-holds c =
     let a = s .args in
     let slot = s .pre .0 .slot in
     let h = next-least (a .work .now) 0 0 (omega arith) in
-    rw (c .next .ensures)
-    (h .most, h .passes, passed (a .graph .now) (a .c) (a .j) slot (a .figures .now) (a .work .now) (a .figures .now) (a .work .now) 0 _
-    (λ u k l. h .none-before u k l) (h .from) (walked-none (a .graph .now) (a .c) (a .j) slot (a .figures .now) (a .work .now) (s .pre .1)))
+    rw (c .next .ensures) (
+      h .most,
+      h .passes,
+      passed (a .graph .now) (a .c) (a .j) slot (a .figures .now) (a .work .now) (a .figures .now) (a .work .now) 0 _
+          (λ u k l. h .none-before u k l) (h .from) (walked-none (a .graph .now) (a .c) (a .j) slot (a .figures .now) (a .work .now) (s .pre .1)),
+    )
 
 walk-at-requires : tie.Need-walk-at-requires Inv-loop μ-loop
 walk-at-requires c κs =
@@ -70,9 +73,12 @@ loop-again c =
     (walked-more (a .graph .now) (a .c) (a .j) slot (a .figures .now) (a .work .now) (l .figures) (l .work) (l .v) p
     (omega (arith, slot, vertex, s .pre .0 .table-fits)) (omega (arith, s .pre .0 .edges .lends .work-fits)) small m) in
     let h = next-least work 0 (l .v + 1) (omega (arith, small)) in
-    rw (c .next2 .ensures)
-    (h .most, h .passes, passed (a .graph .now) (a .c) (a .j) slot (a .figures .now) (a .work .now) figures work (l .v + 1) _
-    (λ u k w. h .none-before u k w) (h .from) after)
+    rw (c .next2 .ensures) (
+      h .most,
+      h .passes,
+      passed (a .graph .now) (a .c) (a .j) slot (a .figures .now) (a .work .now) figures work (l .v + 1) _
+          (λ u k w. h .none-before u k w) (h .from) after,
+    )
 
 returns : tie.Need-returns Inv-loop μ-loop
 returns c =

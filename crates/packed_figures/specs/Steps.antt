@@ -1,11 +1,15 @@
--- The constants of three keys as the program computes them. Nothing to believe: `three-constants` of proofs/Three says that they are those of Packed.
-use Prim.Native.Nat.{ℕ, _+_, _/_, _%_, _^_, _≤_}
-use mathlib.Core.Bool.{cond}
+-- MIRRORS OF THE PROGRAM: the constants of three keys as it computes them, and a round on words, edge by edge, what `gather` of walks is on figures.
+-- Nothing to believe: `three-unit` and `three-shift` (proofs/Three) say that the constants are those of Packed, `gathered-is` (proofs/Gathered) that a round
+-- gathers the words of figures.
+use Prim.Native.Nat.{ℕ, zero, suc, _+_, _/_, _%_, _^_, _≤_, min}
+use mathlib.Core.Bool.{Bool, cond, _&&_}
 use mathlib.Core.List.{List, [], _∷_}
 use lib.Dec.{eqb, ltb}
 use Rattle.walks.specs.Keys.{measure}
-use Rattle.packed_figures.specs.Packed.{width}
+use Rattle.walks.specs.Walks.{Edge}
+use Rattle.packed_figures.specs.declared.PathConstants.{PathConstants}
 use Rattle.packed_figures.specs.declared.Units.{Units}
+use Rattle.packed_figures.specs.Packed.{absent, onward, width}
 
 -- the bits of the second key and of the third, none where it is a key before
 abbrev pub second-bits : ℕ → ℕ → ℕ
@@ -50,3 +54,14 @@ key3 x = key-or-before (x % 256) 3 (x / 16777216 % 256) (key2 x)
 
 abbrev pub path-keys : ℕ → List ℕ
 path-keys x = key1 x ∷ key2 x ∷ key3 x ∷ []
+
+-- A ROUND ON WORDS
+
+-- what the edge e brings from the words W, where the test says that it does
+abbrev pub brought : Bool → PathConstants → Edge → (ℕ → ℕ) → ℕ
+brought b c e W = cond b (onward c (W (e .from)) (e .weight) (e .capacity)) absent
+
+-- the least at v of its own word and what the edges below i that pass the test `live` bring
+unfoldable pub gathered : (ℕ → Edge) → PathConstants → (ℕ → Bool) → (ℕ → ℕ) → ℕ → ℕ → ℕ
+gathered edge c live W v zero = W v
+gathered edge c live W v (suc i) = min (gathered edge c live W v i) (brought (live i && eqb (edge i .to) v) c (edge i) W)

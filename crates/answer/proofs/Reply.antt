@@ -114,7 +114,8 @@ pub enough-rows : (n kind : ℕ) (vs : List Value) → length vs ≡ 256 → Fie
 enough-rows n kind vs full f = omega (arith, count-most n kind 256 (f .few-vertices) (omega arith))
 
 -- of kind 1 the first value alone is written
-pub reply-one : (n rounds : ℕ) (v : Value) (vs : List Value) (room : ℕ) → answer-reply n rounds 1 (v ∷ vs) room ≡ answer-reply n rounds 1 (v ∷ []) room
+pub reply-one : (n rounds : ℕ) (v : Value) (vs : List Value) (room : ℕ) → answer-reply n rounds 1 (v ∷ vs) room
+    ≡ answer-reply n rounds 1 (v ∷ []) room
 unfolding answer-reply answer-bytes
 reply-one n rounds v vs room = refl
 

@@ -20,7 +20,7 @@ use Rattle.meaning.proofs.Paths.{path-refl, position-at, position-below}
 use Rattle.meaning.proofs.Together.{settled-same}
 use Rattle.packed_path.specs.declared.PackedPath.{PackedPath}
 use Rattle.packed_path.specs.Packed.{no-path, packed}
-use Rattle.table.specs.Steps.{value-in}
+use Rattle.table.specs.Table.{value-in}
 use Rattle.rows.proofs.Exact.{Holds}
 use Rattle.value.specs.declared.Value.the-variants.{Absent}
 use Rattle.walks.specs.Lists.{All}

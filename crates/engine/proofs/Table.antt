@@ -16,8 +16,7 @@ use Rattle.packed_path.specs.Packed.{path-of}
 use Rattle.plan.specs.Plan.{plan-scan}
 use Rattle.plan.specs.Tree.{plan-of}
 use Rattle.progress.specs.declared.Progress.{Progress}
-use Rattle.table.specs.Steps.{value-in}
-use Rattle.table.specs.Table.{paths-in}
+use Rattle.table.specs.Table.{paths-in, value-in}
 use Rattle.rounds.specs.Run.{Ran, Read}
 use Rattle.rounds_laws.proofs.Main.{given-read, quiet-read, quiet-rounds}
 use Rattle.rows.proofs.Exact.{Holds}

@@ -7,8 +7,7 @@ use Rattle.graph.specs.Graph.{graph-code}
 use Rattle.meaning.specs.Query.{PathReduction}
 use Rattle.meaning.specs.Run.{pull, values-at}
 use Rattle.progress.specs.declared.Progress.{Progress}
-use Rattle.table.specs.Steps.{value-in}
-use Rattle.table.specs.Table.{paths-in}
+use Rattle.table.specs.Table.{paths-in, value-in}
 use Rattle.value.specs.declared.Value.the-variants.{Absent}
 use Rattle.walks.specs.Rounds.{rounds}
 use Rattle.walks.specs.Walks.{Graph}

@@ -55,7 +55,8 @@ module _ (f : ℕ → ℕ) (j : ℕ) where
       go r false e u = after (r u)
 
   -- A KEY'S NUMBER BY SHIFT AND MASK
-  pub digit : (ks : List ℕ) → All (λ k. f k < room k) ks → f j < room j → T (among j ks) → bitAnd (total f ks / 2 ^ shift-of j ks) (room j - 1) ≡ f j
+  pub digit : (ks : List ℕ) → All (λ k. f k < room k) ks → f j < room j → T (among j ks) → bitAnd (total f ks / 2 ^ shift-of j ks) (room j - 1)
+      ≡ f j
   digit ks h l t =
       let d = stands ks h t in
       and-mask (total f ks / 2 ^ shift-of j ks) (width (measure j))

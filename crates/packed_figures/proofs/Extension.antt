@@ -39,7 +39,8 @@ abbrev longer : Edge → (ℕ → ℕ) → ℕ → ℕ
 longer e f k = extend (measure k) e (f k)
 
 -- a key before the last: an edge adds to what stands in the word
-plain-extend : (e : Edge) (x k : ℕ) → T (known k) → T (plain (measure k)) → code k (extend (measure k) e x) ≡ code k x + is 1 k * 1 + is 2 k * e .weight
+plain-extend : (e : Edge) (x k : ℕ) → T (known k) → T (plain (measure k)) → code k (extend (measure k) e x)
+    ≡ code k x + is 1 k * 1 + is 2 k * e .weight
 unfolding key-row
 plain-extend e x =
     by-key (λ k. T (plain (measure k)) → code k (extend (measure k) e x) ≡ code k x + is 1 k * 1 + is 2 k * e .weight)
@@ -111,7 +112,8 @@ early-plain = by-key (λ k. T (early k) → T (plain (measure k))) (λ t. t) (λ
 first-plain : (k j : ℕ) (ks : List ℕ) → T (all-known (k ∷ j ∷ ks)) → T (in-order (k ∷ j ∷ ks)) → Plain k
 first-plain k j ks a o = let t = and-left (known k) _ a in (t, early-plain k t (and-left (early k) _ o))
 
-all-plain : (k : ℕ) (ks : List ℕ) → T (all-known (k ∷ ks)) → T (in-order (k ∷ ks)) → T (plain (measure (last (k ∷ ks)))) → All Plain (k ∷ ks)
+all-plain : (k : ℕ) (ks : List ℕ) → T (all-known (k ∷ ks)) → T (in-order (k ∷ ks)) → T (plain (measure (last (k ∷ ks))))
+    → All Plain (k ∷ ks)
 all-plain k [] a o p = ((and-left (known k) _ a, p), tt)
 all-plain k (j ∷ ks) a o p = (first-plain k j ks a o, all-plain j ks (and-right (known k) _ a) (and-right (early k) _ o) p)
 
@@ -133,7 +135,8 @@ without-snoc k j n (i ∷ ks) = go (without-snoc k j n ks) (eqb k i)
 Ends : List ℕ → ℕ → Type 0
 Ends ks j = (es : List ℕ) × (distinct ks ≡ es ++ (j ∷ [])) × All Plain es
 
-ends : (k : ℕ) (ks : List ℕ) → T (all-known (k ∷ ks)) → T (in-order (k ∷ ks)) → early (last (k ∷ ks)) ≡ false → Ends (k ∷ ks) (last (k ∷ ks))
+ends : (k : ℕ) (ks : List ℕ) → T (all-known (k ∷ ks)) → T (in-order (k ∷ ks)) → early (last (k ∷ ks)) ≡ false
+    → Ends (k ∷ ks) (last (k ∷ ks))
 unfolding Ends distinct without
 ends k [] a o l = ([], refl, tt)
 ends k (j ∷ ks) a o l = go (ends j ks (and-right (known k) _ a) (and-right (early k) _ o) l)

@@ -16,7 +16,8 @@ use Rattle.packed_figures.specs.declared.PathConstants.{PathConstants}
 use Rattle.packed_figures.specs.Packed.{Sound, bits, constants, distinct, figure-of, shift-of, total, width, without}
 
 -- a number is one of the six keys or none
-by-number : (P : ℕ → Type 0) → P 0 → P 1 → P 2 → P 3 → P 4 → P 5 → P 6 → ((k : ℕ) → P (suc (suc (suc (suc (suc (suc (suc k)))))))) → (k : ℕ) → P k
+by-number : (P : ℕ → Type 0) → P 0 → P 1 → P 2 → P 3 → P 4 → P 5 → P 6 → ((k : ℕ) → P (suc (suc (suc (suc (suc (suc (suc k))))))))
+    → (k : ℕ) → P k
 by-number P z a b c d e f g zero = z
 by-number P z a b c d e f g (suc zero) = a
 by-number P z a b c d e f g (suc (suc zero)) = b
@@ -35,7 +36,8 @@ by-key P a b c d e f =
     by-number (λ k. T (known k) → P k) absurd (λ t. a) (λ t. b) (λ t. c) (λ t. d) (λ t. e) (λ t. f) (λ k t. absurd (too-large k t))
 
 -- a key by its number, as the program goes: what is left after some of them
-pub other-width : (k : ℕ) → (k ≡ 2 → ⊥) → (k ≡ 3 → ⊥) → (k ≡ 4 → ⊥) → (k ≡ 5 → ⊥) → (k ≡ 6 → ⊥) → width (measure k) ≡ 10
+pub other-width : (k : ℕ) → (k ≡ 2 → ⊥) → (k ≡ 3 → ⊥) → (k ≡ 4 → ⊥) → (k ≡ 5 → ⊥) → (k ≡ 6 → ⊥)
+    → width (measure k) ≡ 10
 unfolding key-row
 other-width =
     by-number (λ k. (k ≡ 2 → ⊥) → (k ≡ 3 → ⊥) → (k ≡ 4 → ⊥) → (k ≡ 5 → ⊥) → (k ≡ 6 → ⊥) → width (measure k) ≡ 10)
@@ -114,7 +116,8 @@ each-legal f p q r (a ∷ (b ∷ (c ∷ []))) t =
     (six-at (λ b. six (λ c. legally f (a ∷ b ∷ c ∷ [])))
     (six-at (λ a. six (λ b. six (λ c. legally f (a ∷ b ∷ c ∷ [])))) r a (and-left (known a) _ k)) b (and-left (known b) _ (and-right (known a) _ k)))
     c (and-left (known c) _ (and-right (known b) _ (and-right (known a) _ k)))) t
-each-legal f p q r (a ∷ (b ∷ (c ∷ (d ∷ ks)))) t = absurd (omega (arith, leb→le (length (a ∷ b ∷ c ∷ d ∷ ks)) 3 (legal-parts (a ∷ b ∷ c ∷ d ∷ ks) t .0)))
+each-legal f p q r (a ∷ (b ∷ (c ∷ (d ∷ ks)))) t = absurd
+    (omega (arith, leb→le (length (a ∷ b ∷ c ∷ d ∷ ks)) 3 (legal-parts (a ∷ b ∷ c ∷ d ∷ ks) t .0)))
 
 -- ALL LEGAL LISTS OF KEYS FIT 52 BITS
 pub legal-bits : (ks : List ℕ) → T (legal-keys ks) → bits (distinct ks) ≤ 52

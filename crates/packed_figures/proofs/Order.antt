@@ -44,7 +44,8 @@ module _ (f g : ℕ → ℕ) where
   abbrev ahead : List ℕ → Bool
   ahead ks = precedes ks (map f ks) (map g ks)
 
-  differing : (k t s u : ℕ) → f k < room k → g k < room k → t < u → s < u → (f k ≡ g k → ⊥) → (b : Bool) → good? (kept k) (f k) (g k) ≡ b
+  differing : (k t s u : ℕ) → f k < room k → g k < room k → t < u → s < u → (f k ≡ g k → ⊥) → (b : Bool) → good? (kept k) (f k) (g k)
+      ≡ b
       → leb (code k (f k) * u + t) (code k (g k) * u + s) ≡ b
   differing k t s u h i p q o true e =
       le-leb (code k (f k) * u + t) (code k (g k) * u + s) (omega (arith, lead _ _ u t s (better-lt (kept k) (room k) (f k) (g k) h i o true e) p))

@@ -18,7 +18,8 @@ pick true u = omega arith
 pick false u = omega arith
 
 module _ (a b c : ℕ) where
-  three-total : (f : ℕ → ℕ) → f a * units-of a b c .first + f b * units-of a b c .second + f c * units-of a b c .third ≡ total f (distinct (a ∷ b ∷ c ∷ []))
+  three-total : (f : ℕ → ℕ) → f a * units-of a b c .first + f b * units-of a b c .second + f c * units-of a b c .third
+      ≡ total f (distinct (a ∷ b ∷ c ∷ []))
   unfolding units-of total bits distinct without
   three-total f = go (eqb b c) (eqb a b) (eqb a c) refl refl refl
     where

@@ -105,7 +105,8 @@ module _ (g : Graph) (paths : ℕ) (table : List PackedPath) (b : paths ≤ 8) w
   ran-as limit r l h x e = record { within = h; ended = e; shows = λ j i. x .each j i .figures; sound = λ j i. x .each j i .sound }
 
   -- the last was quiet
-  pub ran-quiet : (limit r : ℕ) (l : List ℕ) → r < limit → AllStand g paths table (suc r) l → Unquiet r → false ≡ not (quiet-after g paths table r)
+  pub ran-quiet : (limit r : ℕ) (l : List ℕ) → r < limit → AllStand g paths table (suc r) l → Unquiet r → false
+      ≡ not (quiet-after g paths table r)
       → Ran g paths table limit (suc r) l
   ran-quiet limit r l h x f e = ran-as limit (suc r) l (omega arith) x (inr (r, refl, T-of (not-false (quiet-after g paths table r) (sym e)), f))
 

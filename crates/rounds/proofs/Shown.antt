@@ -158,7 +158,8 @@ module _ (s : List ℕ) (path : PackedPath) (g : Given s path) (j : ℕ) where
 
       next-held : (v : ℕ) → v < n → Held (suc r) ks (next v)
       next-held v h =
-          gathered-held N ks (path-legal s path g) (graph-legal s path g .weights) from-in (edge-in s) edge-is S r early S-held W agrees live v h (N .edges) (omega arith)
+          gathered-held N ks (path-legal s path g) (graph-legal s path g .weights) from-in (edge-in s) edge-is S r early S-held W agrees live v h (N .edges)
+          (omega arith)
 
       next-packs : (v : ℕ) → v < n → Packs ks (next v)
       next-packs v h = held-packs ks (suc r) (omega arith) (next v) (next-held v h)
@@ -177,7 +178,8 @@ module _ (s : List ℕ) (path : PackedPath) (g : Given s path) (j : ℕ) where
           most = gathered-below (edge-in s) K live W v (words-most v h) i
 
           go : (a b : Bool)
-              → cond b (min (gathered (edge-in s) K live W v i) (onward K (cond a (W (e .from)) absent) (e .weight) (e .capacity))) (gathered (edge-in s) K live W v i)
+              → cond b (min (gathered (edge-in s) K live W v i) (onward K (cond a (W (e .from)) absent) (e .weight) (e .capacity)))
+              (gathered (edge-in s) K live W v i)
               ≡ min (gathered (edge-in s) K live W v i) (brought (a && b) K e W)
           go true true = refl
           go true false = omega (arith, most)

@@ -133,4 +133,5 @@ module _ (s : List ℕ) (path : PackedPath) (g : Given s path) (j : ℕ) (slot :
         → PushRound (graph-of s) (path-of path) r j old new says
     push-round-at new says y =
         round-at s path g j r early old x work′ live
-        (λ i h. t .words (edge-in s i .from) (from-in i h) ∙ ap (λ (b : Bool). cond b (word-in old j (edge-in s i .from)) absent) (live-is i h)) still new says y
+        (λ i h. t .words (edge-in s i .from) (from-in i h) ∙ ap (λ (b : Bool). cond b (word-in old j (edge-in s i .from)) absent) (live-is i h)) still new
+        says y

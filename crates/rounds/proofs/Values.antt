@@ -13,8 +13,8 @@ use Rattle.walks.specs.Meaning.{value}
 use Rattle.meaning.specs.Query.{PathReduction}
 use Rattle.packed_figures.specs.Packed.{absent, constants, figure-of, figures-of}
 use Rattle.packed_figures.proofs.Options.{word-figures, word-of-value}
-use Rattle.table.specs.Steps.{value-in, value-word, word-in}
-use Rattle.table.specs.Table.{Sound, SoundWord, cell-in, figures-in}
+use Rattle.table.specs.Steps.{value-word, word-in}
+use Rattle.table.specs.Table.{Sound, SoundWord, cell-in, figures-in, value-in}
 use Rattle.table.proofs.Cells.{cell-word}
 
 -- a word of a value says it, as one more than the number, or 0

@@ -12,8 +12,7 @@ use Rattle.walks.specs.Walks.{Graph, Network}
 use Rattle.meaning.specs.Query.{PathReduction, network-of}
 use Rattle.meaning.specs.Run.{pull}
 use Rattle.packed_path.specs.declared.PackedPath.{PackedPath}
-use Rattle.table.specs.Steps.{value-in}
-use Rattle.table.specs.Table.{Others, Sound, any-vertex, changed-in, figures-in, path-at, paths-in}
+use Rattle.table.specs.Table.{Others, Sound, any-vertex, changed-in, figures-in, path-at, paths-in, value-in}
 
 -- what each vertex holds after a round, of what it held before. BY PULL: over all edges that may be taken
 abbrev pub pulled : Network → List ℕ → State → State

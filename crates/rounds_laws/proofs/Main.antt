@@ -22,8 +22,7 @@ use Rattle.meaning.specs.Run.{pull, values-at}
 use Rattle.meaning.proofs.Lists.{all-unmapped}
 use Rattle.meaning.proofs.Rounds.{network-fits, path-in-order, rounds-at-most, rounds-final, rounds-go-on, rounds-smallest, rounds-stop}
 use Rattle.packed_path.specs.declared.PackedPath.{PackedPath}
-use Rattle.table.specs.Steps.{value-in}
-use Rattle.table.specs.Table.{figures-in, path-at, paths-in}
+use Rattle.table.specs.Table.{figures-in, path-at, paths-in, value-in}
 use Rattle.rounds.specs.Run.{AllSound, Ended, Ran, Read}
 use Rattle.rounds.proofs.Tables.{legal-at}
 

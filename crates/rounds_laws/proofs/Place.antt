@@ -43,7 +43,8 @@ module _ (N : Network) (ks : List ℕ) (S : State) (changed : ℕ → Bool) (v :
       ∙ sym (one-behind (live i && eqb (N .edge i .to) v) i (changed-into N changed v i) (S v))
 
   -- where none changed there are none
-  pub into-none : ((i : ℕ) → i < N .edges → N .edge i .to ≡ v → changed (N .edge i .from) ≡ false) → (m : ℕ) → m ≤ N .edges → changed-into N changed v m ≡ []
+  pub into-none : ((i : ℕ) → i < N .edges → N .edge i .to ≡ v → changed (N .edge i .from) ≡ false) → (m : ℕ) → m ≤ N .edges
+      → changed-into N changed v m ≡ []
   unfolding changed-into
   into-none h zero l = refl
   into-none h (suc i) l =
@@ -65,7 +66,8 @@ module _ (g : Graph) (c : PathReduction) (j : ℕ) where
     push-place = x .figures v inside ∙ gather-place N (c .keys) (figures-in c old j) (changed-in r old j) v (N .edges)
 
     -- AND ITS FORMER VALUE where no predecessor is marked
-    push-unmarked : ((i : ℕ) → i < N .edges → N .edge i .to ≡ v → changed-in r old j (N .edge i .from) ≡ false) → figures-in c new j v ≡ figures-in c old j v
+    push-unmarked : ((i : ℕ) → i < N .edges → N .edge i .to ≡ v → changed-in r old j (N .edge i .from) ≡ false) → figures-in c new j v
+        ≡ figures-in c old j v
     push-unmarked h =
         push-place
         ∙ ap (reduced-into N (c .keys) (figures-in c old j) (figures-in c old j v))

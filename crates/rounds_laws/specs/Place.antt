@@ -8,7 +8,8 @@ use lib.Dec.{eqb}
 use Rattle.walks.specs.Rounds.{State, best, through}
 use Rattle.walks.specs.Walks.{Network}
 
--- "let {u₀, .., uₙ₋₁} := CPreds(v)": the edges into v from changed vertices, by their rows in map order, of those below i (equal rows are different edges)
+-- "let {u₀, .., uₙ₋₁} := CPreds(v)": the edges into v from changed vertices, by their rows in map order, of those below i (equal rows are different
+-- edges)
 unfoldable pub changed-into : Network → (ℕ → Bool) → ℕ → ℕ → List ℕ
 changed-into N changed v zero = []
 changed-into N changed v (suc i) =

@@ -17,7 +17,7 @@ use Rattle.value.specs.declared.Value.the-variants.{Absent}
 use Rattle.value.specs.Value.{values}
 use Rattle.eval.specs.Steps.{body-found, row}
 use Rattle.eval.proofs.Body.{Agrees, body-value, eight-holds}
-use Rattle.table.specs.Steps.{value-in}
+use Rattle.table.specs.Table.{value-in}
 use Rattle.rows.specs.Steps.{body-count, many, rows-at}
 
 -- ---- the values

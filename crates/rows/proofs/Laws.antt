@@ -22,7 +22,7 @@ use Rattle.value.proofs.Reduced.{reduced, snoc}
 use Rattle.plan.specs.Plan.{count-at}
 use Rattle.eval.specs.Steps.{body-found, eight, entries-end, entry-end, entry-found, entry-rows, final-found, leaf-in, results, row, rows-in}
 use Rattle.eval.proofs.Fill.{fill-at, fill-length, fill-past, fill-whole, filled, tabulate-more}
-use Rattle.table.specs.Steps.{value-in}
+use Rattle.table.specs.Table.{value-in}
 use Rattle.rows.specs.Steps.{many, rows-at, slot-of, used-slots, word-of}
 
 rows-of : (g : ℕ → Value) (k i : ℕ) → map row (tabulate k i g) ≡ tabulate k i (λ j. row (g j))
@@ -72,12 +72,14 @@ used-rows figures slots paths = fun-ext (λ v. whole v ∙ sym (all v))
 
     there : (v i : ℕ) → i < m → value-row figures slots v i ≡ value-row figures used v i
     there v i h =
-        ap (λ (j : ℕ). row (value-in figures j v)) (sym (ap (λ (l : List ℕ). getD l i 0) (used-filled slots paths) ∙ fill-at 8 (slot-at slots) 8 m i 0 h))
+        ap (λ (j : ℕ). row (value-in figures j v))
+        (sym (ap (λ (l : List ℕ). getD l i 0) (used-filled slots paths) ∙ fill-at 8 (slot-at slots) 8 m i 0 h))
 
     past : (v i : ℕ) → m ≤ i → i < 8 → row Absent ≡ value-row figures used v i
     past v i h b =
         ap row (sym (no-slot figures v))
-        ∙ ap (λ (j : ℕ). row (value-in figures j v)) (sym (ap (λ (l : List ℕ). getD l i 0) (used-filled slots paths) ∙ fill-past 8 (slot-at slots) 8 m i 0 h b))
+        ∙ ap (λ (j : ℕ). row (value-in figures j v))
+        (sym (ap (λ (l : List ℕ). getD l i 0) (used-filled slots paths) ∙ fill-past 8 (slot-at slots) 8 m i 0 h b))
 
     whole : (v : ℕ) → rows-at figures slots paths v ≡ tabulate 8 zero (value-row figures used v)
     whole v =

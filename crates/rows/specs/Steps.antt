@@ -10,7 +10,7 @@ use Rattle.value.specs.declared.Row.{Row}
 use Rattle.value.specs.declared.Value.{Value}
 use Rattle.value.specs.declared.Value.the-variants.{Absent, Number}
 use Rattle.eval.specs.Steps.{eight, row}
-use Rattle.table.specs.Steps.{value-in}
+use Rattle.table.specs.Table.{value-in}
 
 -- the values of the path reductions at the vertex v, as eight rows: that of path reduction j stands in slot `getD slots j 0` of the table
 unfoldable pub rows-at : List ℕ → List ℕ → ℕ → ℕ → List Row

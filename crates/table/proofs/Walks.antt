@@ -65,7 +65,8 @@ module _ (s : List ℕ) (c : PathConstants) (j : ℕ) (slot : j < 8) (old work :
       moved u h k (no l) = p .rest u (omega arith) k ∙ sym (ap (λ (b : Bool). b && moves s c j old work u) (out u h l k))
 
   -- the vertex v of set 0
-  module _ (new work′ : List ℕ) (v : ℕ) (p : Walked s c j old work new work′ v) (table-room : 32 + 8 * v + j < length old) (work-room : 8 ≤ length work)
+  module _ (new work′ : List ℕ) (v : ℕ) (p : Walked s c j old work new work′ v) (table-room : 32 + 8 * v + j < length old)
+      (work-room : 8 ≤ length work)
       (few : v < 256) (chosen : member work′ 0 v ≡ true) where
     word-was : word-in new j v ≡ word-in old j v
     word-was = p .left v (omega arith)
@@ -109,7 +110,8 @@ module _ (s : List ℕ) (c : PathConstants) (j : ℕ) (slot : j < 8) (old work :
       room = marked-size test work′ 1 v ∙ p .room;
     }
       where
-        done : (u : ℕ) → u < v + 1 → u < 256 → Dec (u ≡ v) → word-in stored j u ≡ cond (member work 0 u) (next-word s c j old work u) (word-in old j u)
+        done : (u : ℕ) → u < v + 1 → u < 256 → Dec (u ≡ v) → word-in stored j u
+            ≡ cond (member work 0 u) (next-word s c j old work u) (word-in old j u)
         done u h k (yes e) =
             rw (e, sym (p .chosen v few) ∙ chosen) (stored-here new j v x slot (omega (arith, p .size)) ∙ same)
         done u h k (no n) = stored-vertex new j v x slot u n ∙ p .done u (omega arith) k

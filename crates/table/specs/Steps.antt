@@ -1,13 +1,11 @@
 -- One path reduction's words and marks as the program goes: initial values, a round vertex by vertex, the values read off. Nothing to believe: the contracts
 -- of `rounds` say what these are in the words of the theory.
-use Prim.Native.Nat.{ℕ, zero, suc, _+_, _-_, _*_, _≤_, _<_, min}
+use Prim.Native.Nat.{ℕ, zero, suc, _+_, _*_, _≤_, _<_, min}
 use mathlib.Core.Path.{_≡_}
 use mathlib.Core.Bool.{Bool, true, false, cond, not, _&&_}
 use mathlib.Core.List.{List}
-use lib.Dec.{eqb, leb, ltb}
+use lib.Dec.{eqb, ltb}
 use lib.ListN.{length, getD, set}
-use Rattle.value.specs.declared.Value.{Value}
-use Rattle.value.specs.declared.Value.the-variants.{Absent, Number}
 use Rattle.wire.specs.Wire.{at16}
 use Rattle.graph.specs.Graph.{edge-in, graph-code}
 use Rattle.incoming.specs.Incoming.{Threaded, enters}
@@ -145,9 +143,3 @@ pub record Valued (c : PathConstants) (n j : ℕ) (old new : List ℕ) : Type 0 
   pub words : (v : ℕ) → v < n → word-in new j v ≡ value-word c (word-in old j v)
   pub others : (i : ℕ) → i < 8 → (i ≡ j → ⊥) → (v : ℕ) → v < 256 → word-in new i v ≡ word-in old i v
   pub size : length new ≡ length old
-
--- the value of path reduction j at vertex v in such a table; absent outside it
-unfoldable pub value-in : List ℕ → ℕ → ℕ → Value
-value-in l j v =
-    cond (leb 8 j) Absent (cond (leb 256 v) Absent (cond (leb (length l) (32 + 8 * v + j)) Absent
-    (cond (eqb (getD l (32 + 8 * v + j) 0) 0) Absent (Number (getD l (32 + 8 * v + j) 0 - 1)))))

@@ -1,11 +1,14 @@
 -- WHAT THE TABLE OF FIGURES SHOWS at each vertex for each path reduction (document 01: chain). These definitions know how the table is laid out; contracts and
 -- theorems use their names alone.
-use Prim.Native.Nat.{ℕ, zero, suc, _+_, _*_, _≤_, _<_}
+use Prim.Native.Nat.{ℕ, zero, suc, _+_, _-_, _*_, _≤_, _<_}
 use mathlib.Core.Path.{_≡_}
-use mathlib.Core.Bool.{Bool, false, _||_}
+use mathlib.Core.Bool.{Bool, false, cond, _||_}
 use mathlib.Core.List.{List, map}
 use mathlib.Core.Option.{Option}
+use lib.Dec.{eqb, leb}
 use lib.ListN.{length, getD, take}
+use Rattle.value.specs.declared.Value.{Value}
+use Rattle.value.specs.declared.Value.the-variants.{Absent, Number}
 use Rattle.walks.specs.Rounds.{State}
 use Rattle.meaning.specs.Query.{PathReduction}
 use Rattle.packed_path.specs.declared.PackedPath.{PackedPath}
@@ -62,3 +65,11 @@ pub record Sound (n : ℕ) (c : PathReduction) (r : ℕ) (l : List ℕ) (j : ℕ
 -- the other path reductions have what they had
 abbrev pub Others : ℕ → ℕ → List ℕ → List ℕ → Type 0
 Others n j old new = (i : ℕ) → i < 8 → (i ≡ j → ⊥) → (v : ℕ) → v < n → cell-in new i v ≡ cell-in old i v
+
+-- THE VALUE of path reduction j at vertex v in a table whose words were read into values (`read_values`): one less than what stands there, absent where that
+-- is 0
+-- and outside the table
+unfoldable pub value-in : List ℕ → ℕ → ℕ → Value
+value-in l j v =
+    cond (leb 8 j) Absent (cond (leb 256 v) Absent (cond (leb (length l) (32 + 8 * v + j)) Absent
+    (cond (eqb (getD l (32 + 8 * v + j) 0) 0) Absent (Number (getD l (32 + 8 * v + j) 0 - 1)))))

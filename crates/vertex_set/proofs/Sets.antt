@@ -1,4 +1,5 @@
--- WHO IS IN A SET after it is emptied, filled, joined or given a member; the next member is the least; sets of the same members are the same words. Assumes nothing.
+-- WHO IS IN A SET after it is emptied, filled, joined or given a member; the next member is the least; sets of the same members are the same words. Assumes
+-- nothing.
 use Prim.Native.Nat.{ℕ, zero, suc, _+_, _-_, _*_, _/_, _%_, _^_, _≤_, _<_, min}
 use mathlib.Core.Path.{_≡_, refl, sym, ap, _∙_}
 use mathlib.Core.Bool.{Bool, true, false, cond, _&&_, _||_, false≢true}
@@ -14,7 +15,8 @@ use lib.ListN.{length, getD, set, replicate, length-set}
 use lib.Seq.{sets, length-sets, getD-set-same, getD-set-other, ext-getD}
 use Rattle.vertex_set.specs.Least.{some-below}
 use Rattle.vertex_set.specs.Sets.{digit, member, inserted, replaced, emptied, ones, filled, joined, joined-chosen, next-member}
-use Rattle.vertex_set.proofs.Digits.{digit-high, digit-none, digit-ones, digit-or, digit-power, digit-shifted, same-digits, trailing-low, trailing-lt, trailing-set}
+use Rattle.vertex_set.proofs.Digits.{digit-high, digit-none, digit-ones, digit-or, digit-power, digit-shifted, same-digits, trailing-low, trailing-lt}
+use Rattle.vertex_set.proofs.Digits.{trailing-set}
 use Rattle.vertex_set.proofs.Least.{Least, least-end, least-found, least-passed, least-same, least-unique}
 
 or-false : (b : Bool) → b ≡ (b || false)
@@ -82,14 +84,17 @@ pub member-replaced : (words : List ℕ) (f : ℕ) (w : ℕ → ℕ) (g v : ℕ)
 unfolding member replaced
 member-replaced words f w g v h room = go (ℕ-discrete g f)
   where
-    word-other : (g ≡ f → ⊥) → Dec (g < f) → getD (sets words (4 * f) (w 0 ∷ w 1 ∷ w 2 ∷ w 3 ∷ [])) (4 * g + v / 64) 0 ≡ getD words (4 * g + v / 64) 0
+    word-other : (g ≡ f → ⊥) → Dec (g < f) → getD (sets words (4 * f) (w 0 ∷ w 1 ∷ w 2 ∷ w 3 ∷ [])) (4 * g + v / 64) 0
+        ≡ getD words (4 * g + v / 64) 0
     word-other n (yes l) = before (w 0 ∷ w 1 ∷ w 2 ∷ w 3 ∷ []) words (4 * f) (4 * g + v / 64) (omega arith)
     word-other n (no l) = behind (w 0 ∷ w 1 ∷ w 2 ∷ w 3 ∷ []) words (4 * f) (4 * g + v / 64) (omega arith)
 
-    go : Dec (g ≡ f) → digit (getD (sets words (4 * f) (w 0 ∷ w 1 ∷ w 2 ∷ w 3 ∷ [])) (4 * g + v / 64) 0) (v % 64) ≡ cond (eqb g f) (digit (w (v / 64)) (v % 64)) (digit (getD words (4 * g + v / 64) 0) (v % 64))
+    go : Dec (g ≡ f) → digit (getD (sets words (4 * f) (w 0 ∷ w 1 ∷ w 2 ∷ w 3 ∷ [])) (4 * g + v / 64) 0) (v % 64)
+        ≡ cond (eqb g f) (digit (w (v / 64)) (v % 64)) (digit (getD words (4 * g + v / 64) 0) (v % 64))
     go (yes e) =
         rw (eq-eqb g f e, e)
-        (ap (λ (x : ℕ). digit x (v % 64)) (among (w 0 ∷ w 1 ∷ w 2 ∷ w 3 ∷ []) words (4 * f) (v / 64) (omega arith) (omega arith) ∙ of-four w (v / 64) (omega arith)))
+        (ap (λ (x : ℕ). digit x (v % 64)) (among (w 0 ∷ w 1 ∷ w 2 ∷ w 3 ∷ []) words (4 * f) (v / 64) (omega arith) (omega arith)
+        ∙ of-four w (v / 64) (omega arith)))
     go (no n) = rw (ne-eqb g f n) (ap (λ (x : ℕ). digit x (v % 64)) (word-other n (decLt g f)))
 
 -- EMPTIED
@@ -125,7 +130,8 @@ module _ (words : List ℕ) (f : ℕ) (chosen : List ℕ) (c : ℕ) (others : Li
   unfolding joined-chosen
   chosen-more g e = rw e
 
-  pub chosen-kept : (g : ℕ) → g < 256 → member chosen c g ≡ false → joined-chosen words f chosen c others (suc g) ≡ joined-chosen words f chosen c others g
+  pub chosen-kept : (g : ℕ) → g < 256 → member chosen c g ≡ false → joined-chosen words f chosen c others (suc g)
+      ≡ joined-chosen words f chosen c others g
   unfolding joined-chosen
   chosen-kept g h e = rw e
 
@@ -148,7 +154,8 @@ module _ (words : List ℕ) (f : ℕ) (chosen : List ℕ) (c : ℕ) (others : Li
   member-chosen zero v h room = or-false (member words f v)
   member-chosen (suc n) v h room = go (member chosen c n) (member-chosen n v h room)
     where
-      go : (b : Bool) → member (joined-chosen words f chosen c others n) f v ≡ (member words f v || some-below (λ g. member chosen c g && member others g v) n)
+      go : (b : Bool) → member (joined-chosen words f chosen c others n) f v
+          ≡ (member words f v || some-below (λ g. member chosen c g && member others g v) n)
           → member (cond b (joined (joined-chosen words f chosen c others n) f others n) (joined-chosen words f chosen c others n)) f v
           ≡ (member words f v || (some-below (λ g. member chosen c g && member others g v) n || (b && member others n v)))
       go true e =
@@ -192,7 +199,9 @@ member-inserted words f x g v hx hv room = go (ℕ-discrete (4 * g + v / 64) (4 
     else n (yes e) = rw (eq-eqb g f e) (ne-eqb v x (λ p. n (ap (λ (y : ℕ). 4 * y + v / 64) e ∙ ap (λ (y : ℕ). 4 * f + y / 64) p)))
     else n (no e) = rw (ne-eqb g f e)
 
-    go : Dec (4 * g + v / 64 ≡ 4 * f + x / 64) → digit (getD (set words (4 * f + x / 64) (bitOr (getD words (4 * f + x / 64) 0) (2 ^ (x % 64)))) (4 * g + v / 64) 0) (v % 64) ≡ (digit (getD words (4 * g + v / 64) 0) (v % 64) || (eqb g f && eqb v x))
+    go : Dec (4 * g + v / 64 ≡ 4 * f + x / 64)
+        → digit (getD (set words (4 * f + x / 64) (bitOr (getD words (4 * f + x / 64) 0) (2 ^ (x % 64)))) (4 * g + v / 64) 0) (v % 64)
+        ≡ (digit (getD words (4 * g + v / 64) 0) (v % 64) || (eqb g f && eqb v x))
     go (yes e) =
         let p : g ≡ f = omega arith in
         let q : v / 64 ≡ x / 64 = omega arith in
@@ -216,7 +225,8 @@ unfolding next-member
 next-unique words f i r l = least-unique (member words f) 256 i r l
 
 -- WHAT A LOOP OVER THE MEMBERS CITES: what vertices that are no members leave as it is, is the same at i and at the next member from i on
-pub members-same : {A : Type 0} (words : List ℕ) (f : ℕ) (acc : ℕ → A) → ((v : ℕ) → v < 256 → member words f v ≡ false → acc (suc v) ≡ acc v)
+pub members-same : {A : Type 0} (words : List ℕ) (f : ℕ) (acc : ℕ → A)
+    → ((v : ℕ) → v < 256 → member words f v ≡ false → acc (suc v) ≡ acc v)
     → (i : ℕ) → i ≤ 256 → acc (next-member words f i) ≡ acc i
 unfolding next-member
 members-same words f acc keep i h = least-same (member words f) 256 acc keep i h
@@ -230,14 +240,16 @@ member-at words f k b h =
     rw (p, q)
 
 -- where the word k shifted down by a is 0, the search goes on at the next word
-pub next-past : (words : List ℕ) (f k a : ℕ) → k < 4 → a < 64 → getD words (4 * f + k) 0 / 2 ^ a ≡ 0 → next-member words f (64 * k + a) ≡ next-member words f (64 * (k + 1))
+pub next-past : (words : List ℕ) (f k a : ℕ) → k < 4 → a < 64 → getD words (4 * f + k) 0 / 2 ^ a ≡ 0 → next-member words f (64 * k + a)
+    ≡ next-member words f (64 * (k + 1))
 unfolding next-member
 next-past words f k a h g z = least-passed (member words f) 256 (64 * k + a) (64 * (k + 1)) (omega arith) (omega arith) none
   where
     none : (x : ℕ) → 64 * k + a ≤ x → x < 64 * (k + 1) → member words f x ≡ false
     none x l m =
         let e : 64 * k + (a + (x - 64 * k - a)) ≡ x = omega arith in
-        rw (← e) (member-at words f k (a + (x - 64 * k - a)) (omega arith) ∙ sym (digit-shifted _ a (x - 64 * k - a)) ∙ rw z (digit-none (x - 64 * k - a)))
+        rw (← e) (member-at words f k (a + (x - 64 * k - a)) (omega arith) ∙ sym (digit-shifted _ a (x - 64 * k - a))
+        ∙ rw z (digit-none (x - 64 * k - a)))
 
 -- where it is not, the next member is at its lowest digit
 module _ (words : List ℕ) (f k a : ℕ) (h : k < 4) (g : a < 64) (word t : ℕ) (there : word ≡ getD words (4 * f + k) 0) (bound : word < 2 ^ 64)
@@ -267,10 +279,17 @@ module _ (words : List ℕ) (f k a : ℕ) (h : k < 4) (g : a < 64) (word t : ℕ
       let here = inside (decLt (a + t) 64) in
       let e : 64 * k + (a + t) ≡ 64 * k + a + t = omega arith in
       least-unique (member words f) 256 (64 * k + a) (64 * k + a + t)
-      record { from = omega arith; most = omega arith; passes = λ l. rw (← e) (member-at words f k (a + t) here ∙ rw (← there) set-here); none-before = none }
+      record {
+        from = omega arith;
+        most = omega arith;
+        passes = λ l. rw (← e)
+            (member-at words f k (a + t) here ∙ rw (← there) set-here);
+        none-before = none;
+      }
 
 -- the same of a vertex i
-pub next-at : (words : List ℕ) (f i : ℕ) → i < 256 → getD words (4 * f + i / 64) 0 < 2 ^ 64 → (getD words (4 * f + i / 64) 0 / 2 ^ (i % 64) ≡ 0 → ⊥)
+pub next-at : (words : List ℕ) (f i : ℕ) → i < 256 → getD words (4 * f + i / 64) 0 < 2 ^ 64
+    → (getD words (4 * f + i / 64) 0 / 2 ^ (i % 64) ≡ 0 → ⊥)
     → i + trailingZeros 64 (getD words (4 * f + i / 64) 0 / 2 ^ (i % 64)) ≡ next-member words f i
 next-at words f i h bound some =
     let e : 64 * (i / 64) + i % 64 ≡ i = omega arith in
@@ -287,9 +306,11 @@ pub next-at-word : (words : List ℕ) (f k : ℕ) → k < 4 → getD words (4 * 
 next-at-word words f k h bound some =
     let e : 64 * k + 0 ≡ 64 * k = omega arith in
     let d : getD words (4 * f + k) 0 / 2 ^ 0 ≡ getD words (4 * f + k) 0 = div-one (getD words (4 * f + k) 0) in
-    rw e at (next-here words f k 0 h (omega arith) (getD words (4 * f + k) 0) (trailingZeros 64 (getD words (4 * f + k) 0)) refl bound (λ z. some (sym d ∙ z)) (rw d))
+    rw e at (next-here words f k 0 h (omega arith) (getD words (4 * f + k) 0) (trailingZeros 64 (getD words (4 * f + k) 0)) refl bound
+    (λ z. some (sym d ∙ z)) (rw d))
 
-pub next-word : (words : List ℕ) (f k : ℕ) → k < 4 → getD words (4 * f + k) 0 ≡ 0 → next-member words f (64 * k) ≡ next-member words f (64 * (k + 1))
+pub next-word : (words : List ℕ) (f k : ℕ) → k < 4 → getD words (4 * f + k) 0 ≡ 0 → next-member words f (64 * k)
+    ≡ next-member words f (64 * (k + 1))
 next-word words f k h z =
     let e : 64 * k + 0 ≡ 64 * k = omega arith in rw e at (next-past words f k 0 h (omega arith) (div-one (getD words (4 * f + k) 0) ∙ z))
 

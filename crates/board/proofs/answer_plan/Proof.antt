@@ -8,7 +8,8 @@ returns : tie.Need-returns
 unfolding plan-reply plan-values
 returns c =
     let slots = c .before .before .before .before in
-    rw (← slots .before .before .before .scan .ensures, ← slots .before .lesser .ensures .0, ← slots .slots-of .ensures) (c .before .before .write .ensures)
+    rw (← slots .before .before .before .scan .ensures, ← slots .before .lesser .ensures .0, ← slots .slots-of .ensures)
+    (c .before .before .write .ensures)
 
 pub answer-plan-spec : {M : Type 1} → statement M
 answer-plan-spec =

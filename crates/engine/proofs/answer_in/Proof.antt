@@ -38,8 +38,16 @@ returns c =
     let a = start .args in
     let s = a .plan .now in
     let m = a .graph .now in
-    let bs : Bytes s = λ i. omega (arith, c .before .before .before .before .before .before .before .before .before .before .before .before .before .before .before .shared-slice-known .given i) in
-    let bm : Bytes m = λ i. omega (arith, c .before .before .before .before .before .before .before .before .before .before .before .before .before .before .shared-slice-known2 .given i) in
+    let bs : Bytes s = λ i. omega (
+      arith,
+      c .before .before .before .before .before .before .before .before .before .before .before .before .before .before .before
+          .shared-slice-known .given i,
+    ) in
+    let bm : Bytes m = λ i. omega (
+      arith,
+      c .before .before .before .before .before .before .before .before .before .before .before .before .before .before .shared-slice-known2
+          .given i,
+    ) in
     let z = passed start in
     let settle = c .before .before .before .before .before .before .before .before .settle in
     let done = settle .result in
@@ -48,7 +56,12 @@ returns c =
     (rw (c .before .before .before .before .before .before .before .before .before .before .before .lesser .ensures .0) at (settle .ensures)) in
     let e = finish-answers s m bs bm z (a .limit) (length (a .out .now)) done figures own
     (rounds-are s m bs bm z (a .limit) done figures left) (table-holds s m bs bm z (a .limit) done figures left) in
-    rw (e, ← start .pre .0, ← c .before .before .before .before .vertices .ensures, ← c .before .before .before .before .before .before .before .before .before .before .before .lesser .ensures .0) (c .before .before .write .ensures)
+    rw (
+      e,
+      ← start .pre .0,
+      ← c .before .before .before .before .vertices .ensures,
+      ← c .before .before .before .before .before .before .before .before .before .before .before .lesser .ensures .0,
+    ) (c .before .before .write .ensures)
 
 pub answer-in-spec : {M : Type 1} → statement M
 answer-in-spec =

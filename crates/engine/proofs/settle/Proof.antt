@@ -29,7 +29,8 @@ read-values-requires c κs =
       accepted m (start .pre .0) .sizes .few-vertices,
       start .pre .1,
       start .pre .2,
-      all-sound (graph-of m) (read-sound m bm (start .pre .0) .0) (a .paths) (a .table) (start .pre .1) e (start .pre .2) _ _ _ (c .before .before .before .run .ensures),
+      all-sound (graph-of m) (read-sound m bm (start .pre .0) .0) (a .paths) (a .table) (start .pre .1) e (start .pre .2) _ _ _
+          (c .before .before .before .run .ensures),
     )
 
 returns : tie.Need-returns
@@ -37,9 +38,15 @@ returns c =
     let start = c .before .before .before .before .before .before .before .before .before .before .before .before .before in
     let a = start .args in
     let m = a .graph .now in
-    let bm : Bytes m = λ i. omega (arith, c .before .before .before .before .before .before .before .before .before .before .before .before .shared-slice-known .given i) in
-    let ran = rw (c .before .before .before .before .before .before .before .before .before .most .ensures, c .before .before .before .before .before .before .before .before .before .before .vertices .ensures) at (c .before .before .before .before .before .before .before .run .ensures) in
-    let read = rw (c .before .before .before .before .before .before .before .before .before .before .vertices .ensures) at (c .before .before .before .read-values .ensures) in
+    let bm : Bytes m = λ i. omega
+    (arith, c .before .before .before .before .before .before .before .before .before .before .before .before .shared-slice-known .given i) in
+    let ran = rw (
+      c .before .before .before .before .before .before .before .before .before .most .ensures,
+      c .before .before .before .before .before .before .before .before .before .before .vertices .ensures,
+    ) at
+    (c .before .before .before .before .before .before .before .run .ensures) in
+    let read = rw (c .before .before .before .before .before .before .before .before .before .before .vertices .ensures) at
+    (c .before .before .before .read-values .ensures) in
     rw (c .reported .ensures) (settled m bm (start .pre .0) (a .paths) (a .table) (start .pre .1) (omega arith) (start .pre .2) (a .limit) _ _ ran _ read)
 
 pub settle-spec : {M : Type 1} → statement M

@@ -22,10 +22,16 @@ returns c =
     let s = c .before .before .before .before .before .before .before .before .before .before in
     let a = s .args in
     let given : Given (a .graph .now) (a .path) =
-    record { bytes = λ i. omega (arith, c .before .before .before .before .before .before .before .before .before .shared-slice-known .given i); accepted = s .pre .0 .threads .accepted; fits = s .pre .2 } in
+    record {
+      bytes = λ i. omega (arith, c .before .before .before .before .before .before .before .before .before .shared-slice-known .given i);
+      accepted =
+          s .pre .0 .threads .accepted;
+      fits = s .pre .2;
+    } in
     let few = graph-legal (a .graph .now) (a .path) given .few-vertices in
     let l = next-least (a .figures .now) (a .j) 0 (omega arith) in
-    let end : at16 (a .graph .now) 5 ≤ next-member (a .figures .now) (a .j) 0 = omega (arith, c .before .before .before .vertices .ensures .0, c .before .next .ensures, c .if1 .taken) in (
+    let end : at16 (a .graph .now) 5 ≤ next-member (a .figures .now) (a .j) 0 = omega
+    (arith, c .before .before .before .vertices .ensures .0, c .before .next .ensures, c .if1 .taken) in (
       rests (a .graph .now) (a .path) given (a .j) (a .r) (a .figures .now) (s .pre .4)
           (λ v h. cell-mark (a .figures .now) (a .j) v ∙ l .none-before v (omega arith) (omega (arith, end))),
       refl,
@@ -37,11 +43,22 @@ push-round-requires c κs =
     let s = c .before .before .before .before .before .before .before .before .before .before .before .before .before in
     let a = s .args in
     let given : Given (a .graph .now) (a .path) =
-    record { bytes = λ i. omega (arith, c .before .before .before .before .before .before .before .before .before .before .before .before .shared-slice-known .given i); accepted = s .pre .0 .threads .accepted; fits = s .pre .2 } in
+    record {
+      bytes = λ i. omega
+          (arith, c .before .before .before .before .before .before .before .before .before .before .before .before .shared-slice-known .given i);
+      accepted =
+          s .pre .0 .threads .accepted;
+      fits = s .pre .2;
+    } in
     let few = graph-legal (a .graph .now) (a .path) given .few-vertices in
     let v = next-member (a .figures .now) (a .j) 0 in
     let l = next-least (a .figures .now) (a .j) 0 (omega arith) in
-    let h : v < at16 (a .graph .now) 5 = omega (arith, c .before .before .before .before .before .before .vertices .ensures .0, c .before .before .before .before .next .ensures, c .before .before .before .if1 .left) in
+    let h : v < at16 (a .graph .now) 5 = omega (
+      arith,
+      c .before .before .before .before .before .before .vertices .ensures .0,
+      c .before .before .before .before .next .ensures,
+      c .before .before .before .if1 .left,
+    ) in
     let early = awake-early (a .graph .now) (a .path) given (a .j) (a .r) (a .figures .now) (s .pre .4) v h
     (cell-mark (a .figures .now) (a .j) v ∙ l .passes (omega (arith, h, few))) in
     (s .pre .0, s .pre .1, s .pre .2, s .pre .3, early, s .pre .4 .sound, s .pre .5)
@@ -52,11 +69,22 @@ pull-round-requires c κs =
     let s = c .before .before .before .before .before .before .before .before .before .before .before .before .before in
     let a = s .args in
     let given : Given (a .graph .now) (a .path) =
-    record { bytes = λ i. omega (arith, c .before .before .before .before .before .before .before .before .before .before .before .before .shared-slice-known .given i); accepted = s .pre .0 .threads .accepted; fits = s .pre .2 } in
+    record {
+      bytes = λ i. omega
+          (arith, c .before .before .before .before .before .before .before .before .before .before .before .before .shared-slice-known .given i);
+      accepted =
+          s .pre .0 .threads .accepted;
+      fits = s .pre .2;
+    } in
     let few = graph-legal (a .graph .now) (a .path) given .few-vertices in
     let v = next-member (a .figures .now) (a .j) 0 in
     let l = next-least (a .figures .now) (a .j) 0 (omega arith) in
-    let h : v < at16 (a .graph .now) 5 = omega (arith, c .before .before .before .before .before .before .vertices .ensures .0, c .before .before .before .before .next .ensures, c .before .before .before .if1 .left) in
+    let h : v < at16 (a .graph .now) 5 = omega (
+      arith,
+      c .before .before .before .before .before .before .vertices .ensures .0,
+      c .before .before .before .before .next .ensures,
+      c .before .before .before .if1 .left,
+    ) in
     let early = awake-early (a .graph .now) (a .path) given (a .j) (a .r) (a .figures .now) (s .pre .4) v h
     (cell-mark (a .figures .now) (a .j) v ∙ l .passes (omega (arith, h, few))) in
     (s .pre .0 .threads, s .pre .1, s .pre .2, s .pre .3, early, s .pre .4 .sound, s .pre .5)
@@ -66,7 +94,15 @@ returns-2 c =
     let s = c .before .before .before .before .before .before .before .before .before .before .before .before .before .before .before .before .before .before in
     let a = s .args in
     let given : Given (a .graph .now) (a .path) =
-    record { bytes = λ i. omega (arith, c .before .before .before .before .before .before .before .before .before .before .before .before .before .before .before .before .before .shared-slice-known .given i); accepted = s .pre .0 .threads .accepted; fits = s .pre .2 } in
+    record {
+      bytes = λ i. omega (
+        arith,
+        c .before .before .before .before .before .before .before .before .before .before .before .before .before .before .before .before .before
+            .shared-slice-known .given i,
+      );
+      accepted = s .pre .0 .threads .accepted;
+      fits = s .pre .2;
+    } in
     let t = c .before .before .before .before .push-round in
     (push-stands (a .graph .now) (a .path) given (a .j) (a .r) (a .figures .now) (s .pre .4) _ _ (t .ensures .0), t .ensures .1)
 
@@ -75,7 +111,15 @@ returns-3 c =
     let s = c .before .before .before .before .before .before .before .before .before .before .before .before .before .before .before .before .before .before in
     let a = s .args in
     let given : Given (a .graph .now) (a .path) =
-    record { bytes = λ i. omega (arith, c .before .before .before .before .before .before .before .before .before .before .before .before .before .before .before .before .before .shared-slice-known .given i); accepted = s .pre .0 .threads .accepted; fits = s .pre .2 } in
+    record {
+      bytes = λ i. omega (
+        arith,
+        c .before .before .before .before .before .before .before .before .before .before .before .before .before .before .before .before .before
+            .shared-slice-known .given i,
+      );
+      accepted = s .pre .0 .threads .accepted;
+      fits = s .pre .2;
+    } in
     let t = c .before .before .before .before .pull-round in
     (pull-stands (a .graph .now) (a .path) given (a .j) (a .r) (a .figures .now) (s .pre .4) _ _ (t .ensures .0), t .ensures .1)
 
@@ -84,7 +128,14 @@ advance-spec =
     tie.close
     (tie.spec
     (λ c κs. c .before .before .before .before .before .before .pre .0 .threads .accepted)
-    (λ c κs. (omega arith, omega (arith, c .before .before .before .before .before .before .before .before .pre .1, c .before .before .before .before .before .before .before .before .pre .4 .sound .long)))
+    (λ c κs. (
+      omega arith,
+      omega (
+        arith,
+        c .before .before .before .before .before .before .before .before .pre .1,
+        c .before .before .before .before .before .before .before .before .pre .4 .sound .long,
+      ),
+    ))
     (λ c. refl)
     returns
     push-round-requires

@@ -54,7 +54,13 @@ loop-again c =
       omega arith,
       rw (add-one (l .j))
           (started-more (a .graph .now) (a .t3) (l .j) (omega (arith, s .pre .1))
-          (record { bytes = λ i. omega (arith, c .before .before .before .before .before .before .before .before .before .shared-slice-known .given i); accepted = s .pre .0; fits = fits })
+          (record {
+            bytes = λ i. omega
+                (arith, c .before .before .before .before .before .before .before .before .before .shared-slice-known .given i);
+            accepted = s .pre .0;
+            fits =
+                fits;
+          })
           (l .figures) _ (l .inv .2) (c .before .before .initialize-at .ensures)),
       c .before .before .initialize-at .kept .1 .1 .1 .1 .0 ∙ l .inv .3,
     )

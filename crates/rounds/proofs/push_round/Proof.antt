@@ -13,21 +13,39 @@ step-requires c κs =
     let s = c .before .before .before .before .before .before .before .before .before .before .before .before .before .before in
     let a = s .args in
     let given : Given (a .graph .now) (a .path) =
-    record { bytes = λ i. omega (arith, c .before .before .before .before .before .before .before .before .before .before .before .before .before .shared-slice-known .given i); accepted = s .pre .0 .threads .accepted; fits = s .pre .2 } in
+    record {
+      bytes = λ i. omega
+          (arith, c .before .before .before .before .before .before .before .before .before .before .before .before .before .shared-slice-known .given i);
+      accepted = s .pre .0 .threads .accepted;
+      fits = s .pre .2;
+    } in
     rw (s .pre .3)
     (push-ready (a .graph .now) (a .path) given (a .j) (s .pre .1) (a .r) (s .pre .4) (a .figures .now) (s .pre .5) (a .work .now) _ (s .pre .6)
-    (a .heads .now) (a .nexts .now) (a .successors .now) (s .pre .0) (rw (c .before .before .before .before .before .before .before .vertices .ensures .0) at (c .before .before .before .before .touch .ensures)))
+    (a .heads .now) (a .nexts .now) (a .successors .now) (s .pre .0)
+    (rw (c .before .before .before .before .before .before .before .vertices .ensures .0) at (c .before .before .before .before .touch .ensures)))
 
 returns : tie.Need-returns
 returns c =
-    let s = c .before .before .before .before .before .before .before .before .before .before .before .before .before .before .before .before .before .before .before in
+    let s = c .before .before .before .before .before .before .before .before .before .before .before .before .before .before .before .before .before
+    .before .before in
     let a = s .args in
     let given : Given (a .graph .now) (a .path) =
-    record { bytes = λ i. omega (arith, c .before .before .before .before .before .before .before .before .before .before .before .before .before .before .before .before .before .before .shared-slice-known .given i); accepted = s .pre .0 .threads .accepted; fits = s .pre .2 } in (
+    record {
+      bytes = λ i. omega (
+        arith,
+        c .before .before .before .before .before .before .before .before .before .before .before .before .before .before .before .before .before
+            .before .shared-slice-known .given i,
+      );
+      accepted = s .pre .0 .threads .accepted;
+      fits = s .pre .2;
+    } in (
       push-round-at (a .graph .now) (a .path) given (a .j) (s .pre .1) (a .r) (s .pre .4) (a .figures .now) (s .pre .5) (a .work .now) _ (s .pre .6)
-          (a .heads .now) (a .nexts .now) (a .successors .now) (s .pre .0) (rw (c .before .before .before .before .before .before .before .before .before .before .before .before .vertices .ensures .0) at (c .before .before .before .before .before .before .before .before .before .touch .ensures)) _ _
+          (a .heads .now) (a .nexts .now) (a .successors .now) (s .pre .0)
+          (rw (c .before .before .before .before .before .before .before .before .before .before .before .before .vertices .ensures .0) at
+          (c .before .before .before .before .before .before .before .before .before .touch .ensures)) _ _
           (rw (s .pre .3) at (c .before .before .before .before .step .ensures .0)),
-      c .before .before .before .before .step .ensures .1 ∙ c .before .before .before .before .before .before .before .before .before .touch .kept .1 .1 .1 .1 .0,
+      c .before .before .before .before .step .ensures .1
+          ∙ c .before .before .before .before .before .before .before .before .before .touch .kept .1 .1 .1 .1 .0,
     )
 
 pub push-round-spec : {M : Type 1} → statement M
@@ -44,5 +62,6 @@ push-round-spec =
     ))
     step-requires
     (λ c. c .before .before .before .before .step .kept .1 .1 .1 .1 .1 .0)
-    (λ c. c .before .before .before .before .step .ensures .1 ∙ c .before .before .before .before .before .before .before .before .before .touch .kept .1 .1 .1 .1 .0)
+    (λ c. c .before .before .before .before .step .ensures .1
+    ∙ c .before .before .before .before .before .before .before .before .before .touch .kept .1 .1 .1 .1 .0)
     returns)

@@ -57,5 +57,6 @@ returns c =
 pub result-of-spec : {M : Type 1} → statement M
 result-of-spec =
     tie.close
-    (tie.spec Inv-loop μ-loop (λ c κs. search needs) loop-holds entry-at-requires (λ c κs. search needs) (λ c. search needs) (λ c. search needs) loop-again
+    (tie.spec Inv-loop μ-loop (λ c κs. search needs) loop-holds entry-at-requires (λ c κs. search needs) (λ c. search needs)
+    (λ c. search needs) loop-again
     (λ c κs. search needs) returns)

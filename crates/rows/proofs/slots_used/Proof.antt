@@ -44,5 +44,6 @@ returns c =
 pub slots-used-spec : {M : Type 1} → statement M
 slots-used-spec =
     tie.close
-    (tie.spec Inv-loop μ-loop (λ c κs. search needs) loop-holds (λ c. search needs) array-read-used (λ c. search needs) array-write-used (λ c. search needs)
+    (tie.spec Inv-loop μ-loop (λ c κs. search needs) loop-holds (λ c. search needs) array-read-used (λ c. search needs) array-write-used
+    (λ c. search needs)
     (λ c. search needs) loop-again returns)

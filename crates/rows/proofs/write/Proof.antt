@@ -87,7 +87,8 @@ returns-3 c =
     let used = counted .before .slots-used in
     let value = made .final-of .ensures
     ∙ ap (λ (k : ℕ). final-found k plan (counted .count-at .result + 1) (rows-at figures (used .result) 8) (a .n)) count
-    ∙ ap₂ (λ (i : ℕ) (used : List ℕ). final-found (min (getD plan (count-at plan) 0) 8) plan (i + 1) (rows-at figures used 8) (a .n)) at (used .ensures) in
+    ∙ ap₂ (λ (i : ℕ) (used : List ℕ). final-found (min (getD plan (count-at plan) 0) 8) plan (i + 1) (rows-at figures used 8) (a .n)) at
+    (used .ensures) in
     let rows = ap (λ (v : Value). row v ∷ []) value ∙ body-one plan figures (a .slots) (a .paths) (a .n) (fields .few-vertices) other in
     let reply = sym (reply-one (a .n) (a .rounds) (made .final-of .result) (values (replicate 255 (row Absent))) room)
     ∙ ap₂ (λ (k : ℕ) (rows : List Row). answer-reply (a .n) (a .rounds) k (values (many rows)) room) kind rows in
@@ -97,6 +98,7 @@ returns-3 c =
 pub write-spec : {M : Type 1} → statement M
 write-spec =
     tie.close
-    (tie.spec (λ c κs. search needs) (λ c κs. search needs) (λ c. search needs) (λ c. search needs) returns (λ c κs. search needs) (λ c κs. search needs)
+    (tie.spec (λ c κs. search needs) (λ c κs. search needs) (λ c. search needs) (λ c. search needs) returns (λ c κs. search needs)
+    (λ c κs. search needs)
     (λ c. search needs) entry-rows-requires (λ c κs. search needs) (λ c. search needs) returns-2 (λ c κs. search needs) (λ c κs. search needs)
     (λ c κs. search needs) (λ c. search needs) final-of-requires (λ c κs. search needs) (λ c. search needs) returns-3)

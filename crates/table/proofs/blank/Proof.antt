@@ -26,6 +26,11 @@ blank-spec =
     (λ c. omega (arith, c .before .before .pre, c .before .loop .inv .1 .room))
     (λ c. omega arith)
     (λ c. omega arith)
-    (λ c. (omega arith, upto-more (λ u. false) 0 [] (c .before .before .args .work .now) (c .before .loop .work) (c .before .loop .v) _ (omega (arith, c .before .before .pre)) refl (c .before .loop .inv .1)))
+    (λ c. (
+      omega arith,
+      upto-more (λ u. false) 0 [] (c .before .before .args .work .now) (c .before .loop .work) (c .before .loop .v) _
+          (omega (arith, c .before .before .pre)) refl (c .before .loop .inv .1),
+    ))
     (λ c. c .before .loop .inv .1 .room)
-    (λ c. upto-all (λ u. false) 0 [] (c .before .before .args .work .now) (c .before .before .args .n) (c .before .loop .work) (c .before .loop .v) (omega arith) (c .before .loop .inv .1)))
+    (λ c. upto-all (λ u. false) 0 [] (c .before .before .args .work .now) (c .before .before .args .n) (c .before .loop .work) (c .before .loop .v)
+    (omega arith) (c .before .loop .inv .1)))

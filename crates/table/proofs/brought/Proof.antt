@@ -17,7 +17,11 @@ through-requires c κs =
     }
 
 returns : tie.Need-returns
-returns c = rw (sym (c .before .before .before .before .from-at .ensures .0), sym (c .before .before .before .field-at .ensures .0), sym (c .before .before .field-at2 .ensures .0)) (c .through .ensures)
+returns c = rw (
+  sym (c .before .before .before .before .from-at .ensures .0),
+  sym (c .before .before .before .field-at .ensures .0),
+  sym (c .before .before .field-at2 .ensures .0),
+) (c .through .ensures)
 
 pub brought-spec : {M : Type 1} → statement M
 brought-spec =

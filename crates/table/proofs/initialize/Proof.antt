@@ -15,7 +15,8 @@ use Rattle.packed_path.specs.Steps.{begins}
 use Rattle.packed_figures.specs.declared.PathConstants.{PathConstants}
 use Rattle.table.specs.Table.{cell, cell-in}
 use Rattle.table.specs.Steps.{started, word-in}
-use Rattle.table.proofs.Cells.{cell-same, cells-same, marked-elsewhere, marked-here, marked-other, marked-size, replaced-words, stored-here, stored-marks, stored-slot, stored-vertex}
+use Rattle.table.proofs.Cells.{cell-same, cells-same, marked-elsewhere, marked-here, marked-other, marked-size, replaced-words, stored-here}
+use Rattle.table.proofs.Cells.{stored-marks, stored-slot, stored-vertex}
 use Rattle.table.proofs.initialize.Statement.{statement}
 use Rattle.table.proofs.initialize.Tie as tie
 
@@ -96,7 +97,8 @@ loop-holds c =
       record {
         words = λ u h. absurd (omega arith);
         marks = λ u h k. absurd (omega arith);
-        blank = λ u h k. ap (λ (l : List ℕ). member l (s .args .j) u) e ∙ cleared (s .args .j) (s .args .figures .now) u k (omega (arith, s .pre .2, s .pre .3));
+        blank = λ u h k. ap (λ (l : List ℕ). member l (s .args .j) u) e
+            ∙ cleared (s .args .j) (s .args .figures .now) u k (omega (arith, s .pre .2, s .pre .3));
         others = λ i h n u k. refl;
         size = refl;
       },

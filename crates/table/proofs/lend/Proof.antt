@@ -28,15 +28,18 @@ loop-holds c =
     rw (c .next .ensures) (
       h .most,
       h .passes,
-      upto-passed live (a .j) (a .figures .now) (c .before .before .before .blank .last .1 .0) (a .n) (λ u k. c .before .before .before .blank .ensures .words u k)
-          (c .before .before .before .blank .last .1 .0) 0 (min (next-member (a .figures .now) (a .j) 0) (a .n)) (omega arith) (omega arith) (λ u k l. h .none-before u k (omega arith))
+      upto-passed live (a .j) (a .figures .now) (c .before .before .before .blank .last .1 .0) (a .n)
+          (λ u k. c .before .before .before .blank .ensures .words u k)
+          (c .before .before .before .blank .last .1 .0) 0 (min (next-member (a .figures .now) (a .j) 0) (a .n)) (omega arith) (omega arith)
+          (λ u k l. h .none-before u k (omega arith))
           (upto-none live (a .j) (a .figures .now) (c .before .before .before .blank .last .1 .0)),
     )
 
 loop-less : tie.Need-loop-less Inv-loop μ-loop
 loop-less c =
     let a = c .before .before .before .before .before .before .before .before .before .before .before .args in
-    let h = next-least (a .figures .now) (a .j) (c .before .before .before .loop .u + 1) (omega (arith, c .before .before .before .before .before .before .before .before .before .before .before .pre .1)) in
+    let h = next-least (a .figures .now) (a .j) (c .before .before .before .loop .u + 1)
+    (omega (arith, c .before .before .before .before .before .before .before .before .before .before .before .pre .1)) in
     omega (arith, c .next2 .ensures, h .from)
 
 loop-again : tie.Need-loop-again Inv-loop μ-loop
@@ -55,9 +58,11 @@ loop-again c =
     rw (c .next2 .ensures) (
       h .most,
       h .passes,
-      upto-passed live (a .j) (a .figures .now) base (a .n) (λ u k. c .before .before .before .before .before .before .before .blank .ensures .words u k) _ (l .u + 1) (min next (a .n))
+      upto-passed live (a .j) (a .figures .now) base (a .n) (λ u k. c .before .before .before .before .before .before .before .blank .ensures .words u k) _
+          (l .u + 1) (min next (a .n))
           (omega (arith, h .from)) (omega arith) (λ u k w. h .none-before u k (omega arith))
-          (upto-more live (a .j) (a .figures .now) base (l .work) (l .u) _ (omega (arith, s .pre .3, c .before .before .before .before .before .before .before .blank .ensures .room)) (rw m refl) p),
+          (upto-more live (a .j) (a .figures .now) base (l .work) (l .u) _
+          (omega (arith, s .pre .3, c .before .before .before .before .before .before .before .blank .ensures .room)) (rw m refl) p),
     )
 
 returns : tie.Need-returns Inv-loop μ-loop
@@ -65,7 +70,8 @@ returns c =
     let a = c .before .before .before .before .before .before .before .before .before .args in
     let l = c .before .loop in
     let b = c .before .before .before .before .before .blank in
-    let p = upto-all (member (a .figures .now) (a .j)) (a .j) (a .figures .now) (b .last .1 .0) (a .n) (l .work) (min (l .u) (a .n)) (omega arith) (l .inv .2) in
+    let p = upto-all (member (a .figures .now) (a .j)) (a .j) (a .figures .now) (b .last .1 .0) (a .n) (l .work) (min (l .u) (a .n)) (omega arith)
+    (l .inv .2) in
     record {
       words = p .words;
       sets = λ f h v k. p .sets f h v k ∙ b .ensures .sets f h v k;
@@ -79,18 +85,45 @@ lend-spec =
     Inv-loop
     μ-loop
     (λ c κs. c .before .before .before .pre .3)
-    (λ c κs. (omega arith, omega (arith, c .before .before .before .before .before .before .pre .0, c .before .before .before .before .before .before .pre .2)))
+    (λ c κs. (
+      omega arith,
+      omega (arith, c .before .before .before .before .before .before .pre .0, c .before .before .before .before .before .before .pre .2),
+    ))
     loop-holds
     (λ c. omega (arith, c .before .before .before .before .before .before .before .before .before .pre .1))
     (λ c. omega (arith, c .before .before .before .before .before .before .before .before .before .pre .1))
-    (λ c. omega (arith, c .before .before .before .before .before .before .before .before .before .pre .1, c .before .before .before .before .before .before .before .before .before .pre .0))
-    (λ c. omega (arith, c .before .before .before .before .before .before .before .before .before .pre .1, c .before .before .before .before .before .before .before .before .before .pre .0))
-    (λ c. omega (arith, c .before .before .before .before .before .before .before .before .before .before .pre .0, c .before .before .before .before .before .before .before .before .before .before .pre .2))
+    (λ c. omega (
+      arith,
+      c .before .before .before .before .before .before .before .before .before .pre .1,
+      c .before .before .before .before .before .before .before .before .before .pre .0,
+    ))
+    (λ c. omega (
+      arith,
+      c .before .before .before .before .before .before .before .before .before .pre .1,
+      c .before .before .before .before .before .before .before .before .before .pre .0,
+    ))
+    (λ c. omega (
+      arith,
+      c .before .before .before .before .before .before .before .before .before .before .pre .0,
+      c .before .before .before .before .before .before .before .before .before .before .pre .2,
+    ))
     (λ c. omega (arith, c .before .before .before .before .before .before .before .before .before .before .pre .1))
     (λ c. omega (arith, c .before .before .before .before .before .before .before .before .before .before .pre .1))
-    (λ c. omega (arith, c .before .before .before .before .before .before .before .before .before .before .pre .3, c .before .before .loop .inv .2 .room, c .before .before .before .before .before .before .blank .ensures .room))
+    (λ c. omega (
+      arith,
+      c .before .before .before .before .before .before .before .before .before .before .pre .3,
+      c .before .before .loop .inv .2 .room,
+      c .before .before .before .before .before .before .blank .ensures .room,
+    ))
     (λ c. omega (arith, c .before .before .before .before .before .before .before .before .before .before .pre .1))
-    (λ c κs. (omega (arith, c .before .before .before .before .before .before .before .before .before .before .pre .1), omega (arith, c .before .before .before .before .before .before .before .before .before .before .pre .0, c .before .before .before .before .before .before .before .before .before .before .pre .2)))
+    (λ c κs. (
+      omega (arith, c .before .before .before .before .before .before .before .before .before .before .pre .1),
+      omega (
+        arith,
+        c .before .before .before .before .before .before .before .before .before .before .pre .0,
+        c .before .before .before .before .before .before .before .before .before .before .pre .2,
+      ),
+    ))
     loop-less
     loop-again
     (λ c. c .before .loop .inv .2 .room ∙ c .before .before .before .before .before .blank .ensures .room)

@@ -69,7 +69,8 @@ loop-again c =
     let e = next-same g (a .heads .now) (a .nexts .now) t (a .v) (reduced-upto g (a .c) (a .work .now) (a .word) (a .v))
     (keep g (a .c) (a .work .now) (a .word) (a .v)) (l .i) there enter in
     let b : c .before .before .least .result ≡ reduced-upto g (a .c) (a .work .now) (a .word) (a .v) (suc (l .i)) =
-    c .before .before .least .ensures ∙ rw (l .inv .2, c .before .before .before .brought .ensures) (take g (a .c) (a .work .now) (a .word) (a .v) (l .i) enter) in
+    c .before .before .least .ensures ∙ rw (l .inv .2, c .before .before .before .brought .ensures)
+    (take g (a .c) (a .work .now) (a .word) (a .v) (l .i) enter) in
     rw (c .row-number2 .ensures) (h .most, h .enters-it, b ∙ sym e)
 
 returns : tie.Need-returns Inv-loop μ-loop
@@ -90,10 +91,17 @@ reduced-spec =
     (λ c. omega (arith, c .before .before .before .before .before .before .pre .0 .heads-fit))
     (λ c κs. tt)
     loop-holds
-    (λ c κs. (c .before .before .before .before .before .before .before .before .before .pre .0 .lends, omega (arith, c .before .before .before .before .rows .ensures .0)))
+    (λ c κs. (
+      c .before .before .before .before .before .before .before .before .before .pre .0 .lends,
+      omega (arith, c .before .before .before .before .rows .ensures .0),
+    ))
     (λ c κs. tt)
     (λ c. omega arith)
-    (λ c. omega (arith, c .before .before .before .before .before .before .before .before .before .before .before .before .pre .0 .nexts-fit, c .before .before .before .before .before .before .before .rows .ensures .0))
+    (λ c. omega (
+      arith,
+      c .before .before .before .before .before .before .before .before .before .before .before .before .pre .0 .nexts-fit,
+      c .before .before .before .before .before .before .before .rows .ensures .0,
+    ))
     (λ c κs. tt)
     loop-less
     loop-again

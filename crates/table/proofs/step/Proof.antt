@@ -19,15 +19,23 @@ walk-requires c κs =
 
 returns : tie.Need-returns
 returns c =
-    let s = c .before .before .before .before .before .before .before .before .before .before .before .before .before .before .before .before .before .before .before .before .before .before .before .before .before .before .before in
+    let s = c .before .before .before .before .before .before .before .before .before .before .before .before .before .before .before .before .before
+    .before .before .before .before .before .before .before .before .before .before in
     let a = s .args in
     let t = c .before .before .before .before .before .before .before .before .before .before .before .before .before .before .before .walk in
     let figures : List ℕ = t .last .1 .1 .1 .1 .1 .0 in
     let work : List ℕ = t .last .1 .1 .1 .1 .1 .1 .0 in (
-      rw (c .next .ensures, c .before .before .before .before .join .ensures, c .before .before .before .before .before .before .before .before .before .clear2 .ensures)
+      rw (
+        c .next .ensures,
+        c .before .before .before .before .join .ensures,
+        c .before .before .before .before .before .before .before .before .before .clear2 .ensures,
+      )
           (stepped (a .graph .now) (a .c) (a .j) (a .heads .now) (a .nexts .now) (a .figures .now) (a .work .now) (s .pre) figures work
-          (rw (c .before .before .before .before .before .before .before .before .before .before .before .before .before .before .before .before .before .before .before .before .clear .ensures) at (t .ensures))),
-      t .kept .1 .1 .1 .1 .1 .1 .0 ∙ c .before .before .before .before .before .before .before .before .before .before .before .before .before .before .before .before .before .before .before .before .clear .kept .0,
+          (rw (c .before .before .before .before .before .before .before .before .before .before .before .before .before .before .before .before .before
+          .before .before .before .clear .ensures) at (t .ensures))),
+      t .kept .1 .1 .1 .1 .1 .1 .0
+          ∙ c .before .before .before .before .before .before .before .before .before .before .before .before .before .before .before .before .before
+          .before .before .before .clear .kept .0,
     )
 
 pub step-spec : {M : Type 1} → statement M
@@ -36,12 +44,48 @@ step-spec =
     (tie.spec
     (λ c κs. omega (arith, c .before .before .before .before .before .before .pre .edges .lends .work-fits))
     walk-requires
-    (λ c κs. omega (arith, c .before .before .before .before .before .before .before .before .before .before .before .before .before .before .before .before .before .pre .slot, c .before .before .before .before .before .before .before .before .before .before .before .before .before .before .before .before .before .pre .table-fits, c .before .before .before .before .before .walk .kept .1 .1 .1 .1 .1 .0))
-    (λ c κs. (
-      omega (arith, c .before .before .before .before .before .before .before .before .before .before .before .before .before .before .before .before .before .before .before .before .before .before .pre .slot, c .before .before .before .before .before .before .before .before .before .before .before .before .before .before .before .before .before .before .before .before .before .before .pre .table-fits, c .before .before .before .before .before .before .before .before .before .before .walk .kept .1 .1 .1 .1 .1 .0, c .before .before .before .before .clear2 .kept .0),
-      omega (arith, c .before .before .before .before .before .before .before .before .before .before .before .before .before .before .before .before .before .before .before .before .before .before .pre .edges .lends .work-fits, c .before .before .before .before .before .before .before .before .before .before .walk .kept .1 .1 .1 .1 .1 .1 .0, c .before .before .before .before .before .before .before .before .before .before .before .before .before .before .before .clear .kept .0),
+    (λ c κs. omega (
+      arith,
+      c .before .before .before .before .before .before .before .before .before .before .before .before .before .before .before .before .before .pre
+          .slot,
+      c .before .before .before .before .before .before .before .before .before .before .before .before .before .before .before .before .before
+          .pre .table-fits,
+      c .before .before .before .before .before .walk .kept .1 .1 .1 .1 .1 .0,
     ))
-    (λ c κs. (omega arith, omega (arith, c .before .before .before .before .before .before .before .before .before .before .before .before .before .before .before .before .before .before .before .before .before .before .before .before .before .before .pre .edges .lends .work-fits, c .before .before .before .before .before .before .before .before .before .before .before .before .before .before .walk .kept .1 .1 .1 .1 .1 .1 .0, c .before .before .before .before .before .before .before .before .before .before .before .before .before .before .before .before .before .before .before .clear .kept .0)))
-    (λ c. c .before .before .before .before .join .kept .0 ∙ c .before .before .before .before .before .before .before .before .before .clear2 .kept .0 ∙ c .before .before .before .before .before .before .before .before .before .before .before .before .before .before .before .walk .kept .1 .1 .1 .1 .1 .0)
-    (λ c. c .before .before .before .before .before .before .before .before .before .before .before .before .before .before .before .walk .kept .1 .1 .1 .1 .1 .1 .0 ∙ c .before .before .before .before .before .before .before .before .before .before .before .before .before .before .before .before .before .before .before .before .clear .kept .0)
+    (λ c κs. (
+      omega (
+        arith,
+        c .before .before .before .before .before .before .before .before .before .before .before .before .before .before .before .before
+            .before .before .before .before .before .before .pre .slot,
+        c .before .before .before .before .before .before .before .before .before .before .before .before .before .before .before .before .before
+            .before .before .before .before .before .pre .table-fits,
+        c .before .before .before .before .before .before .before .before .before .before .walk .kept .1 .1 .1 .1 .1 .0,
+        c .before .before .before .before .clear2 .kept .0,
+      ),
+      omega (
+        arith,
+        c .before .before .before .before .before .before .before .before .before .before .before .before .before .before .before .before
+            .before .before .before .before .before .before .pre .edges .lends .work-fits,
+        c .before .before .before .before .before .before .before .before .before .before .walk .kept .1 .1 .1 .1 .1 .1 .0,
+        c .before .before .before .before .before .before .before .before .before .before .before .before .before .before .before .clear .kept .0,
+      ),
+    ))
+    (λ c κs. (
+      omega arith,
+      omega (
+        arith,
+        c .before .before .before .before .before .before .before .before .before .before .before .before .before .before .before .before
+            .before .before .before .before .before .before .before .before .before .before .pre .edges .lends .work-fits,
+        c .before .before .before .before .before .before .before .before .before .before .before .before .before .before .walk .kept .1 .1 .1 .1 .1
+            .1 .0,
+        c .before .before .before .before .before .before .before .before .before .before .before .before .before .before .before .before
+            .before .before .before .clear .kept .0,
+      ),
+    ))
+    (λ c. c .before .before .before .before .join .kept .0 ∙ c .before .before .before .before .before .before .before .before .before .clear2 .kept .0
+    ∙ c .before .before .before .before .before .before .before .before .before .before .before .before .before .before .before .walk .kept .1 .1 .1 .1
+    .1 .0)
+    (λ c. c .before .before .before .before .before .before .before .before .before .before .before .before .before .before .before .walk .kept .1 .1 .1 .1
+    .1 .1 .0 ∙ c .before .before .before .before .before .before .before .before .before .before .before .before .before .before .before .before .before
+    .before .before .before .clear .kept .0)
     returns)

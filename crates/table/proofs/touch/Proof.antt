@@ -23,10 +23,15 @@ returns c =
       words = l .words;
       walked = λ v h.
           l .sets 0 (omega arith) v h
-          ∙ rw (c .before .before .before .before .before .before .join-chosen .ensures, c .before .before .before .before .before .before .before .before .before .before .clear .ensures)
+          ∙ rw (
+            c .before .before .before .before .before .before .join-chosen .ensures,
+            c .before .before .before .before .before .before .before .before .before .before .clear .ensures,
+          )
           (member-chosen (emptied before 0) 0 figures (a .j) successors (a .n) v h (omega (arith, s .pre .4, size))
-          ∙ ap (λ (b : Bool). b || some-below (λ g. member figures (a .j) g && member successors g v) (a .n)) (member-emptied before 0 0 v h (omega (arith, s .pre .4))));
-      room = l .room ∙ c .before .before .before .before .before .before .join-chosen .kept .0 ∙ c .before .before .before .before .before .before .before .before .before .before .clear .kept .0;
+          ∙ ap (λ (b : Bool). b || some-below (λ g. member figures (a .j) g && member successors g v) (a .n))
+          (member-emptied before 0 0 v h (omega (arith, s .pre .4))));
+      room = l .room ∙ c .before .before .before .before .before .before .join-chosen .kept .0
+          ∙ c .before .before .before .before .before .before .before .before .before .before .clear .kept .0;
     }
 
 pub touch-spec : {M : Type 1} → statement M
@@ -34,7 +39,27 @@ touch-spec =
     tie.close
     (tie.spec
     (λ c κs. omega (arith, c .before .before .before .before .pre .4))
-    (λ c κs. (omega (arith, c .before .before .before .before .before .before .before .before .pre .4, c .before .before .before .clear .kept .0), omega (arith, c .before .before .before .before .before .before .before .before .pre .0, c .before .before .before .before .before .before .before .before .pre .2), c .before .before .before .before .before .before .before .before .pre .1, c .before .before .before .before .before .before .before .before .pre .3))
-    (λ c κs. (c .before .before .before .before .before .before .before .before .before .before .before .before .pre .0, c .before .before .before .before .before .before .before .before .before .before .before .before .pre .1, c .before .before .before .before .before .before .before .before .before .before .before .before .pre .2, omega (arith, c .before .before .before .before .before .before .before .before .before .before .before .before .pre .4, c .before .before .before .join-chosen .kept .0, c .before .before .before .before .before .before .before .clear .kept .0)))
-    (λ c. c .before .before .lend .ensures .room ∙ c .before .before .before .before .before .before .join-chosen .kept .0 ∙ c .before .before .before .before .before .before .before .before .before .before .clear .kept .0)
+    (λ c κs. (
+      omega (arith, c .before .before .before .before .before .before .before .before .pre .4, c .before .before .before .clear .kept .0),
+      omega (
+        arith,
+        c .before .before .before .before .before .before .before .before .pre .0,
+        c .before .before .before .before .before .before .before .before .pre .2,
+      ),
+      c .before .before .before .before .before .before .before .before .pre .1,
+      c .before .before .before .before .before .before .before .before .pre .3,
+    ))
+    (λ c κs. (
+      c .before .before .before .before .before .before .before .before .before .before .before .before .pre .0,
+      c .before .before .before .before .before .before .before .before .before .before .before .before .pre .1,
+      c .before .before .before .before .before .before .before .before .before .before .before .before .pre .2,
+      omega (
+        arith,
+        c .before .before .before .before .before .before .before .before .before .before .before .before .pre .4,
+        c .before .before .before .join-chosen .kept .0,
+        c .before .before .before .before .before .before .before .clear .kept .0,
+      ),
+    ))
+    (λ c. c .before .before .lend .ensures .room ∙ c .before .before .before .before .before .before .join-chosen .kept .0
+    ∙ c .before .before .before .before .before .before .before .before .before .before .clear .kept .0)
     returns)

@@ -27,6 +27,10 @@ touch-all-spec =
     tie.close
     (tie.spec
     (λ c κs. omega (arith, c .before .before .before .pre .3))
-    (λ c κs. (c .before .before .before .before .before .before .before .pre .0, c .before .before .before .before .before .before .before .pre .2, omega (arith, c .before .before .before .before .before .before .before .pre .3, c .before .before .before .fill .kept .0)))
+    (λ c κs. (
+      c .before .before .before .before .before .before .before .pre .0,
+      c .before .before .before .before .before .before .before .pre .2,
+      omega (arith, c .before .before .before .before .before .before .before .pre .3, c .before .before .before .fill .kept .0),
+    ))
     (λ c. c .before .before .lend-all .ensures .room ∙ c .before .before .before .before .before .before .fill .kept .0)
     returns)

@@ -46,7 +46,16 @@ walk-at-requires c κs =
     )
 
 next-requires-2 : tie.Need-next-requires-2 Inv-loop μ-loop
-next-requires-2 c κs = (omega arith, omega (arith, c .before .before .before .before .before .walk-at .kept .1 .1 .1 .1 .1 .1 .1 .0, c .before .before .before .before .before .before .before .before .before .loop .inv .2 .room, c .before .before .before .before .before .before .before .before .before .before .before .before .before .before .before .before .before .pre .0 .edges .lends .work-fits))
+next-requires-2 c κs = (
+  omega arith,
+  omega (
+    arith,
+    c .before .before .before .before .before .walk-at .kept .1 .1 .1 .1 .1 .1 .1 .0,
+    c .before .before .before .before .before .before .before .before .before .loop .inv .2 .room,
+    c .before .before .before .before .before .before .before .before .before .before .before .before .before .before .before .before .before .pre
+        .0 .edges .lends .work-fits,
+  ),
+)
 
 loop-less : tie.Need-loop-less Inv-loop μ-loop
 loop-less c =

@@ -10,7 +10,11 @@ use Rattle.table.proofs.walk_at.Tie as tie
 
 returns : tie.Need-returns
 unfolding walked-word walked-mark
-returns c = (rw (c .before .before .before .before .reduced .ensures), c .before .before .insert-if .ensures ∙ rw (c .before .before .before .before .reduced .ensures))
+returns c = (
+  rw (c .before .before .before .before .reduced .ensures),
+  c .before .before .insert-if .ensures
+      ∙ rw (c .before .before .before .before .reduced .ensures),
+)
 
 pub walk-at-spec : {M : Type 1} → statement M
 walk-at-spec =
@@ -20,12 +24,27 @@ walk-at-spec =
     (λ c. omega arith)
     (λ c. omega arith)
     (λ c. omega arith)
-    (λ c. omega (arith, c .before .before .before .before .before .before .pre .0 .table-fits, c .before .before .before .before .before .before .pre .0 .slot, c .before .before .before .before .before .before .pre .1))
+    (λ c. omega (
+      arith,
+      c .before .before .before .before .before .before .pre .0 .table-fits,
+      c .before .before .before .before .before .before .pre .0 .slot,
+      c .before .before .before .before .before .before .pre .1,
+    ))
     (λ c κs. (c .before .before .before .before .before .before .before .pre .0 .edges, c .before .before .before .before .before .before .before .pre .1))
     (λ c. omega arith)
-    (λ c. omega (arith, c .before .before .before .before .before .before .before .before .pre .0 .table-fits, c .before .before .before .before .before .before .before .before .pre .0 .slot, c .before .before .before .before .before .before .before .before .pre .1))
+    (λ c. omega (
+      arith,
+      c .before .before .before .before .before .before .before .before .pre .0 .table-fits,
+      c .before .before .before .before .before .before .before .before .pre .0 .slot,
+      c .before .before .before .before .before .before .before .before .pre .1,
+    ))
     (λ c κs. (
-      omega (arith, c .before .before .before .before .before .before .before .before .before .pre .1, accepted (c .before .before .before .before .before .before .before .before .before .args .graph .now) (c .before .before .before .before .before .before .before .before .before .pre .0 .edges .lends .accepted) .sizes .few-vertices),
+      omega (
+        arith,
+        c .before .before .before .before .before .before .before .before .before .pre .1,
+        accepted (c .before .before .before .before .before .before .before .before .before .args .graph .now)
+            (c .before .before .before .before .before .before .before .before .before .pre .0 .edges .lends .accepted) .sizes .few-vertices,
+      ),
       omega (arith, c .before .before .before .before .before .before .before .before .before .pre .0 .edges .lends .work-fits),
     ))
     (λ c. search needs)

@@ -29,7 +29,8 @@ below-kept n words f chosen c others g h e = go (decLt g n)
 
 abbrev Inv-loop : tie.InvT-loop
 Inv-loop words₀ f chosen c n others g₀ words g =
-    (g ≤ 256) × (g < 256 → member chosen c g ≡ true) × (length words ≡ length words₀) × (words ≡ joined-chosen words₀ f chosen c others (min g n))
+    (g ≤ 256) × (g < 256 → member chosen c g ≡ true) × (length words ≡ length words₀)
+    × (words ≡ joined-chosen words₀ f chosen c others (min g n))
 
 abbrev μ-loop : tie.MeasureT-loop
 μ-loop words₀ f chosen c n others g₀ words g = 256 - g
@@ -41,7 +42,8 @@ loop-holds : tie.Need-loop-holds Inv-loop μ-loop
 unfolding joined-chosen
 loop-holds c =
     let s = c .before .before .before .before in
-    let acc : ℕ → List ℕ = λ k. joined-chosen (s .args .words .now) (s .args .f) (s .args .chosen .now) (s .args .c) (s .args .others .now) (min k (s .args .n)) in
+    let acc : ℕ → List ℕ = λ k. joined-chosen (s .args .words .now) (s .args .f) (s .args .chosen .now) (s .args .c) (s .args .others .now)
+    (min k (s .args .n)) in
     let keep = below-kept (s .args .n) (s .args .words .now) (s .args .f) (s .args .chosen .now) (s .args .c) (s .args .others .now) in
     let h = next-least (s .args .chosen .now) (s .args .c) 0 (omega arith) in
     let z : 0 ≡ min 0 (s .args .n) = omega arith in
@@ -51,7 +53,8 @@ loop-holds c =
 
 join-requires : tie.Need-join-requires Inv-loop μ-loop
 join-requires c κs =
-    let p = c .before .before .before .before .before .before .before .pre in let l = c .before .before .loop in (omega (arith, p .0, l .inv .2), omega (arith, p .3))
+    let p = c .before .before .before .before .before .before .before .pre in let l = c .before .before .loop in
+    (omega (arith, p .0, l .inv .2), omega (arith, p .3))
 
 add-next : tie.Need-add-next Inv-loop μ-loop
 add-next c = omega arith
@@ -68,7 +71,8 @@ loop-less c =
 loop-again : tie.Need-loop-again Inv-loop μ-loop
 loop-again c =
     let s = c .before .before .before .before .before .before .before .before .before .before .before in
-    let acc : ℕ → List ℕ = λ k. joined-chosen (s .args .words .now) (s .args .f) (s .args .chosen .now) (s .args .c) (s .args .others .now) (min k (s .args .n)) in
+    let acc : ℕ → List ℕ = λ k. joined-chosen (s .args .words .now) (s .args .f) (s .args .chosen .now) (s .args .c) (s .args .others .now)
+    (min k (s .args .n)) in
     let keep = below-kept (s .args .n) (s .args .words .now) (s .args .f) (s .args .chosen .now) (s .args .c) (s .args .others .now) in
     let l = c .before .before .before .before .before .before .loop in
     let j = c .before .before .before .join in
@@ -76,7 +80,8 @@ loop-again c =
     let before : min (l .g) (s .args .n) ≡ l .g = omega arith in
     let after : min (suc (l .g)) (s .args .n) ≡ suc (l .g) = omega arith in
     let e : j .last .0 ≡ acc (l .g + 1) =
-    j .ensures ∙ rw (add-one (l .g), l .inv .3, before, after) (sym (chosen-more (s .args .words .now) (s .args .f) (s .args .chosen .now) (s .args .c) (s .args .others .now) (l .g) (l .inv .1 (omega arith)))) in
+    j .ensures ∙ rw (add-one (l .g), l .inv .3, before, after)
+    (sym (chosen-more (s .args .words .now) (s .args .f) (s .args .chosen .now) (s .args .c) (s .args .others .now) (l .g) (l .inv .1 (omega arith)))) in
     rw (c .next2 .ensures)
     (h .most, h .passes, j .kept .0 ∙ l .inv .2, e ∙ sym (members-same (s .args .chosen .now) (s .args .c) acc keep (l .g + 1) (omega arith)))
 

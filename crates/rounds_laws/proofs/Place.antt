@@ -73,6 +73,13 @@ module _ (g : Graph) (c : PathReduction) (j : ℕ) where
         ∙ ap (reduced-into N (c .keys) (figures-in c old j) (figures-in c old j v))
         (into-none N (c .keys) (figures-in c old j) (changed-in r old j) v h (N .edges) (omega arith))
 
+  -- A PATH REDUCTION THAT RESTS is left as it is: where no vertex is marked, so does the definition leave every place
+  pub place-rests : GraphFits g → (r : ℕ) (l : List ℕ) → ((u : ℕ) → u < g .vertices → changed-in r l j u ≡ false) → (v : ℕ)
+      → place (network-of g c) (c .keys) (figures-in c l j) (changed-in r l j) v ≡ figures-in c l j v
+  place-rests fits r l quiet v =
+      ap (reduced-into N (c .keys) (figures-in c l j) (figures-in c l j v))
+      (into-none N (c .keys) (figures-in c l j) (changed-in r l j) v (λ i h e. quiet (N .edge i .from) (fits .ends-fit i h .0)) (N .edges) (omega arith))
+
   true-not : (b : Bool) → T b → not b ≡ false
   true-not true t = refl
   true-not false t = absurd t

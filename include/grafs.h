@@ -43,7 +43,7 @@ extern "C" {
 #define GRAFS_WORKSHEET_MAX 560
 #define GRAFS_ANSWER_MAX 2314
 
-/* A thread that has so many bytes of stack left can make the call. Measured: some 37,000 and 44,000 bytes; the rest is margin. */
+/* A thread that has so many bytes of stack left can make the call. Measured: some 38,000 and 35,000 bytes; the rest is margin. */
 #define GRAFS_FUSE_STACK 65536
 #define GRAFS_RUN_STACK 98304
 

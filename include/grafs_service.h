@@ -25,8 +25,8 @@ extern "C" {
 /* Lent so many bytes, no board is refused by GRAFS_BUFFER_SHORT: eight of the longest answers. */
 #define GRAFS_BOARD_ANSWERS_MAX 18512
 
-/* A thread that has so many bytes of stack left can make any call on a board; for any call on a worksheet GRAFS_RUN_STACK will do. Measured: some 84,000 and
- * 52,000 bytes; the rest is margin. */
+/* A thread that has so many bytes of stack left can make any call on a board; for any call on a worksheet GRAFS_RUN_STACK will do. Measured: some 56,000 and
+ * 34,000 bytes; the rest is margin. */
 #define GRAFS_BOARD_STACK 131072
 
 /* The tally of counted calls: three numbers, lent to each of them. A call adds one to asked, and one to answered or to refused, whatever it refuses by.

@@ -16,112 +16,62 @@ use borrow.Author.Needs.{needs}
 use Rattle.rounds.proofs.advance.Statement.{statement}
 use Rattle.rounds.proofs.advance.Tie as tie
 
+-- what is known of the graph and the path reduction
+given : (c : tie.After-shared-slice-known) → Given (c .before .args .graph .now) (c .before .args .path)
+given c = record { bytes = λ i. omega (arith, c .shared-slice-known .given i); accepted = c .before .pre .0 .threads .accepted; fits = c .before .pre .2 }
+
 returns : tie.Need-returns
 unfolding changed-in
 returns c =
-    let s = c .before .before .before .before .before .before .before .before .before .before in
+    let known = c .before .before .before .before .before .before .before .before .before in
+    let s = known .before in
     let a = s .args in
-    let given : Given (a .graph .now) (a .path) =
-    record {
-      bytes = λ i. omega (arith, c .before .before .before .before .before .before .before .before .before .shared-slice-known .given i);
-      accepted =
-          s .pre .0 .threads .accepted;
-      fits = s .pre .2;
-    } in
-    let few = graph-legal (a .graph .now) (a .path) given .few-vertices in
     let l = next-least (a .figures .now) (a .j) 0 (omega arith) in
     let end : at16 (a .graph .now) 5 ≤ next-member (a .figures .now) (a .j) 0 = omega
     (arith, c .before .before .before .vertices .ensures .0, c .before .next .ensures, c .if1 .taken) in (
-      rests (a .graph .now) (a .path) given (a .j) (a .r) (a .figures .now) (s .pre .4)
+      rests (a .graph .now) (a .path) (given known) (a .j) (a .r) (a .figures .now) (s .pre .4)
           (λ v h. cell-mark (a .figures .now) (a .j) v ∙ l .none-before v (omega arith) (omega (arith, end))),
       refl,
     )
 
-push-round-requires : tie.Need-push-round-requires
+-- where a vertex is marked, by push or by pull, few rounds are done
+early : (c : tie.Else1) → c .before .before .before .before .before .before .before .before .before .before .args .r < 1023
 unfolding changed-in
+early c =
+    let known = c .before .before .before .before .before .before .before .before .before in
+    let s = known .before in
+    let a = s .args in
+    let v = next-member (a .figures .now) (a .j) 0 in
+    let l = next-least (a .figures .now) (a .j) 0 (omega arith) in
+    let h : v < at16 (a .graph .now) 5 = omega (arith, c .before .before .before .vertices .ensures .0, c .before .next .ensures, c .if1 .left) in
+    awake-early (a .graph .now) (a .path) (given known) (a .j) (a .r) (a .figures .now) (s .pre .4) v h
+    (cell-mark (a .figures .now) (a .j) v ∙ l .passes (omega (arith, h, graph-legal (a .graph .now) (a .path) (given known) .few-vertices)))
+
+push-round-requires : tie.Need-push-round-requires
 push-round-requires c κs =
     let s = c .before .before .before .before .before .before .before .before .before .before .before .before .before in
-    let a = s .args in
-    let given : Given (a .graph .now) (a .path) =
-    record {
-      bytes = λ i. omega
-          (arith, c .before .before .before .before .before .before .before .before .before .before .before .before .shared-slice-known .given i);
-      accepted =
-          s .pre .0 .threads .accepted;
-      fits = s .pre .2;
-    } in
-    let few = graph-legal (a .graph .now) (a .path) given .few-vertices in
-    let v = next-member (a .figures .now) (a .j) 0 in
-    let l = next-least (a .figures .now) (a .j) 0 (omega arith) in
-    let h : v < at16 (a .graph .now) 5 = omega (
-      arith,
-      c .before .before .before .before .before .before .vertices .ensures .0,
-      c .before .before .before .before .next .ensures,
-      c .before .before .before .if1 .left,
-    ) in
-    let early = awake-early (a .graph .now) (a .path) given (a .j) (a .r) (a .figures .now) (s .pre .4) v h
-    (cell-mark (a .figures .now) (a .j) v ∙ l .passes (omega (arith, h, few))) in
-    (s .pre .0, s .pre .1, s .pre .2, s .pre .3, early, s .pre .4 .sound, s .pre .5)
+    (s .pre .0, s .pre .1, s .pre .2, s .pre .3, early (c .before .before .before), s .pre .4 .sound, s .pre .5)
 
 pull-round-requires : tie.Need-pull-round-requires
-unfolding changed-in
 pull-round-requires c κs =
     let s = c .before .before .before .before .before .before .before .before .before .before .before .before .before in
-    let a = s .args in
-    let given : Given (a .graph .now) (a .path) =
-    record {
-      bytes = λ i. omega
-          (arith, c .before .before .before .before .before .before .before .before .before .before .before .before .shared-slice-known .given i);
-      accepted =
-          s .pre .0 .threads .accepted;
-      fits = s .pre .2;
-    } in
-    let few = graph-legal (a .graph .now) (a .path) given .few-vertices in
-    let v = next-member (a .figures .now) (a .j) 0 in
-    let l = next-least (a .figures .now) (a .j) 0 (omega arith) in
-    let h : v < at16 (a .graph .now) 5 = omega (
-      arith,
-      c .before .before .before .before .before .before .vertices .ensures .0,
-      c .before .before .before .before .next .ensures,
-      c .before .before .before .if1 .left,
-    ) in
-    let early = awake-early (a .graph .now) (a .path) given (a .j) (a .r) (a .figures .now) (s .pre .4) v h
-    (cell-mark (a .figures .now) (a .j) v ∙ l .passes (omega (arith, h, few))) in
-    (s .pre .0 .threads, s .pre .1, s .pre .2, s .pre .3, early, s .pre .4 .sound, s .pre .5)
+    (s .pre .0 .threads, s .pre .1, s .pre .2, s .pre .3, early (c .before .before .before), s .pre .4 .sound, s .pre .5)
 
 returns-2 : tie.Need-returns-2
 returns-2 c =
-    let s = c .before .before .before .before .before .before .before .before .before .before .before .before .before .before .before .before .before .before in
+    let known = c .before .before .before .before .before .before .before .before .before .before .before .before .before .before .before .before .before in
+    let s = known .before in
     let a = s .args in
-    let given : Given (a .graph .now) (a .path) =
-    record {
-      bytes = λ i. omega (
-        arith,
-        c .before .before .before .before .before .before .before .before .before .before .before .before .before .before .before .before .before
-            .shared-slice-known .given i,
-      );
-      accepted = s .pre .0 .threads .accepted;
-      fits = s .pre .2;
-    } in
     let t = c .before .before .before .before .push-round in
-    (push-stands (a .graph .now) (a .path) given (a .j) (a .r) (a .figures .now) (s .pre .4) _ _ (t .ensures .0), t .ensures .1)
+    (push-stands (a .graph .now) (a .path) (given known) (a .j) (a .r) (a .figures .now) (s .pre .4) _ _ (t .ensures .0), t .ensures .1)
 
 returns-3 : tie.Need-returns-3
 returns-3 c =
-    let s = c .before .before .before .before .before .before .before .before .before .before .before .before .before .before .before .before .before .before in
+    let known = c .before .before .before .before .before .before .before .before .before .before .before .before .before .before .before .before .before in
+    let s = known .before in
     let a = s .args in
-    let given : Given (a .graph .now) (a .path) =
-    record {
-      bytes = λ i. omega (
-        arith,
-        c .before .before .before .before .before .before .before .before .before .before .before .before .before .before .before .before .before
-            .shared-slice-known .given i,
-      );
-      accepted = s .pre .0 .threads .accepted;
-      fits = s .pre .2;
-    } in
     let t = c .before .before .before .before .pull-round in
-    (pull-stands (a .graph .now) (a .path) given (a .j) (a .r) (a .figures .now) (s .pre .4) _ _ (t .ensures .0), t .ensures .1)
+    (pull-stands (a .graph .now) (a .path) (given known) (a .j) (a .r) (a .figures .now) (s .pre .4) _ _ (t .ensures .0), t .ensures .1)
 
 pub advance-spec : {M : Type 1} → statement M
 advance-spec =

@@ -16,15 +16,6 @@ use Rattle.packed_figures.proofs.Held.{held-best, held-later, held-pack
 use Rattle.packed_figures.proofs.Options.{best-none, word-brought, word-most}
 
 module _ (edge : ℕ → Edge) (c : PathConstants) where
-  -- it depends on the words of v and of the edges' starts, and on the tests of the edges, alone
-  pub gathered-same : (live live′ : ℕ → Bool) (W W′ : ℕ → ℕ) (v : ℕ) → W v ≡ W′ v
-      → (m : ℕ) → ((i : ℕ) → i < m → live i ≡ live′ i) → ((i : ℕ) → i < m → W (edge i .from) ≡ W′ (edge i .from))
-      → gathered edge c live W v m ≡ gathered edge c live′ W′ v m
-  unfolding gathered
-  gathered-same live live′ W W′ v e zero t f = e
-  gathered-same live live′ W W′ v e (suc i) t f =
-      rw (gathered-same live live′ W W′ v e i (λ j l. t j (omega arith)) (λ j l. f j (omega arith)), t i (omega arith), f i (omega arith))
-
   module _ (live : ℕ → Bool) (W : ℕ → ℕ) (v : ℕ) (most : W v ≤ absent) where
     -- NO WORD IS ABOVE `absent`
     pub gathered-below : (m : ℕ) → gathered edge c live W v m ≤ absent
@@ -77,6 +68,3 @@ module _
   gathered-is (suc i) l =
       ap₂ min (gathered-is i (omega arith)) (ap (λ (e : Edge). brought (live i && eqb (e .to) v) (constants ks) e W) (edges i l))
       ∙ sym (brought-is i l (live i && eqb (N .edge i .to) v))
-
-  pub gathered-most : (m : ℕ) → m ≤ N .edges → gathered edge (constants ks) live W v m ≤ absent
-  gathered-most m l = gathered-below edge (constants ks) live W v (rw (agrees v vertex) (word-most ks ok (S v) (packs v vertex))) m

@@ -60,9 +60,6 @@ module _ (l : List ℕ) (j v x : ℕ) (slot : j < 8) where
   stored-marks i u h k = member-stored l (32 + 8 * v + j) x i u k (omega arith)
 
 -- words stay where a set is changed
-pub inserted-words : (l : List ℕ) (j x i u : ℕ) → j < 8 → x < 256 → word-in (inserted l j x) i u ≡ word-in l i u
-inserted-words l j x i u h k = inserted-other l j x (32 + 8 * u + i) k (omega arith)
-
 pub replaced-words : (l : List ℕ) (j : ℕ) (w : ℕ → ℕ) (i u : ℕ) → j < 8 → word-in (replaced l j w) i u ≡ word-in l i u
 replaced-words l j w i u h = replaced-other l j w (32 + 8 * u + i) (omega arith)
 

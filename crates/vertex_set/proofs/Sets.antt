@@ -163,18 +163,6 @@ module _ (words : List ℕ) (f : ℕ) (chosen : List ℕ) (c : ℕ) (others : Li
           ∙ rw (eq-eqb f f refl, e) (or-assoc (member words f v) (some-below (λ g. member chosen c g && member others g v) n) (member others n v))
       go false e = e ∙ ap (λ (b : Bool). member words f v || b) (or-false (some-below (λ g. member chosen c g && member others g v) n))
 
-  -- the other sets stay
-  pub member-chosen-other : (n g v : ℕ) → v < 256 → 4 * f + 4 ≤ length words → (g ≡ f → ⊥)
-      → member (joined-chosen words f chosen c others n) g v ≡ member words g v
-  unfolding joined-chosen
-  member-chosen-other zero g v h room a = refl
-  member-chosen-other (suc n) g v h room a = go (member chosen c n) (member-chosen-other n g v h room a)
-    where
-      go : (b : Bool) → member (joined-chosen words f chosen c others n) g v ≡ member words g v
-          → member (cond b (joined (joined-chosen words f chosen c others n) f others n) (joined-chosen words f chosen c others n)) g v ≡ member words g v
-      go true e = member-joined (joined-chosen words f chosen c others n) f others n g v h (rw (chosen-length n) room) ∙ rw (ne-eqb g f a) e
-      go false e = e
-
 -- ---- one member more
 
 -- the table is as long as before
@@ -218,11 +206,6 @@ member-inserted words f x g v hx hv room = go (ℕ-discrete (4 * g + v / 64) (4 
 pub next-least : (words : List ℕ) (f i : ℕ) → i ≤ 256 → Least (member words f) 256 i (next-member words f i)
 unfolding next-member
 next-least words f i h = least-found (member words f) 256 i h
-
--- and only that is
-pub next-unique : (words : List ℕ) (f i r : ℕ) → Least (member words f) 256 i r → r ≡ next-member words f i
-unfolding next-member
-next-unique words f i r l = least-unique (member words f) 256 i r l
 
 -- WHAT A LOOP OVER THE MEMBERS CITES: what vertices that are no members leave as it is, is the same at i and at the next member from i on
 pub members-same : {A : Type 0} (words : List ℕ) (f : ℕ) (acc : ℕ → A)

@@ -154,7 +154,7 @@ fn finish(push: bool, limit: Limit, board: &[u8], w: Progress, graph: &[u8], out
     }
     let joint = w.table;
     let paths = wire::lesser(w.paths, 8);
-    let mut figures = [0u64; 2080];
+    let mut figures = [0u64; 2336];
     let rounds = engine::settle(push, limit, paths, joint, graph, &mut figures);
     answer_all(board, count, joint, &figures, n, rounds, out)
 }

@@ -110,14 +110,13 @@ pub fn settle(
 ) -> u16
     requires { ⌜
         (graph-code (now graph) ≡ 0) × (paths ≤ 8) × All (PathFits (at16 (now graph) 5)) (paths-in paths table)
-        × (32 + 8 * at16 (now graph) 5 ≤ length (now figures))
+        × (32 + 9 * at16 (now graph) 5 ≤ length (now figures))
         ⌝ }
     ensures { λ r. ⌜ Settled limit (graph-of (now (graph .entry))) (paths-in paths table) r (now (figures .exit)) ⌝ }
 {
     let n = vertices(graph);
     let most = most(limit, n);
     let done = rounds::run(push, graph, paths, table, most, figures);
-    rounds::read_values(n as usize, paths, table, figures);
     reported(limit, done)
 }
 
@@ -131,7 +130,7 @@ fn answer_in(
     figures: &mut [u64],
     out: &mut [u8],
 ) -> u32
-    requires { ⌜ (w ≡ plan-scan (now plan)) × (run-code w (now graph) ≡ 0) × (32 + 8 * at16 (now graph) 5 ≤ length (now figures)) ⌝ }
+    requires { ⌜ (w ≡ plan-scan (now plan)) × (run-code w (now graph) ≡ 0) × (32 + 9 * at16 (now graph) 5 ≤ length (now figures)) ⌝ }
     ensures { λ r. ⌜ Returned (run-reply limit (now (plan .entry)) (now (graph .entry)) (length (now (out .entry)))) r (now (out .entry))
         (now (out .exit)) ⌝ }
 {
@@ -152,9 +151,9 @@ fn finish(push: bool, limit: Limit, plan: &[u8], w: Progress, graph: &[u8], out:
         return 65536 + k as u32;
     }
     if rounds::is_small(graph) {
-        return answer_in(push, limit, plan, w, graph, &mut [0u64; 160], out);
+        return answer_in(push, limit, plan, w, graph, &mut [0u64; 176], out);
     }
-    answer_in(push, limit, plan, w, graph, &mut [0u64; 2080], out)
+    answer_in(push, limit, plan, w, graph, &mut [0u64; 2336], out)
 }
 
 // A run by push or by pull: the worksheet and the map are judged, then it goes on.

@@ -16,7 +16,7 @@ use Rattle.walks.specs.Rounds.{bases, extend-all}
 use Rattle.walks.specs.Walks.{Edge, base, extend}
 use Rattle.walks.proofs.Tests.{and-left, and-right, T-of}
 use Rattle.packed_figures.specs.declared.PathConstants.{PathConstants}
-use Rattle.packed_figures.specs.Packed.{Small, base-word, code, constants, distinct, held, onward, packing, room, total, unit-of, within, without, word}
+use Rattle.packed_figures.specs.Packed.{Small, along, base-word, code, constants, distinct, held, onward, packing, room, total, unit-of, within, without, word}
 use Rattle.packed_figures.proofs.Distinct.{all-map, distinct-all, without-all}
 use Rattle.packed_figures.proofs.Legal.{by-key, legal-known, legal-order}
 use Rattle.packed_figures.proofs.Order.{flipped-lt}
@@ -53,13 +53,10 @@ plain-base v =
     (λ t. omega arith) (λ t. omega arith) (λ t. omega arith) (λ t. omega arith) absurd absurd
 
 -- such a last key leaves the low bits alone
-plain-held : (ds : List ℕ) (c t : ℕ) → t < 65536 → (k : ℕ) → T (known k) → T (plain (measure k)) → held (packing ds k) c t ≡ t
+plain-held : (ds : List ℕ) (c t : ℕ) (k : ℕ) → T (known k) → T (plain (measure k)) → held (packing ds k) c t ≡ t
 unfolding key-row
-plain-held ds c t h =
-    by-key (λ k. T (plain (measure k)) → held (packing ds k) c t ≡ t) free free free free absurd absurd
-  where
-    free : Unit {0} → max (bitAnd (65535 - c) 0) (min t (c + 65535)) ≡ t
-    free u = rw (and-zero-r (65535 - c)) (omega arith)
+plain-held ds c t =
+    by-key (λ k. T (plain (measure k)) → held (packing ds k) c t ≡ t) (λ u. refl) (λ u. refl) (λ u. refl) (λ u. refl) absurd absurd
 
 plain-low : (ds : List ℕ) (k : ℕ) → T (known k) → T (plain (measure k)) → packing ds k .base ≡ 0
 unfolding key-row
@@ -84,7 +81,7 @@ narrow-key ds = by-key (λ k. plain (measure k) ≡ false → Narrow ds k) other
     greatest-kept : false ≡ false → Narrow ds 5
     greatest-kept e = record {
       wide = refl;
-      held-right = λ c x. rw (and-mask (65535 - c) 16) (omega arith);
+      held-right = λ c x. omega arith;
       base-right = refl;
       high = omega arith;
       late = refl;
@@ -94,7 +91,7 @@ narrow-key ds = by-key (λ k. plain (measure k) ≡ false → Narrow ds k) other
     least-kept : false ≡ false → Narrow ds 6
     least-kept e = record {
       wide = refl;
-      held-right = λ c x. rw (and-zero-r (65535 - c)) (omega arith);
+      held-right = λ c x. refl;
       base-right = refl;
       high = omega arith;
       late = refl;
@@ -179,16 +176,16 @@ module _ (e : Edge) (f : ℕ → ℕ) where
   -- all keys plain: nothing else happens
   sum-plain : (ds : List ℕ) (j : ℕ) → Plain j → All Plain ds
       → total (codes (longer e f)) ds ≡ onward (packing ds j) (total (codes f) ds) (e .weight) (e .capacity)
-  unfolding onward
+  unfolding along
   sum-plain ds j p h =
       let y = total (codes f) ds + unit-of 1 ds + unit-of 2 ds * e .weight in
       let s : total (codes (longer e f)) ds ≡ y = omega (arith, sum-extend ds h) in
-      s ∙ sym (rw (plain-held ds (e .capacity) (y % 65536) (omega arith) j (p .0) (p .1)) (omega arith))
+      s ∙ sym (rw (plain-held ds (e .capacity) (y % 65536) j (p .0) (p .1)) (omega arith))
 
   -- a bottleneck after plain keys
   sum-narrow : (es : List ℕ) (j : ℕ) → f j < room j → Narrow (es ++ (j ∷ [])) j → All Plain es
       → total (codes (longer e f)) (es ++ (j ∷ [])) ≡ onward (packing (es ++ (j ∷ [])) j) (total (codes f) (es ++ (j ∷ []))) (e .weight) (e .capacity)
-  unfolding onward
+  unfolding along
   sum-narrow es j l n h =
       let ds = es ++ (j ∷ []) in
       let above = total (codes f) es + unit-of 1 es + unit-of 2 es * e .weight in

@@ -130,8 +130,8 @@ sound c =
     leb (c .edges) 4398046511104
     && (leb (c .weight) 67108864
     && (leb (c .up) 4398046511104
-    && (leb (c .down) 4398046511104 && (leb (c .high) 65535 && (leb (c .base) 65535 && (ltb (c .shift) 64
-    && (leb (c .mask) 67108863 && (leb (c .flip) 67108863 && (eqb (c .flip) 0 || leb (c .mask) (c .flip))))))))))
+    && (leb (c .down) 4398046511104 && (leb (c .base) 65535 && (ltb (c .shift) 64
+    && (leb (c .mask) 67108863 && (leb (c .flip) 67108863 && (eqb (c .flip) 0 || leb (c .mask) (c .flip)))))))))
 
 flip-right : (a b : ℕ) → T (eqb a 0 || leb b a) → (a ≡ 0 → ⊥) → b ≤ a
 flip-right a b t n = leb→le b a (rw (ne-eqb a 0 n) at t)
@@ -142,21 +142,19 @@ sound-of c t =
     let u2 = and-right (leb (c .weight) 67108864) _ u1 in
     let u3 = and-right (leb (c .up) 4398046511104) _ u2 in
     let u4 = and-right (leb (c .down) 4398046511104) _ u3 in
-    let u5 = and-right (leb (c .high) 65535) _ u4 in
-    let u6 = and-right (leb (c .base) 65535) _ u5 in
-    let u7 = and-right (ltb (c .shift) 64) _ u6 in
-    let u8 = and-right (leb (c .mask) 67108863) _ u7 in
+    let u5 = and-right (leb (c .base) 65535) _ u4 in
+    let u6 = and-right (ltb (c .shift) 64) _ u5 in
+    let u7 = and-right (leb (c .mask) 67108863) _ u6 in
     record {
       edges-fit = leb→le _ _ (and-left (leb (c .edges) 4398046511104) _ t);
       weight-fits = leb→le _ _ (and-left (leb (c .weight) 67108864) _ u1);
       up-fits = leb→le _ _ (and-left (leb (c .up) 4398046511104) _ u2);
       down-fits = leb→le _ _ (and-left (leb (c .down) 4398046511104) _ u3);
-      high-fits = leb→le _ _ (and-left (leb (c .high) 65535) _ u4);
-      base-fits = leb→le _ _ (and-left (leb (c .base) 65535) _ u5);
-      shift-fits = ltb→lt _ _ (and-left (ltb (c .shift) 64) _ u6);
-      mask-fits = leb→le _ _ (and-left (leb (c .mask) 67108863) _ u7);
-      flip-small = leb→le _ _ (and-left (leb (c .flip) 67108863) _ u8);
-      flip-fits = flip-right (c .flip) (c .mask) (and-right (leb (c .flip) 67108863) _ u8);
+      base-fits = leb→le _ _ (and-left (leb (c .base) 65535) _ u4);
+      shift-fits = ltb→lt _ _ (and-left (ltb (c .shift) 64) _ u5);
+      mask-fits = leb→le _ _ (and-left (leb (c .mask) 67108863) _ u6);
+      flip-small = leb→le _ _ (and-left (leb (c .flip) 67108863) _ u7);
+      flip-fits = flip-right (c .flip) (c .mask) (and-right (leb (c .flip) 67108863) _ u7);
     }
 
 pub legal-sound : (ks : List ℕ) → T (legal-keys ks) → Sound (constants ks)

@@ -110,8 +110,7 @@ packing ks j = record {
   weight = unit-of 2 ks;
   up = unit-of 3 ks;
   down = unit-of 4 ks;
-  low = cond (eqb j 5) 65535 0;
-  high = cond (eqb j 6) 0 65535;
+  last = j;
   base = cond (eqb j 6) 65535 0;
   shift = shift-of j ks;
   mask = room j - 1;
@@ -121,16 +120,19 @@ packing ks j = record {
 unfoldable pub constants : List ℕ → PathConstants
 constants ks = packing (distinct ks) (last ks)
 
--- the low 16 bits t, held between what `low` leaves of 65,535 - capacity and capacity + `high`
+-- the low 16 bits t after an edge: by key 5 they have complements of capacities, by key 6 capacities, of which the smallest of a walk counts; by others no bound
 abbrev pub held : PathConstants → ℕ → ℕ → ℕ
-held c capacity t = max (bitAnd (65535 - capacity) (c .low)) (min t (capacity + c .high))
+held c capacity t = cond (eqb (c .last) 5) (max t (65535 - capacity)) (cond (eqb (c .last) 6) (min t capacity) t)
 
--- what one more edge makes of the word x
 abbrev pub within : PathConstants → ℕ → ℕ → ℕ
 within c capacity y = y - y % 65536 + held c capacity (y % 65536)
 
-unfoldable pub onward : PathConstants → ℕ → ℕ → ℕ → ℕ
-onward c x weight capacity = within c capacity (x + c .edges + c .weight * weight)
+-- what an edge's weight and capacity make of a word that counts the edge already; what one more edge makes of the word x
+unfoldable pub along : PathConstants → ℕ → ℕ → ℕ → ℕ
+along c y weight capacity = within c capacity (y + c .weight * weight)
+
+abbrev pub onward : PathConstants → ℕ → ℕ → ℕ → ℕ
+onward c x weight capacity = along c (x + c .edges) weight capacity
 
 -- the word of the empty walk at v
 unfoldable pub base-word : PathConstants → ℕ → ℕ
@@ -146,17 +148,16 @@ pub record Sound (c : PathConstants) : Type 0 where
   pub weight-fits : c .weight ≤ 67108864
   pub up-fits : c .up ≤ 4398046511104
   pub down-fits : c .down ≤ 4398046511104
-  pub high-fits : c .high ≤ 65535
   pub base-fits : c .base ≤ 65535
   pub shift-fits : c .shift < 64
   pub mask-fits : c .mask ≤ 67108863
   pub flip-small : c .flip ≤ 67108863
   pub flip-fits : (c .flip ≡ 0 → ⊥) → c .mask ≤ c .flip
 
--- what the code asks for one more edge after the word x; for the empty walk at v
-pub record Extends (c : PathConstants) (x weight capacity : ℕ) : Type 0 where
+-- what the code asks for an edge along which a word goes that counts it already; for the empty walk at v
+pub record Extends (c : PathConstants) (y weight capacity : ℕ) : Type 0 where
   pub sound : Sound c
-  pub at-most-absent : x ≤ absent
+  pub at-most-absent : y ≤ absent + c .edges
   pub weight-fits : weight < 65536
   pub capacity-fits : capacity < 65536
 

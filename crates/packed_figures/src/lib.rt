@@ -7,17 +7,17 @@ ghost use mathlib.Core.List.{[], _∷_};
 ghost use Prim.Native.Nat.{_^_, _<_, _≤_, min, max};
 ghost use lib.Dec.{eqb};
 ghost use Rattle.walks.specs.Keys.{measure, kept};
-ghost use Rattle.packed_figures.specs.Packed.{Extends, Sound, Starts, base-word, constants, figure-of, flip-of, onward, width};
+ghost use Rattle.packed_figures.specs.Packed.{Extends, Sound, Starts, along, base-word, constants, figure-of, flip-of, width};
 ghost use Rattle.packed_figures.specs.Steps.{SmallUnits, key-or-before, last-shift, path-keys, second-bits, third-bits, unit-among, units-of};
 
-// What is fixed for a path reduction: what one more edge adds to a word and how it holds the low 16 bits, what the empty walk has, where the value stands.
+// What is fixed for a path reduction: what one more edge adds to a word, the last key, by which it bounds the low 16 bits, what the empty walk has, where the value
+// stands.
 pub struct PathConstants {
     pub edges: u64,
     pub weight: u64,
     pub up: u64,
     pub down: u64,
-    pub low: u64,
-    pub high: u64,
+    pub last: u8,
     pub base: u64,
     pub shift: u64,
     pub mask: u64,
@@ -56,20 +56,19 @@ fn greatest(x: u64, y: u64) -> u64
     y
 }
 
-// What one more edge makes of a word. ABSENT stays at least ABSENT. Without key 5 or 6 the low 16 bits have no bound.
+// What an edge's weight and capacity make of a word that counts the edge already. ABSENT stays at least ABSENT.
 pub fn through(c: PathConstants, x: u64, weight: u64, capacity: u64) -> u64
     requires { ⌜ Extends c x weight capacity ⌝ }
-    ensures { λ r. ⌜ r ≡ onward c x weight capacity ⌝ }
+    ensures { λ r. ⌜ r ≡ along c x weight capacity ⌝ }
 {
-    let y = x + c.edges + c.weight * weight;
-    if c.high == 65535 {
-        if c.low == 0 {
-            return y;
-        }
+    let y = x + c.weight * weight;
+    if c.last == 5 {
+        return greatest(y, y - y % 65536 + (65535 - capacity));
     }
-    let t = y % 65536;
-    let low = (65535 - capacity) & c.low;
-    y - t + greatest(low, least(t, capacity + c.high))
+    if c.last == 6 {
+        return least(y, y - y % 65536 + capacity);
+    }
+    y
 }
 
 // The word of the empty walk at v.
@@ -192,8 +191,7 @@ fn constants_of(a: u8, b: u8, c: u8) -> PathConstants
         weight: unit_of(2, a, b, c, u),
         up: unit_of(3, a, b, c, u),
         down: unit_of(4, a, b, c, u),
-        low: if_same(c, 5, 65535, 0),
-        high: if_same(c, 6, 0, 65535),
+        last: c,
         base: if_same(c, 6, 65535, 0),
         shift: shift_of_third(a, b, c),
         mask: top,

@@ -19,7 +19,7 @@ use Rattle.meaning.specs.Run.{pull}
 use Rattle.graph.specs.Graph.{graph-of}
 use Rattle.packed_path.specs.declared.PackedPath.{PackedPath}
 use Rattle.packed_path.specs.Packed.{no-path, path-of}
-use Rattle.table.specs.Table.{path-at, paths-in}
+use Rattle.table.specs.Table.{Idle, path-at, paths-in}
 use Rattle.rounds.specs.Run.{Advanced, AllStand, Begun, Ended, Ran, Stands, quiet-after}
 use Rattle.rounds.proofs.Given.{Given, T-true}
 use Rattle.rounds.proofs.Standing.{begun-stands, not-both, stands-kept}
@@ -46,30 +46,31 @@ module _ (g : Graph) (paths : ℕ) (table : List PackedPath) (b : paths ≤ 8) w
 
   -- those of the first k
   pub started-all : (k : ℕ) (l : List ℕ) → AllStand g k table 0 l → k ≡ paths → AllStand g paths table 0 l
-  started-all k l x e = record { each = λ j h. x .each j (omega arith); long = x .long }
+  started-all k l x e = record { each = λ j h. x .each j (omega arith); long = x .long; idle = x .idle }
 
   -- ---- a round, after those of the first k
 
   pub record Upto (r k : ℕ) (l : List ℕ) (changed : Bool) : Type 0 where
     pub done : (j : ℕ) → j < k → Stands g (path-at table j) (suc r) j l
     pub waits : (j : ℕ) → k ≤ j → j < paths → Stands g (path-at table j) r j l
-    pub long : 32 + 8 * g .vertices ≤ length l
+    pub long : 32 + 9 * g .vertices ≤ length l
+    pub idle : Idle (g .vertices) l
     pub says : changed ≡ not (quiet (g .vertices) (map (pull g) (paths-in k table)) r)
 
   pub upto-none : (r : ℕ) (l : List ℕ) → AllStand g paths table r l → Upto r 0 l false
-  upto-none r l x = record { done = λ j h. absurd (not-suc-le-zero h); waits = λ j h k. x .each j k; long = x .long; says = refl }
+  upto-none r l x = record { done = λ j h. absurd (not-suc-le-zero h); waits = λ j h k. x .each j k; long = x .long; idle = x .idle; says = refl }
 
   pub upto-all : (r k : ℕ) (l : List ℕ) (changed : Bool) → k ≡ paths → Upto r k l changed
       → AllStand g paths table (suc r) l × (changed ≡ not (quiet-after g paths table r))
   upto-all r k l changed e x = (
-    record { each = λ j h. x .done j (omega arith); long = x .long },
+    record { each = λ j h. x .done j (omega arith); long = x .long; idle = x .idle },
     x .says ∙ ap (λ (i : ℕ). not (quiet (g .vertices) (map (pull g) (paths-in i table)) r)) e,
   )
 
   module _ (r k : ℕ) (h : k < paths) (here : k < length table) (l l′ : List ℕ) (changed moved : Bool)
       (x : Upto r k l changed) (t : Advanced g (path-at table k) r k l l′ moved) where
     kept : (q j : ℕ) → j < paths → (j ≡ k → ⊥) → Stands g (path-at table j) q j l → Stands g (path-at table j) q j l′
-    kept q j i n = stands-kept g (path-at table j) q j l l′ (t .0 .sound .long) (λ v m. t .2 j (omega arith) n v m)
+    kept q j i n = stands-kept g (path-at table j) q j l l′ (t .0 .sound .long) (t .0 .sound .idle) (λ v m. t .2 j (omega arith) n v m)
 
     done-now : (j : ℕ) → j < suc k → Dec (j ≡ k) → Stands g (path-at table j) (suc r) j l′
     done-now j i (yes e) = subst (λ (a : ℕ). Stands g (path-at table a) (suc r) a l′) (sym e) (t .0)
@@ -80,6 +81,7 @@ module _ (g : Graph) (paths : ℕ) (table : List PackedPath) (b : paths ≤ 8) w
       done = λ j i. done-now j i (ℕ-discrete j k);
       waits = λ j i m. kept r j m (λ q. omega arith) (x .waits j (omega arith) m);
       long = t .0 .sound .long;
+      idle = t .0 .sound .idle;
       says =
           ap₂ _||_ (x .says) (t .1)
           ∙ not-both (quiet (g .vertices) (map (pull g) (paths-in k table)) r) (unchanged (pull g (path-at table k)) r (g .vertices))
@@ -122,7 +124,7 @@ module _ (s : List ℕ) (table : List PackedPath) (k : ℕ) (h : k < 8) (given :
       subst (λ (a : ℕ). Stands (graph-of s) (path-at table a) 0 a l′) (sym e) (begun-stands s (getD table k no-path) given k l l′ y)
   shown-now j i (no n) =
       let m : ¬ (j ≡ k) = n in
-      stands-kept (graph-of s) (path-at table j) 0 j l l′ (y .sound .long) (λ v q. y .others j (omega arith) n v q) (x .each j (omega arith))
+      stands-kept (graph-of s) (path-at table j) 0 j l l′ (y .sound .long) (y .sound .idle) (λ v q. y .others j (omega arith) n v q) (x .each j (omega arith))
 
   pub started-more : AllStand (graph-of s) (suc k) table 0 l′
-  started-more = record { each = λ j i. shown-now j i (ℕ-discrete j k); long = y .sound .long }
+  started-more = record { each = λ j i. shown-now j i (ℕ-discrete j k); long = y .sound .long; idle = y .sound .idle }

@@ -21,14 +21,14 @@ use Rattle.packed_path.specs.Packed.{path-of, sources-of}
 use Rattle.packed_path.specs.Steps.{begins}
 use Rattle.packed_figures.specs.declared.PathConstants.{PathConstants}
 use Rattle.packed_figures.specs.Held.{Held}
-use Rattle.packed_figures.specs.Packed.{Packs, absent, constants, figures-of, onward, word-of}
+use Rattle.packed_figures.specs.Packed.{Packs, absent, along, constants, figures-of, word-of}
 use Rattle.packed_figures.specs.Steps.{brought, gathered}
 use Rattle.packed_figures.proofs.Gathered.{gathered-below, gathered-held, gathered-is}
 use Rattle.packed_figures.proofs.Held.{held-base, held-packs}
-use Rattle.packed_figures.proofs.Options.{onward-absent, word-figures, word-initial, word-most, word-reached, word-same}
+use Rattle.packed_figures.proofs.Options.{along-absent, word-figures, word-initial, word-most, word-reached, word-same}
 use Rattle.vertex_set.specs.Sets.{member}
-use Rattle.table.specs.Steps.{Began, Stepped, lent, moves, next-word, reduced-upto, started, word-in}
-use Rattle.table.specs.Table.{Cell, Sound, SoundWord, cell, cell-in, changed-in, figures-in}
+use Rattle.table.specs.Steps.{Began, Stepped, lends, moves, next-word, reduced-upto, started, touches, word-in}
+use Rattle.table.specs.Table.{Cell, Idle, Others, Sound, SoundWord, cell, cell-in, changed-in, figures-in}
 use Rattle.table.proofs.Cells.{cell-word}
 use Rattle.rounds.specs.Run.{Begun, Round}
 use Rattle.rounds.proofs.Given.{Given, T-true, graph-legal, path-legal}
@@ -67,7 +67,7 @@ module _ (s : List ℕ) (path : PackedPath) (g : Given s path) (j : ℕ) where
   starts-is [] v h = sym (lt-ltb v n h)
   starts-is (x ∷ ss) v h = refl
 
-  module _ (old new : List ℕ) (long : 32 + 8 * at16 s 5 ≤ length old)
+  module _ (old new : List ℕ) (long : 32 + 9 * at16 s 5 ≤ length old) (idle : Idle (at16 s 5) old)
       (y : Began (begins (sources-of path)) (constants (path-of path .keys)) (at16 s 5) j old new) where
     abbrev start : ℕ → Bool
     start v = N .source v
@@ -110,6 +110,7 @@ module _ (s : List ℕ) (path : PackedPath) (g : Given s path) (j : ℕ) where
       others = y .others (at16 s 5) few;
       sound = record {
         long = omega (arith, y .size);
+        idle = λ u h. y .kept u ∙ idle u h;
         words = λ v h. record {
           figures = initial (start v) ks v;
           held = first-held v h;
@@ -150,9 +151,12 @@ module _ (s : List ℕ) (path : PackedPath) (g : Given s path) (j : ℕ) where
     from-in : (i : ℕ) → i < N .edges → N .edge i .from < n
     from-in i h = rw (sym (edge-is i h)) (ends s (g .bytes) (g .accepted) i (omega (arith, edges-count s)) .0)
 
-    -- over the edges that pass the test `live`: the start of any other lends ABSENT
-    module _ (work : List ℕ) (live : ℕ → Bool)
-        (lends : (i : ℕ) → i < at16 s 7 → lent work (edge-in s i .from) ≡ cond (live i) (word-in old j (edge-in s i .from)) absent) where
+    -- the table as a round takes it, with any marks: the words are those of `old`, and the start of an edge is marked where the edge passes the test `live`
+    module _ (given : List ℕ) (words : (u : ℕ) → u < at16 s 5 → word-in given j u ≡ word-in old j u) (live : ℕ → Bool)
+        (marks : (i : ℕ) → i < at16 s 7 → member given j (edge-in s i .from) ≡ live i) where
+      abbrev L : ℕ → ℕ
+      L = lends (constants (path-of path .keys)) j given
+
       abbrev next : State
       next v = gather (network-of (graph-of s) (path-of path)) (path-of path .keys) live S v (network-of (graph-of s) (path-of path) .edges)
 
@@ -165,11 +169,11 @@ module _ (s : List ℕ) (path : PackedPath) (g : Given s path) (j : ℕ) where
       next-packs v h = held-packs ks (suc r) (omega arith) (next v) (next-held v h)
 
       -- what an edge brings is what it brings where it passes
-      lent-is : (v : ℕ) → v < n → (i : ℕ) → i ≤ at16 s 7 → reduced-upto s K work (W v) v i ≡ gathered (edge-in s) K live W v i
+      lent-is : (v : ℕ) → v < n → (i : ℕ) → i ≤ at16 s 7 → reduced-upto s K L (W v) v i ≡ gathered (edge-in s) K live W v i
       unfolding reduced-upto gathered
       lent-is v h zero l = refl
       lent-is v h (suc i) l =
-          rw (lent-is v h i (omega arith), lends i l) (go (live i) (eqb (edge-in s i .to) v))
+          rw (lent-is v h i (omega arith), marks i l, words (e .from) (ends s (g .bytes) (g .accepted) i l .0)) (go (live i) (eqb (e .to) v))
         where
           e : Edge
           e = edge-in s i
@@ -178,40 +182,45 @@ module _ (s : List ℕ) (path : PackedPath) (g : Given s path) (j : ℕ) where
           most = gathered-below (edge-in s) K live W v (words-most v h) i
 
           go : (a b : Bool)
-              → cond b (min (gathered (edge-in s) K live W v i) (onward K (cond a (W (e .from)) absent) (e .weight) (e .capacity)))
+              → cond b (min (along K (cond a (W (e .from) + K .edges) absent) (e .weight) (e .capacity)) (gathered (edge-in s) K live W v i))
               (gathered (edge-in s) K live W v i)
               ≡ min (gathered (edge-in s) K live W v i) (brought (a && b) K e W)
-          go true true = refl
+          go true true = omega arith
           go true false = omega (arith, most)
-          go false true = omega (arith, most, onward-absent K absent (e .weight) (e .capacity) (omega arith))
+          go false true = omega (arith, most, along-absent K absent (e .weight) (e .capacity) (omega arith))
           go false false = omega (arith, most)
 
-      reduced-is : (v : ℕ) → v < n → next-word s K j old work v ≡ word-of ks (next v)
+      reduced-is : (v : ℕ) → v < n → next-word s K j L given v ≡ word-of ks (next v)
       reduced-is v h =
-          lent-is v h (at16 s 7) (omega arith)
+          ap (λ (y : ℕ). reduced-upto s K L y v (at16 s 7)) (words v h)
+          ∙ lent-is v h (at16 s 7) (omega arith)
           ∙ ap (gathered (edge-in s) K live W v) (sym (edges-count s))
           ∙ gathered-is N ks (path-legal s path g) (graph-legal s path g .weights) from-in (edge-in s) edge-is S r early S-held W agrees live v h (N .edges)
           (omega arith)
 
-      -- where a vertex outside set 0 would keep its figures
-      module _ (still : (v : ℕ) → v < at16 s 5 → member work 0 v ≡ false → next v ≡ S v) (new : List ℕ) (says : Bool)
-          (y : Stepped s (constants (path-of path .keys)) j old work new says) where
+      -- where a vertex that is not walked would keep its figures
+      module _ (successors : List ℕ) (others : Others (at16 s 5) j old given)
+          (still : (v : ℕ) → v < at16 s 5 → touches (at16 s 5) j given successors v ≡ false → next v ≡ S v) (new : List ℕ) (says : Bool)
+          (long : length given ≡ length old) (y : Stepped s (constants (path-of path .keys)) j successors given new says) where
+        abbrev walked : ℕ → Bool
+        walked = touches (at16 s 5) j given successors
+
         word-is : (v : ℕ) → v < n → cell-in new j v .word ≡ word-of ks (next v)
-        word-is v h = ap (λ (z : Cell). z .word) (y .cells v h) ∙ go (member work 0 v) refl
+        word-is v h = ap (λ (z : Cell). z .word) (y .cells v h) ∙ go (walked v) refl
           where
-            go : (b : Bool) → member work 0 v ≡ b → cond b (next-word s K j old work v) (W v) ≡ word-of ks (next v)
+            go : (b : Bool) → walked v ≡ b → cond b (next-word s K j L given v) (word-in given j v) ≡ word-of ks (next v)
             go true e = reduced-is v h
-            go false e = agrees v h ∙ ap (word-of ks) (sym (still v h e))
+            go false e = words v h ∙ agrees v h ∙ ap (word-of ks) (sym (still v h e))
 
         shown-is : (v : ℕ) → v < n → figures-in c new j v ≡ next v
         shown-is v h = word-shows (next v) (next-packs v h) new v (word-is v h)
 
         mark-is : (v : ℕ) → v < n → cell-in new j v .changed ≡ not (same (next v) (S v))
-        mark-is v h = ap (λ (z : Cell). z .changed) (y .cells v h) ∙ go (member work 0 v) refl
+        mark-is v h = ap (λ (z : Cell). z .changed) (y .cells v h) ∙ go (walked v) refl
           where
-            go : (b : Bool) → member work 0 v ≡ b → (b && moves s K j old work v) ≡ not (same (next v) (S v))
+            go : (b : Bool) → walked v ≡ b → (b && moves s K j L given v) ≡ not (same (next v) (S v))
             go true e =
-                ap₂ (λ (a d : ℕ). not (eqb a d)) (reduced-is v h) (agrees v h)
+                ap₂ (λ (a d : ℕ). not (eqb a d)) (reduced-is v h) (words v h ∙ agrees v h)
                 ∙ ap not (word-same ks (path-legal s path g) (next v) (S v) (next-packs v h) (S-packs v h))
             go false e = sym (ap not (T-true (same (next v) (S v)) (same-of (next v) (S v) (still v h e))))
 
@@ -221,9 +230,10 @@ module _ (s : List ℕ) (path : PackedPath) (g : Given s path) (j : ℕ) where
           figures = shown-is;
           marks = λ v h. mark-is v h ∙ ap (λ (o : Option (List ℕ)). not (same o (S v))) (sym (shown-is v h));
           moves = y .stirs;
-          others = y .others;
+          others = λ i h m v k. y .others i h m v k ∙ others i h m v k;
           sound = record {
-            long = omega (arith, y .size, x .long);
+            long = omega (arith, y .size, long, x .long);
+            idle = y .idle;
             words = λ v h. record { figures = next v; held = next-held v h; packs = next-packs v h; packed = word-is v h };
           };
         }

@@ -23,7 +23,7 @@ use Rattle.packed_path.specs.declared.PackedPath.{PackedPath}
 use Rattle.packed_path.specs.Packed.{path-of}
 use Rattle.packed_figures.specs.Packed.{figures-of}
 use Rattle.packed_figures.proofs.Held.{held-later}
-use Rattle.table.specs.Table.{Cell, Sound, any-vertex, cell-in, changed-in, figures-in}
+use Rattle.table.specs.Table.{Cell, Idle, Sound, any-vertex, cell-in, changed-in, figures-in}
 use Rattle.rounds.specs.Run.{Advanced, Begun, PullRound, PushRound, Round, Stands, pulled, pushed-from}
 use Rattle.rounds.proofs.Given.{Given, T-true, graph-legal, path-network, path-ordered}
 
@@ -31,6 +31,7 @@ use Rattle.rounds.proofs.Given.{Given, T-true, graph-legal, path-networ
 sound-later : (n : ℕ) (c : PathReduction) (r : ℕ) (l : List ℕ) (j : ℕ) → Sound n c r l j → Sound n c (suc r) l j
 sound-later n c r l j x = record {
   long = x .long;
+  idle = x .idle;
   words = λ v k.
       let w = x .words v k in
       record { figures = w .figures; held = held-later (c .keys) r (suc r) (omega arith) (w .figures) (w .held); packs = w .packs; packed = w .packed };
@@ -53,13 +54,13 @@ any-same zero f g h = refl
 any-same (suc n) f g h = rw (h n (omega arith), any-same n f g (λ v k. h v (omega arith))) refl
 
 -- what another's round leaves
-pub stands-kept : (g : Graph) (c : PathReduction) (r j : ℕ) (l l′ : List ℕ) → 32 + 8 * g .vertices ≤ length l′
+pub stands-kept : (g : Graph) (c : PathReduction) (r j : ℕ) (l l′ : List ℕ) → 32 + 9 * g .vertices ≤ length l′ → Idle (g .vertices) l′
     → ((v : ℕ) → v < g .vertices → cell-in l′ j v ≡ cell-in l j v) → Stands g c r j l → Stands g c r j l′
 unfolding figures-in changed-in
-stands-kept g c r j l l′ long same x = record {
+stands-kept g c r j l l′ long idle same x = record {
   figures = λ v k. ap (λ (z : Cell). figures-of (c .keys) (z .word)) (same v k) ∙ x .figures v k;
   marks = λ v k. ap (λ (z : Cell). z .changed) (same v k) ∙ x .marks v k;
-  sound = record { long = long; words = λ v k. rw (same v k) (x .sound .words v k) };
+  sound = record { long = long; idle = idle; words = λ v k. rw (same v k) (x .sound .words v k) };
 }
 
 module _ (s : List ℕ) (path : PackedPath) (g : Given s path) (j : ℕ) where

@@ -12,7 +12,7 @@ use Rattle.walks.specs.Walks.{Graph, Network}
 use Rattle.meaning.specs.Query.{PathReduction, network-of}
 use Rattle.meaning.specs.Run.{pull}
 use Rattle.packed_path.specs.declared.PackedPath.{PackedPath}
-use Rattle.table.specs.Table.{Others, Sound, any-vertex, changed-in, figures-in, path-at, paths-in, value-in}
+use Rattle.table.specs.Table.{Idle, Others, Sound, any-vertex, changed-in, figures-in, path-at, paths-in, value-in}
 
 -- what each vertex holds after a round, of what it held before. BY PULL: over all edges that may be taken
 abbrev pub pulled : Network → List ℕ → State → State
@@ -58,7 +58,8 @@ Advanced g c r j old new says = Stands g c (suc r) j new × (says ≡ not (uncha
 -- all path reductions of a table after r rounds
 pub record AllStand (g : Graph) (paths : ℕ) (table : List PackedPath) (r : ℕ) (l : List ℕ) : Type 0 where
   pub each : (j : ℕ) → j < paths → Stands g (path-at table j) r j l
-  pub long : 32 + 8 * g .vertices ≤ length l
+  pub long : 32 + 9 * g .vertices ≤ length l
+  pub idle : Idle (g .vertices) l
 
 -- does the round after r change no vertex for any of them?
 abbrev pub quiet-after : Graph → ℕ → List PackedPath → ℕ → Bool
@@ -84,3 +85,7 @@ AllSound n paths table l = (j : ℕ) → j < paths → (r : ℕ) × Sound n (pat
 
 abbrev pub Read : ℕ → ℕ → List PackedPath → List ℕ → List ℕ → Type 0
 Read n paths table old new = (j : ℕ) → j < paths → (v : ℕ) → v < n → value-in new j v ≡ value (figures-in (path-at table j) old j v)
+
+-- and so a run ends: with the values of the table that its rounds have left
+abbrev pub RanRead : Graph → ℕ → List PackedPath → ℕ → ℕ → List ℕ → Type 0
+RanRead g paths table limit rounds values = (l : List ℕ) × Ran g paths table limit rounds l × Read (g .vertices) paths table l values

@@ -14,9 +14,9 @@ ghost use Rattle.wire.specs.Wire.{at16};
 ghost use Rattle.graph.specs.Graph.{graph-code, graph-of};
 ghost use Rattle.packed_path.specs.Packed.{path-of};
 ghost use Rattle.packed_figures.specs.Packed.{constants};
-ghost use Rattle.table.specs.Table.{Sound, paths-in};
-ghost use Rattle.rounds.specs.Run.{Advanced, AllSound, AllStand, Begun, PullRound, PushRound, Ran, Read, Stands, quiet-after};
-ghost use Rattle.rounds.specs.Steps.{Constants, Indexed, Threads, small};
+ghost use Rattle.table.specs.Table.{Idle, Sound, paths-in};
+ghost use Rattle.rounds.specs.Run.{Advanced, AllSound, AllStand, Begun, PullRound, PushRound, Ran, RanRead, Read, Stands, quiet-after};
+ghost use Rattle.rounds.specs.Steps.{Constants, Indexed, small};
 
 // ---- what is fixed for a run
 
@@ -49,14 +49,14 @@ fn all_constants(n: usize, paths: usize, table: [PackedPath; 8]) -> [PathConstan
 fn initialize_at(path: PackedPath, c: PathConstants, graph: &[u8], j: usize, figures: &mut [u64])
     requires { ⌜
         (graph-code (now graph) ≡ 0) × (j < 8) × PathFits (at16 (now graph) 5) (path-of path) × (c ≡ constants (path-of path .keys))
-        × (32 + 8 * at16 (now graph) 5 ≤ length (now figures))
+        × (32 + 9 * at16 (now graph) 5 ≤ length (now figures)) × Idle (at16 (now graph) 5) (now figures)
         ⌝ }
     ensures { λ _. ⌜ Begun (graph-of (now (graph .entry))) (path-of path) j (now (figures .entry)) (now (figures .exit)) ⌝ }
 {
     table::initialize(path, c, incoming::vertices(graph), j, figures)
 }
 
-// Those of all path reductions.
+// Those of all path reductions; no vertex lends a word yet.
 fn initialize_all(
     graph: &[u8],
     paths: usize,
@@ -66,10 +66,11 @@ fn initialize_all(
 )
     requires { ⌜
         (graph-code (now graph) ≡ 0) × (paths ≤ 8) × All (PathFits (at16 (now graph) 5)) (paths-in paths table) × Constants paths table all
-        × (32 + 8 * at16 (now graph) 5 ≤ length (now figures))
+        × (32 + 9 * at16 (now graph) 5 ≤ length (now figures))
         ⌝ }
     ensures { λ _. ⌜ AllStand (graph-of (now (graph .entry))) paths table 0 (now (figures .exit)) ⌝ }
 {
+    table::idle(incoming::vertices(graph), figures);
     let mut j: usize = 0;
     while j < paths {
         let path = table[j];
@@ -81,29 +82,31 @@ fn initialize_all(
 
 // ---- a round of one path reduction, which has had r rounds
 
-// BY PULL: every vertex is walked, over all edges into it.
+// BY PULL: over the edges from all vertices, as if the round before had changed each of them.
 fn pull_round(
     path: PackedPath,
     c: PathConstants,
     graph: &[u8],
     heads: &[u16],
     nexts: &[u16],
+    successors: &[u64],
     j: usize,
     r: u16,
     figures: &mut [u64],
     work: &mut [u64],
 ) -> bool
     requires { ⌜
-        Threads (now graph) (now heads) (now nexts) × (j < 8) × PathFits (at16 (now graph) 5) (path-of path) × (c ≡ constants (path-of path .keys))
-        × (r < 1023) × Sound (at16 (now graph) 5) (path-of path) r (now figures) j × (8 + at16 (now graph) 5 ≤ length (now work))
+        Indexed (now graph) (now heads) (now nexts) (now successors) × (j < 8) × PathFits (at16 (now graph) 5) (path-of path)
+        × (c ≡ constants (path-of path .keys)) × (r < 1023) × Sound (at16 (now graph) 5) (path-of path) r (now figures) j
+        × (8 ≤ length (now work))
         ⌝ }
     ensures { λ b. ⌜
         PullRound (graph-of (now (graph .entry))) (path-of path) r j (now (figures .entry)) (now (figures .exit)) b
         × (length (now (work .exit)) ≡ length (now (work .entry)))
         ⌝ }
 {
-    table::touch_all(j, incoming::vertices(graph), figures, work);
-    table::step(c, j, graph, heads, nexts, figures, work)
+    vertex_set::fill(figures, j, incoming::vertices(graph));
+    table::step(c, j, graph, heads, nexts, successors, figures, work)
 }
 
 // BY PUSH: the successors of the vertices that the round before changed are walked, over the edges from changed ones (Definition 3).
@@ -122,15 +125,14 @@ fn push_round(
     requires { ⌜
         Indexed (now graph) (now heads) (now nexts) (now successors) × (j < 8) × PathFits (at16 (now graph) 5) (path-of path)
         × (c ≡ constants (path-of path .keys)) × (r < 1023) × Sound (at16 (now graph) 5) (path-of path) r (now figures) j
-        × (8 + at16 (now graph) 5 ≤ length (now work))
+        × (8 ≤ length (now work))
         ⌝ }
     ensures { λ b. ⌜
         PushRound (graph-of (now (graph .entry))) (path-of path) r j (now (figures .entry)) (now (figures .exit)) b
         × (length (now (work .exit)) ≡ length (now (work .entry)))
         ⌝ }
 {
-    table::touch(j, incoming::vertices(graph), figures, successors, work);
-    table::step(c, j, graph, heads, nexts, figures, work)
+    table::step(c, j, graph, heads, nexts, successors, figures, work)
 }
 
 // ---- rounds of all
@@ -152,7 +154,7 @@ fn advance(
     requires { ⌜
         Indexed (now graph) (now heads) (now nexts) (now successors) × (j < 8) × PathFits (at16 (now graph) 5) (path-of path)
         × (c ≡ constants (path-of path .keys)) × Stands (graph-of (now graph)) (path-of path) r j (now figures)
-        × (8 + at16 (now graph) 5 ≤ length (now work))
+        × (8 ≤ length (now work))
         ⌝ }
     ensures { λ b. ⌜
         Advanced (graph-of (now (graph .entry))) (path-of path) r j (now (figures .entry)) (now (figures .exit)) b
@@ -176,7 +178,18 @@ fn advance(
             work,
         );
     }
-    pull_round(path, c, graph, heads, nexts, j, r, figures, work)
+    pull_round(
+        path,
+        c,
+        graph,
+        heads,
+        nexts,
+        successors,
+        j,
+        r,
+        figures,
+        work,
+    )
 }
 
 // The round after r of all path reductions. Whether any changed.
@@ -195,7 +208,7 @@ fn round(
 ) -> bool
     requires { ⌜
         Indexed (now graph) (now heads) (now nexts) (now successors) × (paths ≤ 8) × All (PathFits (at16 (now graph) 5)) (paths-in paths table)
-        × Constants paths table all × AllStand (graph-of (now graph)) paths table r (now figures) × (8 + at16 (now graph) 5 ≤ length (now work))
+        × Constants paths table all × AllStand (graph-of (now graph)) paths table r (now figures) × (8 ≤ length (now work))
         ⌝ }
     ensures { λ b. ⌜
         AllStand (graph-of (now (graph .entry))) paths table (suc r) (now (figures .exit))
@@ -242,7 +255,7 @@ fn rounds(
 ) -> u16
     requires { ⌜
         Indexed (now graph) (now heads) (now nexts) (now successors) × (paths ≤ 8) × All (PathFits (at16 (now graph) 5)) (paths-in paths table)
-        × Constants paths table all × AllStand (graph-of (now graph)) paths table 0 (now figures) × (8 + at16 (now graph) 5 ≤ length (now work))
+        × Constants paths table all × AllStand (graph-of (now graph)) paths table 0 (now figures) × (8 ≤ length (now work))
         ⌝ }
     ensures { λ r. ⌜ Ran (graph-of (now (graph .entry))) paths table limit r (now (figures .exit))
         × (length (now (work .exit)) ≡ length (now (work .entry))) ⌝ }
@@ -270,9 +283,33 @@ fn rounds(
     r
 }
 
+// ---- values
+
+// The values of all path reductions at n vertices, in place of their figures.
+fn read_values(
+    n: usize,
+    paths: usize,
+    table: [PackedPath; 8],
+    all: [PathConstants; 8],
+    figures: &mut [u64],
+)
+    requires { ⌜
+        (n ≤ 256) × (paths ≤ 8) × All (PathFits n) (paths-in paths table) × Constants paths table all
+        × AllSound n paths table (now figures)
+        ⌝ }
+    ensures { λ _. ⌜ Read n paths table (now (figures .entry)) (now (figures .exit)) ⌝ }
+{
+    let mut j: usize = 0;
+    while j < paths {
+        let c = all[j];
+        table::read_values(c, n, j, figures);
+        j += 1;
+    }
+}
+
 // ---- a run
 
-// In tables that are lent: the index of the graph, the initial values, the rounds.
+// In tables that are lent: the index of the graph, the initial values, the rounds, the values.
 fn run_in(
     push: bool,
     graph: &[u8],
@@ -288,14 +325,15 @@ fn run_in(
     requires { ⌜
         (graph-code (now graph) ≡ 0) × (paths ≤ 8) × All (PathFits (at16 (now graph) 5)) (paths-in paths table)
         × (at16 (now graph) 5 ≤ length (now heads)) × (at16 (now graph) 7 ≤ length (now nexts)) × (4 * at16 (now graph) 5 ≤ length (now successors))
-        × (32 + 8 * at16 (now graph) 5 ≤ length (now figures)) × (8 + at16 (now graph) 5 ≤ length (now work))
+        × (32 + 9 * at16 (now graph) 5 ≤ length (now figures)) × (8 ≤ length (now work))
         ⌝ }
-    ensures { λ r. ⌜ Ran (graph-of (now (graph .entry))) paths table limit r (now (figures .exit)) ⌝ }
+    ensures { λ r. ⌜ RanRead (graph-of (now (graph .entry))) paths table limit r (now (figures .exit)) ⌝ }
 {
     incoming::index(graph, heads, nexts, successors);
-    let all = all_constants(incoming::vertices(graph), paths, table);
+    let n = incoming::vertices(graph);
+    let all = all_constants(n, paths, table);
     initialize_all(graph, paths, table, all, figures);
-    rounds(
+    let done = rounds(
         push,
         graph,
         heads,
@@ -307,7 +345,9 @@ fn run_in(
         limit,
         figures,
         work,
-    )
+    );
+    read_values(n, paths, table, all, figures);
+    done
 }
 
 // Has the graph few vertices and edges? Its tables are short then, so that a small one does not pay for 256 vertices.
@@ -322,7 +362,7 @@ pub fn is_small(graph: &[u8]) -> bool
 }
 
 // A run: rounds until one changes nothing, at most `limit`, by push over the edges from vertices that changed in the round before, by pull over all. How many
-// rounds; the figures reached are left in the table.
+// rounds; the values reached are left in the table.
 pub fn run(
     push: bool,
     graph: &[u8],
@@ -333,9 +373,9 @@ pub fn run(
 ) -> u16
     requires { ⌜
         (graph-code (now graph) ≡ 0) × (paths ≤ 8) × All (PathFits (at16 (now graph) 5)) (paths-in paths table)
-        × (32 + 8 * at16 (now graph) 5 ≤ length (now figures))
+        × (32 + 9 * at16 (now graph) 5 ≤ length (now figures))
         ⌝ }
-    ensures { λ r. ⌜ Ran (graph-of (now (graph .entry))) paths table limit r (now (figures .exit)) ⌝ }
+    ensures { λ r. ⌜ RanRead (graph-of (now (graph .entry))) paths table limit r (now (figures .exit)) ⌝ }
 {
     if is_small(graph) {
         return run_in(
@@ -348,7 +388,7 @@ pub fn run(
             &mut [0u16; 64],
             &mut [0u64; 64],
             figures,
-            &mut [0u64; 24],
+            &mut [0u64; 8],
         );
     }
     run_in(
@@ -361,19 +401,6 @@ pub fn run(
         &mut [0u16; 1024],
         &mut [0u64; 1024],
         figures,
-        &mut [0u64; 264],
+        &mut [0u64; 8],
     )
-}
-
-// The values of all path reductions at n vertices, in place of their figures.
-pub fn read_values(n: usize, paths: usize, table: [PackedPath; 8], figures: &mut [u64])
-    requires { ⌜ (n ≤ 256) × (paths ≤ 8) × All (PathFits n) (paths-in paths table) × AllSound n paths table (now figures) ⌝ }
-    ensures { λ _. ⌜ Read n paths table (now (figures .entry)) (now (figures .exit)) ⌝ }
-{
-    let mut j: usize = 0;
-    while j < paths {
-        let path = table[j];
-        table::read_values(constants_of(path), n, j, figures);
-        j += 1;
-    }
 }

@@ -23,7 +23,7 @@ use Rattle.meaning.proofs.Lists.{all-unmapped}
 use Rattle.meaning.proofs.Rounds.{network-fits, path-in-order, rounds-at-most, rounds-final, rounds-go-on, rounds-smallest, rounds-stop}
 use Rattle.packed_path.specs.declared.PackedPath.{PackedPath}
 use Rattle.table.specs.Table.{figures-in, path-at, paths-in, value-in}
-use Rattle.rounds.specs.Run.{AllSound, Ended, Ran, Read}
+use Rattle.rounds.specs.Run.{Ended, Ran, Read}
 use Rattle.rounds.proofs.Tables.{legal-at}
 
 -- what a function gives at the path reduction with index j
@@ -46,10 +46,6 @@ module _ (g : Graph) (legal-graph : GraphLegal g) (paths : ℕ) (table : List Pa
 
   fits-at : (j : ℕ) → j < paths → PathFits (g .vertices) (path-at table j)
   fits-at j h = legal-at (PathFits (g .vertices)) table paths legal j h (omega arith)
-
-  -- its words can be read
-  pub all-sound : AllSound (g .vertices) paths table figures
-  all-sound j h = (done, ran .sound j h)
 
   -- once quiet, always so: the figures after the given number of rounds are those of the rounds done
   settled : (j : ℕ) → j < paths → (v : ℕ) → v < g .vertices → Ended g paths table limit done → pull g (c j) done v ≡ pull g (c j) limit v

@@ -14,7 +14,7 @@ use Rattle.meaning.specs.Query.{PathReduction}
 use Rattle.packed_path.specs.declared.PackedPath.{PackedPath}
 use Rattle.packed_path.specs.Packed.{no-path, path-of}
 use Rattle.packed_figures.specs.Held.{Held}
-use Rattle.packed_figures.specs.Packed.{Packs, figures-of, word-of}
+use Rattle.packed_figures.specs.Packed.{Packs, absent, figures-of, word-of}
 use Rattle.vertex_set.specs.Sets.{member}
 
 -- the first `count` path reductions of a table; the one with index j
@@ -57,9 +57,17 @@ pub record SoundWord (ks : List ℕ) (r x : ℕ) : Type 0 where
   pub packs : Packs ks figures
   pub packed : x ≡ word-of ks figures
 
+-- behind the words of the n vertices each has one more, which it lends to the edges from it in a round; it is ABSENT between rounds
+abbrev pub lent : ℕ → List ℕ → ℕ → ℕ
+lent n l u = getD l (32 + 8 * n + u) 0
+
+abbrev pub Idle : ℕ → List ℕ → Type 0
+Idle n l = (u : ℕ) → u < n → lent n l u ≡ absent
+
 -- the words of the path reduction c with index j, on n vertices
 pub record Sound (n : ℕ) (c : PathReduction) (r : ℕ) (l : List ℕ) (j : ℕ) : Type 0 where
-  pub long : 32 + 8 * n ≤ length l
+  pub long : 32 + 9 * n ≤ length l
+  pub idle : Idle n l
   pub words : (v : ℕ) → v < n → SoundWord (c .keys) r (cell-in l j v .word)
 
 -- the other path reductions have what they had

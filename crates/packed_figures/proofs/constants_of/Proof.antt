@@ -32,12 +32,6 @@ unit-of-requires-4 c κs = search needs
 if-same-requires : tie.Need-if-same-requires
 if-same-requires c κs = search needs
 
-if-same-requires-2 : tie.Need-if-same-requires-2
-if-same-requires-2 c κs = search needs
-
-if-same-requires-3 : tie.Need-if-same-requires-3
-if-same-requires-3 c κs = search needs
-
 shift-of-third-requires : tie.Need-shift-of-third-requires
 shift-of-third-requires c κs = search needs
 
@@ -47,22 +41,20 @@ flip-for-requires c κs = search needs
 returns : tie.Need-returns
 unfolding constants
 returns c =
-    let a = c .before .before .before .before .before .before .before .before .before .before .before .before .args .a in
-    let b = c .before .before .before .before .before .before .before .before .before .before .before .before .args .b in
-    let k = c .before .before .before .before .before .before .before .before .before .before .before .before .args .c in
+    let a = c .before .before .before .before .before .before .before .before .before .before .args .a in
+    let b = c .before .before .before .before .before .before .before .before .before .before .args .b in
+    let k = c .before .before .before .before .before .before .before .before .before .before .args .c in
     rw (
       c .flip-for .ensures,
       c .before .shift-of-third .ensures,
-      c .before .before .if-same3 .ensures .0,
-      c .before .before .before .if-same2 .ensures .0,
-      c .before .before .before .before .if-same .ensures .0,
-      c .before .before .before .before .before .unit-of4 .ensures,
-      c .before .before .before .before .before .before .unit-of3 .ensures,
-      c .before .before .before .before .before .before .before .unit-of2 .ensures,
-      c .before .before .before .before .before .before .before .before .unit-of .ensures,
-      c .before .before .before .before .before .before .before .before .before .power .ensures .0,
-      c .before .before .before .before .before .before .before .before .before .before .bits-of .ensures .0,
-      c .before .before .before .before .before .before .before .before .before .before .before .units-of .ensures .0,
+      c .before .before .if-same .ensures .0,
+      c .before .before .before .unit-of4 .ensures,
+      c .before .before .before .before .unit-of3 .ensures,
+      c .before .before .before .before .before .unit-of2 .ensures,
+      c .before .before .before .before .before .before .unit-of .ensures,
+      c .before .before .before .before .before .before .before .power .ensures .0,
+      c .before .before .before .before .before .before .before .before .bits-of .ensures .0,
+      c .before .before .before .before .before .before .before .before .before .units-of .ensures .0,
       three-unit a b k 1,
       three-unit a b k 2,
       three-unit a b k 3,
@@ -83,8 +75,6 @@ constants-of-spec =
     unit-of-requires-3
     unit-of-requires-4
     if-same-requires
-    if-same-requires-2
-    if-same-requires-3
     shift-of-third-requires
     flip-for-requires
     returns)

@@ -55,7 +55,7 @@ push-round-requires c κs =
 pull-round-requires : tie.Need-pull-round-requires
 pull-round-requires c κs =
     let s = c .before .before .before .before .before .before .before .before .before .before .before .before .before in
-    (s .pre .0 .threads, s .pre .1, s .pre .2, s .pre .3, early (c .before .before .before), s .pre .4 .sound, s .pre .5)
+    (s .pre .0, s .pre .1, s .pre .2, s .pre .3, early (c .before .before .before), s .pre .4 .sound, s .pre .5)
 
 returns-2 : tie.Need-returns-2
 returns-2 c =
@@ -93,6 +93,6 @@ advance-spec =
     (λ c. c .before .before .before .before .push-round .ensures .1)
     returns-2
     pull-round-requires
-    (λ c. c .before .before .before .before .pull-round .kept .1 .1 .1 .1 .1 .1 .1 .0)
+    (λ c. c .before .before .before .before .pull-round .kept .1 .1 .1 .1 .1 .1 .1 .1 .0)
     (λ c. c .before .before .before .before .pull-round .ensures .1)
     returns-3)

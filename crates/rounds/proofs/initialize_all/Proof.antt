@@ -25,12 +25,22 @@ abbrev μ-loop : tie.MeasureT-loop
 
 loop-holds : tie.Need-loop-holds Inv-loop μ-loop
 loop-holds c =
-    let s = c .before .before in
-    (s .pre .1, omega arith, record { each = λ j h. absurd (not-suc-le-zero h); long = s .pre .4 }, refl)
+    let s = c .before .before .before .before .before .before .before in
+    let i = c .before .before .idle in
+    let e = c .before .before .before .before .vertices .ensures .0 in (
+      s .pre .1,
+      omega arith,
+      record {
+        each = λ j h. absurd (not-suc-le-zero h);
+        long = omega (arith, s .pre .4, i .ensures .size);
+        idle = rw e at (i .ensures .words);
+      },
+      refl,
+    )
 
 initialize-at-requires : tie.Need-initialize-at-requires Inv-loop μ-loop
 initialize-at-requires c κs =
-    let s = c .before .before .before .before .before .before .before in
+    let s = c .before .before .before .before .before .before .before .before .before .before .before .before in
     let a = s .args in
     let l = c .before .before .before .before .loop in
     let e : length {A = PackedPath} (a .t3) ≡ 8 = s .good .1 .1 .0 .1 .0 .1 in
@@ -40,11 +50,12 @@ initialize-at-requires c κs =
       legal-at (PathFits (at16 (a .graph .now) 5)) (a .t3) (a .paths) (s .pre .2) (l .j) h (omega (arith, s .pre .1)),
       s .pre .3 (l .j) h,
       l .inv .2 .long,
+      l .inv .2 .idle,
     )
 
 loop-again : tie.Need-loop-again Inv-loop μ-loop
 loop-again c =
-    let s = c .before .before .before .before .before .before .before .before .before .before in
+    let s = c .before .before .before .before .before .before .before .before .before .before .before .before .before .before .before in
     let a = s .args in
     let l = c .before .before .before .before .before .before .before .loop in
     let e : length {A = PackedPath} (a .t3) ≡ 8 = s .good .1 .1 .0 .1 .0 .1 in
@@ -56,7 +67,7 @@ loop-again c =
           (started-more (a .graph .now) (a .t3) (l .j) (omega (arith, s .pre .1))
           (record {
             bytes = λ i. omega
-                (arith, c .before .before .before .before .before .before .before .before .before .shared-slice-known .given i);
+                (arith, c .before .before .before .before .before .before .before .before .before .before .before .before .before .before .shared-slice-known .given i);
             accepted = s .pre .0;
             fits =
                 fits;
@@ -67,7 +78,7 @@ loop-again c =
 
 returns : tie.Need-returns Inv-loop μ-loop
 returns c =
-    let a = c .before .before .before .before .args in
+    let a = c .before .before .before .before .before .before .before .before .before .args in
     let l = c .before .loop in
     started-all (graph-of (a .graph .now)) (a .paths) (a .t3) (l .inv .0) (l .j) (l .figures) (l .inv .2) (omega (arith, l .inv .1))
 
@@ -77,6 +88,8 @@ initialize-all-spec =
     (tie.spec
     Inv-loop
     μ-loop
+    (λ c κs. c .before .before .pre .0)
+    (λ c κs. (c .before .vertices .ensures .1, omega (arith, c .before .vertices .ensures .0, c .before .before .before .before .pre .4)))
     loop-holds
     (λ c. omega (arith, c .before .loop .inv .0))
     (λ c. omega (arith, c .before .loop .inv .0))
@@ -86,5 +99,5 @@ initialize-all-spec =
     (λ c. omega arith)
     (λ c. omega arith)
     loop-again
-    (λ c. c .before .loop .inv .3)
+    (λ c. c .before .loop .inv .3 ∙ c .before .before .before .before .idle .kept .1 .0)
     returns)

@@ -22,7 +22,7 @@ returns c =
     let a = s .args in
     let known = c .before .before .before .before .before .before .shared-slice-known in
     begins-at (a .graph .now) (a .path) (record { bytes = λ i. omega (arith, known .given i); accepted = s .pre .0; fits = s .pre .2 }) (a .j)
-    (a .figures .now) _ (s .pre .4)
+    (a .figures .now) _ (s .pre .4) (s .pre .5)
     (rw (sym (s .pre .3), sym (c .before .before .before .before .vertices .ensures .0)) (c .before .before .initialize .ensures))
 
 pub initialize-at-spec : {M : Type 1} → statement M

@@ -2,66 +2,44 @@
 use native.Mathlib.Omega.{arith}
 use mathlib.Core.Path.{_≡_, sym, _∙_}
 use lib.ListN.{length}
-use Rattle.rounds.proofs.Given.{Given, graph-legal}
-use Rattle.rounds.proofs.Touched.{push-ready, push-round-at}
-use borrow.Author.Needs.{needs}
+use Rattle.rounds.proofs.Given.{Given}
+use Rattle.rounds.proofs.Touched.{push-given, step-quiet, step-round}
 use Rattle.rounds.proofs.push_round.Statement.{statement}
 use Rattle.rounds.proofs.push_round.Tie as tie
 
+given : (c : tie.After-shared-slice-known) → Given (c .before .args .graph .now) (c .before .args .path)
+given c = record { bytes = λ i. omega (arith, c .shared-slice-known .given i); accepted = c .before .pre .0 .threads .accepted; fits = c .before .pre .2 }
+
 step-requires : tie.Need-step-requires
 step-requires c κs =
-    let s = c .before .before .before .before .before .before .before .before .before .before .before .before .before .before in
+    let s = c .before .before .before .before .before .before .before .before in
     let a = s .args in
-    let given : Given (a .graph .now) (a .path) =
-    record {
-      bytes = λ i. omega
-          (arith, c .before .before .before .before .before .before .before .before .before .before .before .before .before .shared-slice-known .given i);
-      accepted = s .pre .0 .threads .accepted;
-      fits = s .pre .2;
-    } in
+    let l = a .figures .now in
+    let k = given (c .before .before .before .before .before .before .before) in
+    let t = push-given (a .graph .now) (a .path) k (a .j) (s .pre .1) (a .r) (s .pre .4) l (s .pre .5) (a .heads .now) (a .nexts .now)
+    (a .successors .now) (s .pre .0) in
     rw (s .pre .3)
-    (push-ready (a .graph .now) (a .path) given (a .j) (s .pre .1) (a .r) (s .pre .4) (a .figures .now) (s .pre .5) (a .work .now) _ (s .pre .6)
-    (a .heads .now) (a .nexts .now) (a .successors .now) (s .pre .0)
-    (rw (c .before .before .before .before .before .before .before .vertices .ensures .0) at (c .before .before .before .before .touch .ensures)))
+    (step-quiet (a .graph .now) (a .path) k (a .j) (s .pre .1) (a .r) (s .pre .4) l (s .pre .5) (a .heads .now) (a .nexts .now) (a .successors .now)
+    (s .pre .0) l _ t (a .work .now) (s .pre .6))
 
 returns : tie.Need-returns
 returns c =
-    let s = c .before .before .before .before .before .before .before .before .before .before .before .before .before .before .before .before .before
-    .before .before in
+    let s = c .before .before .before .before .before .before .before .before .before .before .before .before .before in
     let a = s .args in
-    let given : Given (a .graph .now) (a .path) =
-    record {
-      bytes = λ i. omega (
-        arith,
-        c .before .before .before .before .before .before .before .before .before .before .before .before .before .before .before .before .before
-            .before .shared-slice-known .given i,
-      );
-      accepted = s .pre .0 .threads .accepted;
-      fits = s .pre .2;
-    } in (
-      push-round-at (a .graph .now) (a .path) given (a .j) (s .pre .1) (a .r) (s .pre .4) (a .figures .now) (s .pre .5) (a .work .now) _ (s .pre .6)
-          (a .heads .now) (a .nexts .now) (a .successors .now) (s .pre .0)
-          (rw (c .before .before .before .before .before .before .before .before .before .before .before .before .vertices .ensures .0) at
-          (c .before .before .before .before .before .before .before .before .before .touch .ensures)) _ _
-          (rw (s .pre .3) at (c .before .before .before .before .step .ensures .0)),
-      c .before .before .before .before .step .ensures .1
-          ∙ c .before .before .before .before .before .before .before .before .before .touch .kept .1 .1 .1 .1 .0,
+    let l = a .figures .now in
+    let k = given (c .before .before .before .before .before .before .before .before .before .before .before .before) in
+    let t = push-given (a .graph .now) (a .path) k (a .j) (s .pre .1) (a .r) (s .pre .4) l (s .pre .5) (a .heads .now) (a .nexts .now)
+    (a .successors .now) (s .pre .0) in (
+      step-round (a .graph .now) (a .path) k (a .j) (s .pre .1) (a .r) (s .pre .4) l (s .pre .5) (a .heads .now) (a .nexts .now) (a .successors .now)
+          (s .pre .0) l _ t _ _ (rw (s .pre .3) at (c .before .before .before .before .step .ensures .0)),
+      c .before .before .before .before .step .ensures .1,
     )
 
 pub push-round-spec : {M : Type 1} → statement M
 push-round-spec =
     tie.close
     (tie.spec
-    (λ c κs. c .before .before .before .before .before .before .pre .0 .threads .accepted)
-    (λ c κs. (
-      c .before .before .before .before .before .before .before .before .before .pre .1,
-      c .before .before .vertices .ensures .1,
-      omega (arith, c .before .before .vertices .ensures .0, c .before .before .before .before .before .before .before .before .before .pre .5 .long),
-      omega (arith, c .before .before .vertices .ensures .0, c .before .before .before .before .before .before .before .before .before .pre .0 .leads-fit),
-      omega (arith, c .before .before .before .before .before .before .before .before .before .pre .6),
-    ))
     step-requires
-    (λ c. c .before .before .before .before .step .kept .1 .1 .1 .1 .1 .0)
-    (λ c. c .before .before .before .before .step .ensures .1
-    ∙ c .before .before .before .before .before .before .before .before .before .touch .kept .1 .1 .1 .1 .0)
+    (λ c. c .before .before .before .before .step .kept .1 .1 .1 .1 .1 .1 .0)
+    (λ c. c .before .before .before .before .step .ensures .1)
     returns)

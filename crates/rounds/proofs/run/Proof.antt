@@ -12,13 +12,13 @@ run-in-requires c κs =
     let b = c .before .before .before .before .before in
     let s = b .before .before .before .before in
     let h = small-sizes (s .args .graph .now) (sym (b .before .is-small .ensures) ∙ b .if1 .taken) in
-    (s .pre .0, s .pre .1, s .pre .2, h .0, h .1, omega (arith, h .0), s .pre .3, omega (arith, h .0))
+    (s .pre .0, s .pre .1, s .pre .2, h .0, h .1, omega (arith, h .0), s .pre .3, omega arith)
 
 run-in-requires-2 : tie.Need-run-in-requires-2
 run-in-requires-2 c κs =
     let s = c .before .before .before .before .before .before .before .before .before in
     let h = accepted (s .args .graph .now) (s .pre .0) .sizes in
-    (s .pre .0, s .pre .1, s .pre .2, h .few-vertices, h .few-edges, omega (arith, h .few-vertices), s .pre .3, omega (arith, h .few-vertices))
+    (s .pre .0, s .pre .1, s .pre .2, h .few-vertices, h .few-edges, omega (arith, h .few-vertices), s .pre .3, omega arith)
 
 pub run-spec : {M : Type 1} → statement M
 run-spec =

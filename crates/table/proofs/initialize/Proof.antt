@@ -7,9 +7,10 @@ use native.Mathlib.Omega.{arith}
 use native.Mathlib.Decide.{ℕ-discrete}
 use borrow.Author.Tests.{eq-eqb, ne-eqb}
 use lib.Dec.{eqb}
-use lib.ListN.{length, set, length-set}
+use lib.ListN.{length, getD, set, length-set}
+use lib.Seq.{getD-set-other}
 use Rattle.vertex_set.specs.Sets.{emptied, inserted, member}
-use Rattle.vertex_set.proofs.Sets.{member-emptied, replaced-length}
+use Rattle.vertex_set.proofs.Sets.{member-emptied, replaced-length, replaced-other}
 use Rattle.packed_path.specs.Packed.{sources-of}
 use Rattle.packed_path.specs.Steps.{begins}
 use Rattle.packed_figures.specs.declared.PathConstants.{PathConstants}
@@ -25,6 +26,7 @@ record Upto (b : ℕ → Bool) (c : PathConstants) (j : ℕ) (old new : List ℕ
   marks : (u : ℕ) → u < v → u < 256 → member new j u ≡ b u
   blank : (u : ℕ) → v ≤ u → u < 256 → member new j u ≡ false
   others : (i : ℕ) → i < 8 → (i ≡ j → ⊥) → (u : ℕ) → u < 256 → cell-in new i u ≡ cell-in old i u
+  kept : (k : ℕ) → 32 + 8 * v ≤ k → getD new k 0 ≡ getD old k 0
   size : length new ≡ length old
 
 -- the set is empty at first, and the others are as they were
@@ -71,6 +73,10 @@ module _ (b : ℕ → Bool) (c : PathConstants) (j : ℕ) (old new : List ℕ) (
         cells-same new next i u (word-kept i u ∙ stored-slot new j v (started c (b v) v) slot i u h n)
         (marked-elsewhere (b v) stored j v i u few k long (rw (ne-eqb i j n)) ∙ stored-marks new j v (started c (b v) v) slot i u h k)
         ∙ p .others i h n u k;
+    kept = λ k h.
+        marked-other (b v) stored j v k few (omega arith)
+        ∙ getD-set-other new (32 + 8 * v + j) k (started c (b v) v) 0 (λ e. omega (arith, e))
+        ∙ p .kept k (omega arith);
     size = marked-size (b v) stored j v ∙ length-set new (32 + 8 * v + j) (started c (b v) v) ∙ p .size;
   }
     where
@@ -100,6 +106,7 @@ loop-holds c =
         blank = λ u h k. ap (λ (l : List ℕ). member l (s .args .j) u) e
             ∙ cleared (s .args .j) (s .args .figures .now) u k (omega (arith, s .pre .2, s .pre .3));
         others = λ i h n u k. refl;
+        kept = λ k h. refl;
         size = refl;
       },
     )
@@ -150,6 +157,10 @@ returns c =
           p .others i h n v (omega arith)
           ∙ ap (λ (f : List ℕ). cell-in f i v) e₀
           ∙ cleared-others (a .j) (a .figures .now) (s .pre .2) (omega (arith, s .pre .3)) i h n v (omega arith);
+      kept = λ u.
+          p .kept (32 + 8 * a .n + u) (omega (arith, e))
+          ∙ ap (λ (f : List ℕ). getD f (32 + 8 * a .n + u) 0) e₀
+          ∙ replaced-other (a .figures .now) (a .j) _ (32 + 8 * a .n + u) (omega (arith, s .pre .2));
       size = p .size ∙ ap length e₀ ∙ replaced-length (a .figures .now) (a .j) _;
     }
 

@@ -53,7 +53,7 @@ next-requires-2 c κs = (
     c .before .before .before .before .before .walk-at .kept .1 .1 .1 .1 .1 .1 .1 .0,
     c .before .before .before .before .before .before .before .before .before .loop .inv .2 .room,
     c .before .before .before .before .before .before .before .before .before .before .before .before .before .before .before .before .before .pre
-        .0 .edges .lends .work-fits,
+        .0 .work-fits,
   ),
 )
 
@@ -80,7 +80,7 @@ loop-again c =
     let after : Walked (a .graph .now) (a .c) (a .j) (a .figures .now) (a .work .now) figures work (l .v + 1) =
     rw (t .ensures .0, t .ensures .1)
     (walked-more (a .graph .now) (a .c) (a .j) slot (a .figures .now) (a .work .now) (l .figures) (l .work) (l .v) p
-    (omega (arith, slot, vertex, s .pre .0 .table-fits)) (omega (arith, s .pre .0 .edges .lends .work-fits)) small m) in
+    (omega (arith, slot, vertex, s .pre .0 .edges .lends .table-fits)) (s .pre .0 .work-fits) small vertex m) in
     let h = next-least work 0 (l .v + 1) (omega (arith, small)) in
     rw (c .next2 .ensures) (
       h .most,
@@ -101,7 +101,7 @@ walk-spec =
     (tie.spec
     Inv-loop
     μ-loop
-    (λ c κs. (omega arith, omega (arith, c .before .before .before .before .before .before .pre .0 .edges .lends .work-fits)))
+    (λ c κs. (omega arith, omega (arith, c .before .before .before .before .before .before .pre .0 .work-fits)))
     loop-holds
     walk-at-requires
     (λ c. omega arith)

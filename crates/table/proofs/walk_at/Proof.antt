@@ -26,7 +26,7 @@ walk-at-spec =
     (λ c. omega arith)
     (λ c. omega (
       arith,
-      c .before .before .before .before .before .before .pre .0 .table-fits,
+      c .before .before .before .before .before .before .pre .0 .edges .lends .table-fits,
       c .before .before .before .before .before .before .pre .0 .slot,
       c .before .before .before .before .before .before .pre .1,
     ))
@@ -34,7 +34,7 @@ walk-at-spec =
     (λ c. omega arith)
     (λ c. omega (
       arith,
-      c .before .before .before .before .before .before .before .before .pre .0 .table-fits,
+      c .before .before .before .before .before .before .before .before .pre .0 .edges .lends .table-fits,
       c .before .before .before .before .before .before .before .before .pre .0 .slot,
       c .before .before .before .before .before .before .before .before .pre .1,
     ))
@@ -45,7 +45,7 @@ walk-at-spec =
         accepted (c .before .before .before .before .before .before .before .before .before .args .graph .now)
             (c .before .before .before .before .before .before .before .before .before .pre .0 .edges .lends .accepted) .sizes .few-vertices,
       ),
-      omega (arith, c .before .before .before .before .before .before .before .before .before .pre .0 .edges .lends .work-fits),
+      omega (arith, c .before .before .before .before .before .before .before .before .before .pre .0 .work-fits),
     ))
     (λ c. search needs)
     (λ c. c .before .before .insert-if .kept .0)

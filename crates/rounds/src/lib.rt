@@ -161,7 +161,8 @@ fn advance(
         × (length (now (work .exit)) ≡ length (now (work .entry)))
         ⌝ }
 {
-    if incoming::vertices(graph) <= vertex_set::next(figures, j, 0) {
+    let m = vertex_set::first(figures, j);
+    if incoming::vertices(graph) <= m.vertex {
         return false;
     }
     if push {

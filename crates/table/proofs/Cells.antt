@@ -8,8 +8,8 @@ use borrow.Author.Tests.{eq-eqb}
 use lib.Dec.{eqb}
 use lib.ListN.{length, getD, set}
 use lib.Seq.{getD-set-same, getD-set-other}
-use Rattle.vertex_set.specs.Sets.{inserted, member, replaced}
-use Rattle.vertex_set.proofs.Sets.{inserted-length, inserted-other, member-inserted, member-stored, replaced-other}
+use Rattle.vertex_set.specs.Sets.{above, inserted, member, replaced}
+use Rattle.vertex_set.proofs.Sets.{above-inserted, inserted-length, inserted-other, member-inserted, member-stored, replaced-other}
 use Rattle.table.specs.Table.{Cell, cell, cell-in}
 use Rattle.table.specs.Steps.{word-in}
 
@@ -86,3 +86,8 @@ marked-here test l f x h room e =
 pub marked-elsewhere : (test : Bool) (l : List ℕ) (f x g v : ℕ) → x < 256 → v < 256 → 4 * f + 4 ≤ length l → (eqb g f && eqb v x) ≡ false
     → member (cond test (inserted l f x) l) g v ≡ member l g v
 marked-elsewhere test l f x g v h k room e = marked-member test l f x g v h k room ∙ rw e (or-false-both (member l g v) test)
+
+-- the digits above a vertex of an earlier set
+pub marked-above : (test : Bool) (l : List ℕ) (f x g v : ℕ) → v < 256 → g < f → above (cond test (inserted l f x) l) g v ≡ above l g v
+marked-above true l f x g v h k = above-inserted l f x g v h k
+marked-above false l f x g v h k = refl

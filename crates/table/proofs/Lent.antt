@@ -1,5 +1,5 @@
 -- THE WORDS LENT, one after the other. Assumes nothing.
-use Prim.Native.Nat.{ℕ, _+_, _*_, _/_, _≤_, _<_}
+use Prim.Native.Nat.{ℕ, _+_, _*_, _/_, _%_, _^_, _≤_, _<_}
 use mathlib.Core.Path.{_≡_, refl, sym, ap, _∙_}
 use mathlib.Core.Bool.{Bool}
 use mathlib.Core.List.{List}
@@ -7,7 +7,8 @@ use native.Mathlib.Omega.{arith}
 use native.Mathlib.Decide.{ℕ-discrete, decLt}
 use lib.ListN.{length, getD, set, length-set}
 use lib.Seq.{getD-set-same, getD-set-other}
-use Rattle.vertex_set.specs.Sets.{digit, member}
+use Rattle.vertex_set.specs.Sets.{above, member}
+use Rattle.vertex_set.proofs.Sets.{member-stored}
 use Rattle.table.specs.Table.{lent}
 use Rattle.table.specs.Steps.{Relent, word-in}
 
@@ -43,6 +44,17 @@ module _ (n : ℕ) (L : ℕ → ℕ) (base : List ℕ) where
       go : (u : ℕ) → u < v + 1 → Dec (u ≡ v) → lent n (set l (32 + 8 * n + v) x) u ≡ L u
       go u h (yes q) = rw q (getD-set-same l (32 + 8 * n + v) x 0 (omega (arith, p .size)) ∙ e)
       go u h (no q) = getD-set-other l (32 + 8 * n + v) (32 + 8 * n + u) x 0 (λ r. q (omega (arith, r))) ∙ p .done u (omega arith)
+
+  -- the sets, where one more lends
+  pub marks-stored : (l : List ℕ) (v : ℕ) → Upto n L base l v → (j : ℕ) → j < 8 → (x y u : ℕ) → u < 256
+      → member (set l (32 + 8 * n + x) y) j u ≡ member base j u
+  marks-stored l v p j slot x y u k = member-stored l (32 + 8 * n + x) y j u k (omega arith) ∙ marks-stay n base l (p .rest) j u slot k
+
+  pub above-stored : (l : List ℕ) (v : ℕ) → Upto n L base l v → (j : ℕ) → j < 8 → (x y u : ℕ) → u < 256
+      → above (set l (32 + 8 * n + x) y) j u ≡ above base j u
+  above-stored l v p j slot x y u k =
+      ap (λ (w : ℕ). w / 2 ^ (u % 64 + 1))
+      (getD-set-other l (32 + 8 * n + x) (4 * j + u / 64) y 0 (λ e. omega (arith, e)) ∙ p .rest (4 * j + u / 64) (omega arith))
 
   -- those that have what they shall lend are passed over
   pub upto-passed : (l : List ℕ) (v w : ℕ) → v ≤ w → ((u : ℕ) → v ≤ u → u < w → lent n base u ≡ L u) → Upto n L base l v → Upto n L base l w

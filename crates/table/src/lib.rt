@@ -90,11 +90,12 @@ fn touch(
 {
     vertex_set::clear(work, 0);
     let first = 32 + 8 * n;
-    let mut u = vertex_set::next(figures, j, 0);
-    while u < n {
+    let mut m = vertex_set::first(figures, j);
+    while m.vertex < n {
+        let u = m.vertex;
         figures[first + u] = figures[32 + 8 * u + j] + c.edges;
         vertex_set::join(work, 0, successors, u);
-        u = vertex_set::next(figures, j, u + 1);
+        m = vertex_set::after(figures, j, m);
     }
 }
 
@@ -107,10 +108,11 @@ fn unlend(j: usize, n: usize, figures: &mut [u64])
     ensures { λ _. ⌜ Relent n (λ u. absent) (now (figures .entry)) (now (figures .exit)) ⌝ }
 {
     let first = 32 + 8 * n;
-    let mut u = vertex_set::next(figures, j, 0);
-    while u < n {
+    let mut m = vertex_set::first(figures, j);
+    while m.vertex < n {
+        let u = m.vertex;
         figures[first + u] = packed_figures::ABSENT;
-        u = vertex_set::next(figures, j, u + 1);
+        m = vertex_set::after(figures, j, m);
     }
 }
 
@@ -194,10 +196,10 @@ fn walk(
         Walked (now (graph .entry)) c j (now (figures .entry)) (now (work .entry)) (now (figures .exit)) (now (work .exit)) 256
         ⌝ }
 {
-    let mut v = vertex_set::next(work, 0, 0);
-    while v < 256 {
-        walk_at(c, j, v, graph, heads, nexts, figures, work);
-        v = vertex_set::next(work, 0, v + 1);
+    let mut m = vertex_set::first(work, 0);
+    while m.vertex < 256 {
+        walk_at(c, j, m.vertex, graph, heads, nexts, figures, work);
+        m = vertex_set::after(work, 0, m);
     }
 }
 
@@ -210,7 +212,8 @@ fn mark(j: usize, figures: &mut [u64], work: &[u64]) -> bool
 {
     vertex_set::clear(figures, j);
     vertex_set::join(figures, j, work, 1);
-    vertex_set::next(work, 1, 0) < 256
+    let m = vertex_set::first(work, 1);
+    m.vertex < 256
 }
 
 // A round of path reduction j over the edges from the vertices of its set: the vertices that these lead to are walked, by the words that those have; the others

@@ -10,11 +10,13 @@ use native.Mathlib.Decide.{ℕ-discrete, decLt}
 use borrow.Author.Tests.{eqb-true, eqb-false, eq-eqb, ne-eqb, lt-ltb, le-ltb}
 use lib.Bits.{bitOr}
 use lib.Count.{trailingZeros}
+use lib.Pow.{shr-shr}
 use lib.Dec.{eqb, ltb}
 use lib.ListN.{length, getD, set, replicate, length-set}
 use lib.Seq.{sets, length-sets, getD-set-same, getD-set-other, ext-getD}
 use Rattle.vertex_set.specs.Least.{some-below}
-use Rattle.vertex_set.specs.Sets.{digit, member, inserted, replaced, emptied, ones, filled, joined, joined-chosen, next-member}
+use Rattle.vertex_set.specs.Sets.{Met, above, digit, emptied, filled, inserted, joined, joined-chosen, member, next-member, ones, replaced}
+use Rattle.vertex_set.specs.declared.Member.{Member}
 use Rattle.vertex_set.proofs.Digits.{digit-high, digit-none, digit-ones, digit-or, digit-power, digit-shifted, same-digits, trailing-low, trailing-lt}
 use Rattle.vertex_set.proofs.Digits.{trailing-set}
 use Rattle.vertex_set.proofs.Least.{Least, least-end, least-found, least-passed, least-same, least-unique}
@@ -207,13 +209,6 @@ pub next-least : (words : List ℕ) (f i : ℕ) → i ≤ 256 → Least (member 
 unfolding next-member
 next-least words f i h = least-found (member words f) 256 i h
 
--- WHAT A LOOP OVER THE MEMBERS CITES: what vertices that are no members leave as it is, is the same at i and at the next member from i on
-pub members-same : {A : Type 0} (words : List ℕ) (f : ℕ) (acc : ℕ → A)
-    → ((v : ℕ) → v < 256 → member words f v ≡ false → acc (suc v) ≡ acc v)
-    → (i : ℕ) → i ≤ 256 → acc (next-member words f i) ≡ acc i
-unfolding next-member
-members-same words f acc keep i h = least-same (member words f) 256 acc keep i h
-
 -- the vertex of digit b of word k
 member-at : (words : List ℕ) (f k b : ℕ) → b < 64 → member words f (64 * k + b) ≡ digit (getD words (4 * f + k) 0) b
 unfolding member
@@ -270,28 +265,55 @@ module _ (words : List ℕ) (f k a : ℕ) (h : k < 4) (g : a < 64) (word t : ℕ
         none-before = none;
       }
 
--- the same of a vertex i
-pub next-at : (words : List ℕ) (f i : ℕ) → i < 256 → getD words (4 * f + i / 64) 0 < 2 ^ 64
-    → (getD words (4 * f + i / 64) 0 / 2 ^ (i % 64) ≡ 0 → ⊥)
-    → i + trailingZeros 64 (getD words (4 * f + i / 64) 0 / 2 ^ (i % 64)) ≡ next-member words f i
-next-at words f i h bound some =
-    let e : 64 * (i / 64) + i % 64 ≡ i = omega arith in
-    rw e at (next-here words f (i / 64) (i % 64) (omega arith) (omega arith) (getD words (4 * f + i / 64) 0) _ refl bound some refl)
+  -- the digits above it
+  pub above-here : word / 2 ^ a / 2 ^ (t + 1) ≡ above words f (64 * k + a + t)
+  above-here =
+      let here = inside (decLt (a + t) 64) in
+      let p : (64 * k + a + t) / 64 ≡ k = omega (arith, here) in
+      let q : a + (t + 1) ≡ (64 * k + a + t) % 64 + 1 = omega (arith, here) in
+      shr-shr word a (t + 1) ∙ rw (p, ← q, there)
 
-pub next-on : (words : List ℕ) (f i : ℕ) → i < 256 → getD words (4 * f + i / 64) 0 / 2 ^ (i % 64) ≡ 0
-    → next-member words f i ≡ next-member words f (64 * (i / 64 + 1))
-next-on words f i h z =
-    let e : 64 * (i / 64) + i % 64 ≡ i = omega arith in rw e at (next-past words f (i / 64) (i % 64) (omega arith) (omega arith) z)
+-- WHERE A WORD HAS A DIGIT, from its digit a on, the lowest is the next member
+pub met-here : (words : List ℕ) (f k a : ℕ) → k < 4 → a < 64 → getD words (4 * f + k) 0 < 2 ^ 64 → (rest : ℕ) → rest ≡ getD words (4 * f + k) 0 / 2 ^ a
+    → (rest ≡ 0 → ⊥) → (m : Member) → m .vertex ≡ 64 * k + a + trailingZeros 64 rest → m .above ≡ rest / 2 ^ (trailingZeros 64 rest + 1)
+    → Met words f (64 * k + a) m
+met-here words f k a h g bound rest e some m v r =
+    let w = getD words (4 * f + k) 0 in
+    let t = trailingZeros 64 rest in
+    let nonzero : w / 2 ^ a ≡ 0 → ⊥ = λ z. some (e ∙ z) in
+    record {
+      vertex-is = v ∙ next-here words f k a h g w t refl bound nonzero (ap (trailingZeros 64) e);
+      above-is = λ l.
+          r ∙ ap (λ (x : ℕ). x / 2 ^ (t + 1)) e ∙ above-here words f k a h g w t refl bound nonzero (ap (trailingZeros 64) e) ∙ ap (above words f) (sym v);
+    }
 
--- the same of a whole word
-pub next-at-word : (words : List ℕ) (f k : ℕ) → k < 4 → getD words (4 * f + k) 0 < 2 ^ 64 → (getD words (4 * f + k) 0 ≡ 0 → ⊥)
-    → 64 * k + trailingZeros 64 (getD words (4 * f + k) 0) ≡ next-member words f (64 * k)
-next-at-word words f k h bound some =
-    let e : 64 * k + 0 ≡ 64 * k = omega arith in
-    let d : getD words (4 * f + k) 0 / 2 ^ 0 ≡ getD words (4 * f + k) 0 = div-one (getD words (4 * f + k) 0) in
-    rw e at (next-here words f k 0 h (omega arith) (getD words (4 * f + k) 0) (trailingZeros 64 (getD words (4 * f + k) 0)) refl bound
-    (λ z. some (sym d ∙ z)) (rw d))
+-- from another vertex, where the next member is the same
+pub met-from : (words : List ℕ) (f i j : ℕ) (m : Member) → next-member words f i ≡ next-member words f j → Met words f i m → Met words f j m
+met-from words f i j m e p = record { vertex-is = p .vertex-is ∙ e; above-is = p .above-is }
 
+-- WHAT A LOOP OVER THE MEMBERS CITES
+pub met-least : (words : List ℕ) (f i : ℕ) → i ≤ 256 → (m : Member) → Met words f i m → Least (member words f) 256 i (m .vertex)
+met-least words f i h m p = rw (p .vertex-is) (next-least words f i h)
+
+-- the last digit of a word has none above it
+pub last-digit : (words : List ℕ) (f v : ℕ) → getD words (4 * f + v / 64) 0 < 2 ^ 64 → (above words f v ≡ 0 → ⊥) → v % 64 + 1 < 64
+last-digit words f v bound some = go (ℕ-discrete (v % 64 + 1) 64)
+  where
+    go : Dec (v % 64 + 1 ≡ 64) → v % 64 + 1 < 64
+    go (yes e) = absurd (some (ap (λ (a : ℕ). getD words (4 * f + v / 64) 0 / 2 ^ a) e ∙ omega (arith, bound)))
+    go (no n) = omega (arith, n)
+
+-- where there is none above v, the search goes on at the next word
+pub none-above : (words : List ℕ) (f v : ℕ) → v < 256 → above words f v ≡ 0 → next-member words f (64 * (v / 64 + 1)) ≡ next-member words f (v + 1)
+none-above words f v h z = go (ℕ-discrete (v % 64 + 1) 64)
+  where
+    go : Dec (v % 64 + 1 ≡ 64) → next-member words f (64 * (v / 64 + 1)) ≡ next-member words f (v + 1)
+    go (yes e) = ap (next-member words f) (let q : 64 * (v / 64 + 1) ≡ v + 1 = omega (arith, e) in q)
+    go (no n) =
+        let e : 64 * (v / 64) + (v % 64 + 1) ≡ v + 1 = omega arith in
+        sym (rw e at (next-past words f (v / 64) (v % 64 + 1) (omega arith) (omega (arith, n)) z))
+
+-- a whole word without one is passed over
 pub next-word : (words : List ℕ) (f k : ℕ) → k < 4 → getD words (4 * f + k) 0 ≡ 0 → next-member words f (64 * k)
     ≡ next-member words f (64 * (k + 1))
 next-word words f k h z =
@@ -315,3 +337,9 @@ inserted-other words f x k l h = getD-set-other words (4 * f + x / 64) k _ 0 (λ
 pub member-stored : (words : List ℕ) (k y f v : ℕ) → v < 256 → 4 * f + 4 ≤ k → member (set words k y) f v ≡ member words f v
 unfolding member
 member-stored words k y f v l h = ap (λ (w : ℕ). digit w (v % 64)) (getD-set-other words k (4 * f + v / 64) y 0 (λ e. omega (arith, e)))
+
+-- the digits above a vertex, where a later set gets a member
+pub above-inserted : (words : List ℕ) (f x g v : ℕ) → v < 256 → g < f → above (inserted words f x) g v ≡ above words g v
+unfolding inserted
+above-inserted words f x g v l h =
+    ap (λ (w : ℕ). w / 2 ^ (v % 64 + 1)) (getD-set-other words (4 * f + x / 64) (4 * g + v / 64) _ 0 (λ e. omega (arith, e)))

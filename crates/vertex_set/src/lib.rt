@@ -1,19 +1,18 @@
 // Sets of vertices below 256, four words of 64 bits each. A lent table of words holds sets in turn: set f is the four words from 4 f on. A lone set is set 0 of
-// four words. Members come in rising order by `next`.
+// four words. Members come in rising order by `first` and `after`.
 ghost use mathlib.Core.Path.{_≡_};
-ghost use Prim.Native.Nat.{_+_, _*_, _-_, _^_, _≤_, _<_};
+ghost use Prim.Native.Nat.{_+_, _*_, _-_, _/_, _^_, _≤_, _<_};
+ghost use lib.Count.{trailingZeros};
 ghost use mathlib.Core.List.{[], _∷_};
 ghost use mathlib.Core.Bool.{cond};
 ghost use lib.ListN.{length};
 ghost use lib.Seq.{sets};
-ghost use Rattle.vertex_set.specs.Sets.{member, inserted, emptied, ones, filled, joined, joined-chosen, next-member};
+ghost use Rattle.vertex_set.specs.Sets.{Met, above, emptied, filled, inserted, joined, ones};
 
-// Is v in set f?
-pub fn has(words: &[u64], f: usize, v: usize) -> bool
-    requires { ⌜ (v < 256) × (4 * f + 4 ≤ length (now words)) ⌝ }
-    ensures { λ r. ⌜ r ≡ member (now (words .entry)) f v ⌝ }
-{
-    (words[4 * f + v / 64] >> (v % 64)) % 2 == 1
+// A member, and the digits above it in its word: so the next one in the word is found without reading it again. No member is 256.
+pub struct Member {
+    pub vertex: usize,
+    pub above: u64,
 }
 
 // v into set f.
@@ -111,45 +110,53 @@ pub fn join(words: &mut [u64], f: usize, others: &[u64], g: usize)
     put(words, f, a, b, c, d);
 }
 
+// The lowest digit of a word that has one; its first stands for the vertex `base`.
+fn lowest(base: usize, word: u64) -> Member
+    requires { ⌜ (base ≤ 256) × (word ≡ 0 → ⊥) ⌝ }
+    ensures { λ r. ⌜ (r .vertex ≡ base + trailingZeros 64 word) × (r .above ≡ word / 2 ^ (trailingZeros 64 word + 1)) ⌝ }
+{
+    let t = u64::trailing_zeros(word) as usize;
+    Member {
+        vertex: base + t,
+        above: (word >> t) / 2,
+    }
+}
+
 // The least member of set f in the words from k on; 256 where there is none.
-fn next_from_word(words: &[u64], f: usize, k: usize) -> usize
+fn from_word(words: &[u64], f: usize, k: usize) -> Member
     requires { ⌜ (k ≤ 4) × (4 * f + 4 ≤ length (now words)) ⌝ }
-    ensures { λ r. ⌜ r ≡ next-member (now (words .entry)) f (64 * k) ⌝ }
+    ensures { λ r. ⌜ Met (now (words .entry)) f (64 * k) r ⌝ }
 {
     let mut j = k;
     while j < 4 {
         let word = words[4 * f + j];
         if word != 0 {
-            return 64 * j + u64::trailing_zeros(word) as usize;
+            return lowest(64 * j, word);
         }
         j += 1;
     }
-    256
+    Member {
+        vertex: 256,
+        above: 0,
+    }
 }
 
-// The least member of set f from `from` on; 256 where there is none.
-pub fn next(words: &[u64], f: usize, from: usize) -> usize
-    requires { ⌜ (from ≤ 256) × (4 * f + 4 ≤ length (now words)) ⌝ }
-    ensures { λ r. ⌜ r ≡ next-member (now (words .entry)) f from ⌝ }
+// The least member of set f; 256 where there is none.
+pub fn first(words: &[u64], f: usize) -> Member
+    requires { ⌜ 4 * f + 4 ≤ length (now words) ⌝ }
+    ensures { λ r. ⌜ Met (now (words .entry)) f 0 r ⌝ }
 {
-    if 256 <= from {
-        return 256;
-    }
-    let word = words[4 * f + from / 64] >> (from % 64);
-    if word != 0 {
-        return from + u64::trailing_zeros(word) as usize;
-    }
-    next_from_word(words, f, from / 64 + 1)
+    from_word(words, f, 0)
 }
 
-// The members of the sets of another table whose numbers below n are in set c of `chosen`, into set f.
-pub fn join_chosen(words: &mut [u64], f: usize, chosen: &[u64], c: usize, n: usize, others: &[u64])
-    requires { ⌜ (4 * f + 4 ≤ length (now words)) × (4 * c + 4 ≤ length (now chosen)) × (n ≤ 256) × (4 * n ≤ length (now others)) ⌝ }
-    ensures { λ _. ⌜ now (words .exit) ≡ joined-chosen (now (words .entry)) f (now (chosen .entry)) c (now (others .entry)) n ⌝ }
+// The least member of set f after m; 256 where there is none.
+pub fn after(words: &[u64], f: usize, m: Member) -> Member
+    requires { ⌜ (m .vertex < 256) × (m .above ≡ above (now words) f (m .vertex)) × (4 * f + 4 ≤ length (now words)) ⌝ }
+    ensures { λ r. ⌜ Met (now (words .entry)) f (m .vertex + 1) r ⌝ }
 {
-    let mut g = next(chosen, c, 0);
-    while g < n {
-        join(words, f, others, g);
-        g = next(chosen, c, g + 1);
+    let rest = m.above;
+    if rest != 0 {
+        return lowest(m.vertex + 1, rest);
     }
+    from_word(words, f, m.vertex / 64 + 1)
 }

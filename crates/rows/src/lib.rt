@@ -10,7 +10,7 @@ ghost use Rattle.value.specs.Value.{reduce, values};
 ghost use Rattle.wire.specs.Wire.{Returned};
 ghost use Rattle.answer.specs.Answer.{answer-reply};
 ghost use Rattle.eval.specs.Steps.{body-found, entry-end, entry-found, entry-rows, final-found};
-ghost use Rattle.rows.specs.Steps.{many, rows-at, slot-of, used-slots, word-of};
+ghost use Rattle.rows.specs.Steps.{few, many, rows-at, slot-of, used-slots, word-of};
 
 // A byte as an index.
 fn wide(b: u8) -> usize
@@ -61,6 +61,48 @@ fn entry_rows(plan: &[u8], at: usize, figures: &[u64], slots: &[usize; 8], n: us
         v += 1;
     }
     rows
+}
+
+// The same in an array of sixteen, so that a small map does not pay for 256 vertices.
+fn few_rows(plan: &[u8], at: usize, figures: &[u64], slots: &[usize; 8], n: usize) -> [Row; 16]
+    requires { ⌜ n ≤ 16 ⌝ }
+    ensures { λ r. ⌜ r ≡ few (entry-rows (now (plan .entry)) at (rows-at (now (figures .entry)) (now (slots .entry)) 8) n) ⌝ }
+{
+    let absent = Row {
+        value: Value::Absent,
+    };
+    let mut rows = [absent; 16];
+    let mut w: usize = 0;
+    while w < n {
+        let found = entry_at(plan, at, figures, slots, w);
+        let value = found.value;
+        rows[w] = Row { value };
+        w += 1;
+    }
+    rows
+}
+
+// The answer of kind 0, of the entry at `at`.
+fn write_rows(
+    plan: &[u8],
+    at: usize,
+    figures: &[u64],
+    slots: &[usize; 8],
+    n: u16,
+    rounds: u16,
+    out: &mut [u8],
+) -> u32
+    requires { ⌜ n ≤ 256 ⌝ }
+    ensures { λ r. ⌜ Returned (answer-reply n rounds 0
+        (values (entry-rows (now (plan .entry)) at (rows-at (now (figures .entry)) (now (slots .entry)) 8) n)) (length (now (out .entry)))) r
+        (now (out .entry)) (now (out .exit)) ⌝ }
+{
+    if n <= 16 {
+        let rows = few_rows(plan, at, figures, slots, n as usize);
+        return answer::write_few(n, rounds, rows, out);
+    }
+    let rows = entry_rows(plan, at, figures, slots, n as usize);
+    answer::write(n, rounds, 0, rows, out)
 }
 
 // The result of the entry whose reduction byte stands at `at`, value by value, and where the entry ends: any vertex tells.
@@ -158,8 +200,7 @@ pub fn write(
     let used = slots_used(slots, paths);
     let at = plan::count_at(plan);
     if kind == 0 {
-        let rows = entry_rows(plan, at + 1, figures, &used, n as usize);
-        return answer::write(n, rounds, 0, rows, out);
+        return write_rows(plan, at + 1, figures, &used, n, rounds, out);
     }
     let e = wire::lesser(wide(wire::byte(plan, at)), 8);
     let value = final_of(plan, at + 1, figures, &used, n as usize, e);

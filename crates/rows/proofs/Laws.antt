@@ -22,7 +22,9 @@ use Rattle.value.proofs.Reduced.{reduced, snoc}
 use Rattle.plan.specs.Plan.{count-at}
 use Rattle.answer.specs.Answer.{answer-reply}
 use Rattle.answer.proofs.Reply.{reply-first}
-use Rattle.eval.specs.Steps.{body-found, eight, entries-end, entry-end, entry-found, entry-rows, final-found, leaf-in, results, row, rows-in}
+use Rattle.eval.specs.Steps.{body-found, eight, entries-end, entry-end, entry-found, entry-rows, final-found, leaf-in, lone-in}
+use Rattle.eval.specs.Steps.{results, row, rows-in}
+use Rattle.eval.proofs.Laws.{Lone, row-value}
 use Rattle.eval.proofs.Fill.{fill-at, fill-length, fill-past, fill-whole, filled, tabulate-more}
 use Rattle.table.specs.Table.{value-in}
 use Rattle.rows.specs.Steps.{few, many, rows-at, slot-of, used-slots, word-of}
@@ -49,6 +51,21 @@ rows-at-filled : (figures slots : List ℕ) (paths v : ℕ)
     → rows-at figures slots paths v ≡ filled 8 (value-row figures slots v) (row Absent) (min paths 8)
 unfolding rows-at
 rows-at-filled figures slots paths v = eight-filled (λ j. value-in figures (getD slots j 0) v) (min paths 8)
+
+-- the value of path reduction j there
+pub rows-at-value : (figures slots : List ℕ) (v j : ℕ) → j < 8
+    → getD (values (rows-at figures slots 8 v)) j Absent ≡ value-in figures (getD slots j 0) v
+rows-at-value figures slots v j h =
+    row-value (rows-at figures slots 8 v) j
+    ∙ ap (λ (r : Row). r .value)
+    (ap (λ (l : List Row). getD l j (row Absent)) (rows-at-filled figures slots 8 v) ∙ fill-at 8 (value-row figures slots v) (row Absent) 8 j (row Absent) h)
+
+-- AN ENTRY THAT IS ONE LEAF is worth what is in its slot
+pub lone-value : (plan figures slots : List ℕ) (at v : ℕ) → Lone plan slots at
+    → value-in figures (lone-in plan slots at) v ≡ entry-found plan (rows-at figures slots 8 v) at
+lone-value plan figures slots at v l =
+    ap (λ (j : ℕ). value-in figures j v) (l .slot)
+    ∙ sym (l .worth (rows-at figures slots 8 v) ∙ rows-at-value figures slots v (l .index) (l .small))
 
 -- slot 8 is none
 no-slot : (figures : List ℕ) (v : ℕ) → value-in figures 8 v ≡ Absent

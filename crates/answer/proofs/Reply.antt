@@ -7,7 +7,7 @@ use native.Mathlib.Omega.{arith}
 use borrow.Author.Tests.{ltb-false, eqb-true, eqb-false, eq-eqb, ne-eqb}
 use lib.Dec.{ltb, eqb}
 use lib.ListN.{length, take, drop}
-use lib.Seq.{sets}
+use lib.Seq.{sets, take-append-le}
 use Rattle.meaning.specs.Meaning.{Outcome}
 use Rattle.value.specs.declared.Value.{Value}
 use Rattle.wire.specs.Wire.{done, fitted, refused, unless}
@@ -118,6 +118,14 @@ pub reply-one : (n rounds : ℕ) (v : Value) (vs : List Value) (room : ℕ) → 
     ≡ answer-reply n rounds 1 (v ∷ []) room
 unfolding answer-reply answer-bytes
 reply-one n rounds v vs room = refl
+
+-- of kind 0 the first n values alone
+pub reply-first : (n rounds : ℕ) (vs more : List Value) (room : ℕ) → length vs ≡ n → answer-reply n rounds 0 (vs ++ more) room
+    ≡ answer-reply n rounds 0 vs room
+unfolding answer-reply answer-bytes
+reply-first n rounds vs more room e =
+    ap (λ (rows : List Value). unless (fields-code n 0) (fitted (encode n 0 (record { rounds = rounds; rows = rows })) room))
+    (take-append-le n vs more (omega (arith, e)))
 
 -- ---- the encoding
 

@@ -120,6 +120,19 @@ fn put_rows(out: &mut [u8], count: usize, rows: [Row; 256])
     }
 }
 
+// The first rows of sixteen, behind ten bytes.
+fn put_few(out: &mut [u8], count: usize, rows: [Row; 16])
+    requires { ⌜ (count ≤ 16) × (10 + 9 * count ≤ length (now out)) ⌝ }
+    ensures { λ _. ⌜ now (out .exit) ≡ sets (now (out .entry)) 10 (rows-bytes (take count (values rows))) ⌝ }
+{
+    let mut j: usize = 0;
+    while j < count {
+        let row = rows[j];
+        put_row(out, 10 + 9 * j, row);
+        j += 1;
+    }
+}
+
 // The writer of answers: it judges n (4), the kind (9), then 15. Kind 0 writes the first n rows, kind 1 the first.
 pub fn write(n: u16, rounds: u16, kind: u8, rows: [Row; 256], out: &mut [u8]) -> u32
     ensures { λ r. ⌜ Returned (answer-reply n rounds kind (values rows) (length (now (out .entry)))) r (now (out .entry)) (now (out .exit)) ⌝ }
@@ -131,6 +144,20 @@ pub fn write(n: u16, rounds: u16, kind: u8, rows: [Row; 256], out: &mut [u8]) ->
     put_head(out, n, rounds, kind);
     put_rows(out, row_count(n, kind), rows);
     size(n, kind) as u32
+}
+
+// An answer of kind 0 of few rows: `write` with an array of sixteen.
+pub fn write_few(n: u16, rounds: u16, rows: [Row; 16], out: &mut [u8]) -> u32
+    requires { ⌜ n ≤ 16 ⌝ }
+    ensures { λ r. ⌜ Returned (answer-reply n rounds 0 (values rows) (length (now (out .entry)))) r (now (out .entry)) (now (out .exit)) ⌝ }
+{
+    let k = judge(n, 0, out.len());
+    if k != 0 {
+        return 65536 + k as u32;
+    }
+    put_head(out, n, rounds, 0);
+    put_few(out, n as usize, rows);
+    size(n, 0) as u32
 }
 
 // An answer of kind 1, of its one value: `write` with no array of rows.

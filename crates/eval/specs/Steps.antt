@@ -2,7 +2,7 @@
 -- Nothing to believe: `expression-value` (proofs/Tree) says that a value is that of the expression's tree, `body-value` (proofs/Body) that the rows are those
 -- of the plan's tree. F gives the values of the path reductions at a vertex, as eight rows.
 use Prim.Native.Nat.{ℕ, zero, suc, _+_, _-_, _%_, min}
-use mathlib.Core.Bool.{Bool, cond, _||_}
+use mathlib.Core.Bool.{Bool, false, cond, _||_}
 use mathlib.Core.List.{List, [], _∷_, _++_, map}
 use lib.Dec.{leb, ltb, eqb}
 use lib.ListN.{length, getD, replicate}
@@ -15,6 +15,7 @@ use Rattle.value.specs.Value.{operate, reduce, values}
 use Rattle.plan.specs.Plan.{count-at}
 use Rattle.wire.specs.Wire.{at32}
 use Rattle.eval.specs.declared.Found.{Found}
+use Rattle.eval.specs.declared.Words.{Words}
 use Rattle.eval.specs.declared.Head.{Head}
 use Rattle.eval.specs.declared.Head.the-variants.{Leaf, Apply}
 
@@ -35,6 +36,18 @@ head s rows at =
     (cond (one-of tag 0x30 0x31) (Leaf (found (getD (values rows) (getD s (at + 1) 0) Absent) (at + 2)))
     (cond (one-of tag 0x11 0x21) (Leaf (found (Number (at32 s (at + 1))) (at + 5)))
     (cond (one-of tag 0x12 0x22) (Apply (getD s (at + 1) 0) (at + 2)) (Leaf (found Absent at)))))
+
+-- as words alone: 0 for `known` where the value is absent
+unfoldable pub as-found : Words → Found
+as-found w = found (cond (eqb (w .known) 0) Absent (Number (w .number))) (w .next)
+
+-- a leaf that names its word
+abbrev pub leaf-found : List ℕ → List Row → ℕ → Found
+leaf-found s rows at = found (getD (values rows) (getD s (at + 1) 0) Absent) (at + 2)
+
+-- whether one stands at a position
+abbrev pub named : List ℕ → ℕ → Bool
+named s at = cond (leb (length s) at) false (one-of (getD s at 0) 0x30 0x31)
 
 -- "an operator joins the values of its two terms": `go` is the value of the term at a position
 unfoldable pub joined : (ℕ → Found) → Head → Found
@@ -75,6 +88,12 @@ condition-found s rows at = let c = evaluated 16 s rows at in where-counts (c .v
 unfoldable pub entry-found : List ℕ → List Row → ℕ → Value
 entry-found s rows at =
     cond (leb (length s) at) Absent (cond (leb 128 (getD s at 0)) (condition-found s rows (at + 1)) (evaluated 16 s rows (at + 1) .value))
+
+-- the slot of the entry at `at` where it is one such leaf with no condition; 8, which is no slot, where it is more
+unfoldable pub lone-in : List ℕ → List ℕ → ℕ → ℕ
+lone-in s slots at =
+    let k = getD s (at + 2) 0 in
+    cond (leb (length s) at) 8 (cond (leb 128 (getD s at 0)) 8 (cond (named s (at + 1)) (cond (ltb k 8) (getD slots k 0) 8) 8))
 
 -- where an expression ends, and an entry
 unfoldable pub expression-end : List ℕ → ℕ → ℕ

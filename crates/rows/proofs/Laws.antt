@@ -2,7 +2,7 @@
 use Prim.Native.Nat.{ℕ, zero, suc, _+_, _-_, _*_, _%_, _≤_, _<_, min}
 use mathlib.Core.Path.{_≡_, refl, sym, ap, ap₂, fun-ext, _∙_}
 use mathlib.Core.Bool.{Bool, true, false, cond}
-use mathlib.Core.List.{List, [], _∷_, _++_, foldl, map}
+use mathlib.Core.List.{List, [], _∷_, _++_, foldl, map, map-append}
 use native.Mathlib.Numerals.{add-one}
 use native.Mathlib.Omega.{arith}
 use borrow.Author.Tests.{eq-eqb, eqb-false, eqb-true, leb-false, leb-true, le-leb, le-ltb, lt-leb, lt-ltb, ne-eqb}
@@ -20,21 +20,26 @@ use Rattle.value.specs.Steps.{finish, step}
 use Rattle.value.specs.Value.{reduce, values}
 use Rattle.value.proofs.Reduced.{reduced, snoc}
 use Rattle.plan.specs.Plan.{count-at}
-use Rattle.eval.specs.Steps.{body-found, eight, entries-end, entry-end, entry-found, entry-rows, final-found, leaf-in, results, row, rows-in}
+use Rattle.answer.specs.Answer.{answer-reply}
+use Rattle.answer.proofs.Reply.{reply-first}
+use Rattle.eval.specs.Steps.{body-found, eight, entries-end, entry-end, entry-found, entry-rows, final-found, leaf-in, lone-in}
+use Rattle.eval.specs.Steps.{results, row, rows-in}
+use Rattle.eval.proofs.Laws.{Lone, row-value}
 use Rattle.eval.proofs.Fill.{fill-at, fill-length, fill-past, fill-whole, filled, tabulate-more}
 use Rattle.table.specs.Table.{value-in}
-use Rattle.rows.specs.Steps.{many, rows-at, slot-of, used-slots, word-of}
+use Rattle.rows.specs.Steps.{few, many, rows-at, slot-of, used-slots, word-of}
 
 rows-of : (g : ℕ → Value) (k i : ℕ) → map row (tabulate k i g) ≡ tabulate k i (λ j. row (g j))
 rows-of g zero i = refl
 rows-of g (suc k) i = ap (λ (l : List Row). row (g i) ∷ l) (rows-of g k (suc i))
 
--- arrays of eight and of 256
+-- arrays of eight values, and of any size
 eight-filled : (g : ℕ → Value) (k : ℕ) → eight (tabulate k zero g) ≡ filled 8 (λ j. row (g j)) (row Absent) k
 eight-filled g k = ap₂ (λ (l : List Row) (c : ℕ). l ++ replicate (8 - c) (row Absent)) (rows-of g k zero) (tabulate-length k zero g)
 
-many-filled : (f : ℕ → Row) (n : ℕ) → many (tabulate n zero f) ≡ filled 256 f (row Absent) n
-many-filled f n = ap (λ (c : ℕ). tabulate n zero f ++ replicate (256 - c) (row Absent)) (tabulate-length n zero f)
+array-filled : (size : ℕ) (f : ℕ → Row) (n : ℕ)
+    → tabulate n zero f ++ replicate (size - length (tabulate n zero f)) (row Absent) ≡ filled size f (row Absent) n
+array-filled size f n = ap (λ (c : ℕ). tabulate n zero f ++ replicate (size - c) (row Absent)) (tabulate-length n zero f)
 
 -- ---- the leaves of an entry
 
@@ -46,6 +51,21 @@ rows-at-filled : (figures slots : List ℕ) (paths v : ℕ)
     → rows-at figures slots paths v ≡ filled 8 (value-row figures slots v) (row Absent) (min paths 8)
 unfolding rows-at
 rows-at-filled figures slots paths v = eight-filled (λ j. value-in figures (getD slots j 0) v) (min paths 8)
+
+-- the value of path reduction j there
+pub rows-at-value : (figures slots : List ℕ) (v j : ℕ) → j < 8
+    → getD (values (rows-at figures slots 8 v)) j Absent ≡ value-in figures (getD slots j 0) v
+rows-at-value figures slots v j h =
+    row-value (rows-at figures slots 8 v) j
+    ∙ ap (λ (r : Row). r .value)
+    (ap (λ (l : List Row). getD l j (row Absent)) (rows-at-filled figures slots 8 v) ∙ fill-at 8 (value-row figures slots v) (row Absent) 8 j (row Absent) h)
+
+-- AN ENTRY THAT IS ONE LEAF is worth what is in its slot
+pub lone-value : (plan figures slots : List ℕ) (at v : ℕ) → Lone plan slots at
+    → value-in figures (lone-in plan slots at) v ≡ entry-found plan (rows-at figures slots 8 v) at
+lone-value plan figures slots at v l =
+    ap (λ (j : ℕ). value-in figures j v) (l .slot)
+    ∙ sym (l .worth (rows-at figures slots 8 v) ∙ rows-at-value figures slots v (l .index) (l .small))
 
 -- slot 8 is none
 no-slot : (figures : List ℕ) (v : ℕ) → value-in figures 8 v ≡ Absent
@@ -165,7 +185,21 @@ module _ (s : List ℕ) (F : ℕ → List Row) (n : ℕ) where
   -- the rows of an entry at all vertices
   pub entry-filled : (at : ℕ) → many (entry-rows s at F n) ≡ filled 256 (entry-row s F at) (row Absent) n
   unfolding entry-rows
-  entry-filled at = many-filled (entry-row s F at) n
+  entry-filled at = array-filled 256 (entry-row s F at) n
+
+  -- of few vertices
+  pub few-filled : (at : ℕ) → few (entry-rows s at F n) ≡ filled 16 (entry-row s F at) (row Absent) n
+  unfolding entry-rows
+  few-filled at = array-filled 16 (entry-row s F at) n
+
+  -- WHAT IS WRITTEN OF THEM: the rows in an array are written as they are
+  pub entry-written : (at rounds : ℕ) (rest : List Row) (room : ℕ)
+      → answer-reply n rounds 0 (values (entry-rows s at F n ++ rest)) room ≡ answer-reply n rounds 0 (values (entry-rows s at F n)) room
+  unfolding entry-rows
+  entry-written at rounds rest room =
+      let rows : List Row = tabulate n zero (entry-row s F at) in
+      ap (λ (vs : List Value). answer-reply n rounds 0 vs room) (map-append (λ (r : Row). r .value) rows rest)
+      ∙ reply-first n rounds (values rows) (values rest) room (length-map rows (λ (r : Row). r .value) ∙ tabulate-length n zero (entry-row s F at))
 
   -- the result of the entry at a position; the row of entry k
   abbrev pub result-at : ℕ → Value

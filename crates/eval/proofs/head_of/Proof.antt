@@ -2,7 +2,6 @@
 use borrow.Author.Needs.{needs}
 use borrow.Author.Tests.{le-leb, lt-leb}
 use Rattle.eval.specs.Steps.{head}
-use Rattle.eval.proofs.Laws.{leaf-row}
 use Rattle.eval.proofs.head_of.Statement.{statement}
 use Rattle.eval.proofs.head_of.Tie as tie
 
@@ -12,16 +11,12 @@ returns c = rw (le-leb _ _ (c .if1 .taken))
 
 returns-2 : tie.Need-returns-2
 unfolding head
-returns-2 c =
-    let a = c .before .before .before .before .before .before .before .before .args in
-    rw (
-      lt-leb _ _ (c .before .before .before .before .before .if1 .left),
-      ← c .before .before .before .one-of .ensures,
-      c .before .before .if2 .taken,
-      c .leaf .ensures,
-      c .before .byte .ensures,
-      leaf-row (a .leaves .now) (a .slots .now) (a .least) _,
-    )
+returns-2 c = rw (
+  lt-leb _ _ (c .before .before .before .before .if1 .left),
+  ← c .before .before .one-of .ensures,
+  c .before .if2 .taken,
+  c .named-leaf .ensures,
+)
 
 returns-3 : tie.Need-returns-3
 unfolding head
@@ -44,7 +39,7 @@ returns-4 c = rw (
   c .before .before .before .if3 .left,
   ← c .before .before .one-of3 .ensures,
   c .before .if4 .taken,
-  c .byte2 .ensures,
+  c .byte .ensures,
 )
 
 returns-5 : tie.Need-returns-5
@@ -62,7 +57,6 @@ returns-5 c = rw (
 pub head-of-spec : {M : Type 1} → statement M
 head-of-spec =
     tie.close
-    (tie.spec returns (λ c. search needs) (λ c κs. search needs) (λ c. search needs) (λ c κs. search needs) (λ c κs. search needs) (λ c. search needs)
-    returns-2 (λ c κs. search needs) (λ c. search needs) (λ c κs. search needs) (λ c. search needs) (λ c. search needs) returns-3
-    (λ c κs. search needs)
-    (λ c. search needs) (λ c κs. search needs) (λ c. search needs) returns-4 returns-5)
+    (tie.spec returns (λ c. search needs) (λ c κs. search needs) (λ c κs. search needs) returns-2 (λ c κs. search needs) (λ c. search needs)
+    (λ c κs. search needs) (λ c. search needs) (λ c. search needs) returns-3 (λ c κs. search needs) (λ c. search needs) (λ c κs. search needs)
+    (λ c. search needs) returns-4 returns-5)

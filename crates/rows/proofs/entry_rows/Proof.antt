@@ -16,28 +16,28 @@ use Rattle.rows.proofs.entry_rows.Statement.{statement}
 use Rattle.rows.proofs.entry_rows.Tie as tie
 
 abbrev Inv-loop : tie.InvT-loop
-Inv-loop plan at figures slots n rows₀ v₀ rows v = (v ≤ n) × (rows ≡ filled 256 (entry-row plan (rows-at figures slots 8) at) (row Absent) v)
+Inv-loop plan at figures slots n lone rows₀ v₀ rows v = (v ≤ n) × (rows ≡ filled 256 (entry-row plan (rows-at figures slots 8) at) (row Absent) v)
 
 abbrev μ-loop : tie.MeasureT-loop
-μ-loop plan at figures slots n rows₀ v₀ rows v = n - v
+μ-loop plan at figures slots n lone rows₀ v₀ rows v = n - v
 
 loop-holds : tie.Need-loop-holds Inv-loop μ-loop
 loop-holds c =
-    let a = c .before .before .args in
+    let a = c .before .before .before .args in
     (omega arith, sym (fill-none 256 (entry-row (a .plan .now) (rows-at (a .figures .now) (a .slots .now) 8) (a .at)) (row Absent)))
 
 entry-at-requires : tie.Need-entry-at-requires Inv-loop μ-loop
-entry-at-requires c κs = omega (arith, c .before .before .before .before .pre)
+entry-at-requires c κs = (c .before .before .lone-slot .ensures, omega (arith, c .before .before .before .before .before .pre))
 
 mul-rows : tie.Need-mul-rows Inv-loop μ-loop
-mul-rows c = omega (arith, c .before .before .before .before .before .pre)
+mul-rows c = omega (arith, c .before .before .before .before .before .before .pre)
 
 array-set-from-rows : tie.Need-array-set-from-rows Inv-loop μ-loop
-array-set-from-rows c = omega (arith, c .before .before .before .before .before .pre)
+array-set-from-rows c = omega (arith, c .before .before .before .before .before .before .pre)
 
 loop-again : tie.Need-loop-again Inv-loop μ-loop
 loop-again c =
-    let s = c .before .before .before .before .before in
+    let s = c .before .before .before .before .before .before in
     let a = s .args in
     let l = c .before .before .loop in
     let F : ℕ → List Row = rows-at (a .figures .now) (a .slots .now) 8 in (
@@ -48,7 +48,7 @@ loop-again c =
 
 returns : tie.Need-returns Inv-loop μ-loop
 returns c =
-    let a = c .before .before .before .before .args in
+    let a = c .before .before .before .before .before .args in
     let l = c .before .loop in
     let F : ℕ → List Row = rows-at (a .figures .now) (a .slots .now) 8 in
     let e : l .v ≡ a .n = omega arith in
@@ -57,5 +57,5 @@ returns c =
 pub entry-rows-spec : {M : Type 1} → statement M
 entry-rows-spec =
     tie.close
-    (tie.spec Inv-loop μ-loop loop-holds entry-at-requires mul-rows array-set-from-rows (λ c. search needs)
+    (tie.spec Inv-loop μ-loop (λ c κs. search needs) loop-holds entry-at-requires mul-rows array-set-from-rows (λ c. search needs)
     (λ c. search needs) loop-again returns)

@@ -1,5 +1,5 @@
 -- `rows::write` meets its contract. Assumes nothing.
-use Prim.Native.Nat.{ℕ, _+_, min}
+use Prim.Native.Nat.{ℕ, _+_, _-_, min}
 use mathlib.Core.Path.{_≡_, sym, ap, ap₂, _∙_}
 use mathlib.Core.List.{List, [], _∷_}
 use native.Mathlib.Omega.{arith}
@@ -15,7 +15,7 @@ use Rattle.answer.specs.Answer.{answer-code, answer-reply}
 use Rattle.answer.proofs.Reply.{enough-rows, judged-right, reply-one, reply-refused}
 use Rattle.eval.specs.Steps.{body-found, entry-rows, final-found, row}
 use Rattle.rows.specs.Steps.{many, rows-at}
-use Rattle.rows.proofs.Laws.{body-each, body-one, full-rows}
+use Rattle.rows.proofs.Laws.{body-each, body-one, entry-written, full-rows}
 use Rattle.rows.proofs.write.Statement.{statement}
 use Rattle.rows.proofs.write.Tie as tie
 
@@ -30,32 +30,35 @@ returns c =
     _ (c .before .judge .ensures ∙ ap (λ (k : ℕ). answer-code (a .n) k room) (c .before .before .byte .ensures)) (c .if1 .taken) in
     (rw e, rw e)
 
-entry-rows-requires : tie.Need-entry-rows-requires
-entry-rows-requires c κs =
-    let judged = c .before .before .before .before in
+write-rows-requires : tie.Need-write-rows-requires
+write-rows-requires c κs =
+    let judged = c .before .before .before .before .before in
     let a = judged .before .before .before .before .before .before .args in
     let z = sym (judged .before .judge .ensures) ∙ judged .if1 .left in
     judged-right (a .n) (judged .before .before .byte .result) (length (a .out .now)) z .0 .few-vertices
 
 returns-2 : tie.Need-returns-2
 returns-2 c =
-    let made = c .before .before .before .before in
-    let counted = made .before .before .before in
+    let chosen = c .before .before .before .before .before in
+    let counted = chosen .before in
     let judged = counted .before .before in
     let a = judged .before .before .before .before .before .before .args in
     let read = judged .before .before .byte in
     let plan : List ℕ = a .plan .now in
     let figures : List ℕ = a .figures .now in
+    let F : ℕ → List Row = rows-at figures (counted .before .slots-used .result) 8 in
     let room = length (a .out .now) in
     let z = sym (judged .before .judge .ensures) ∙ judged .if1 .left in
     let few = judged-right (a .n) (read .result) room z .0 .few-vertices in
-    let kind = sym (read .ensures) ∙ made .before .before .if2 .taken in
-    let rows = made .entry-rows .ensures
-    ∙ ap many (ap₂ (λ (i : ℕ) (used : List ℕ). entry-rows plan (i + 1) (rows-at figures used 8) (a .n)) (counted .count-at .ensures .0)
+    let kind = sym (read .ensures) ∙ chosen .if2 .taken in
+    let rows = ap₂ (λ (i : ℕ) (used : List ℕ). entry-rows plan (i + 1) (rows-at figures used 8) (a .n)) (counted .count-at .ensures .0)
     (counted .before .slots-used .ensures)
-    ∙ body-each plan figures (a .slots) (a .paths) (a .n) few kind) in
-    let reply = ap₂ (λ (k : ℕ) (rows : List Row). answer-reply (a .n) (a .rounds) k (values rows) room) (sym kind) rows in
-    let written = c .before .before .write .ensures in
+    ∙ body-each plan figures (a .slots) (a .paths) (a .n) few kind in
+    let at = counted .count-at .result + 1 in
+    let rest = replicate (256 - length (entry-rows plan at F (a .n))) (row Absent) in
+    let reply = sym (entry-written plan F (a .n) at (a .rounds) rest room)
+    ∙ ap₂ (λ (k : ℕ) (rows : List Row). answer-reply (a .n) (a .rounds) k (values (many rows)) room) (sym kind) rows in
+    let written = c .before .before .write-rows .ensures in
     (written .0 ∙ ap reply-number reply, written .1 ∙ ap (λ (r : Reply). reply-buffer r (a .out .now)) reply)
 
 final-of-requires : tie.Need-final-of-requires
@@ -99,6 +102,5 @@ pub write-spec : {M : Type 1} → statement M
 write-spec =
     tie.close
     (tie.spec (λ c κs. search needs) (λ c κs. search needs) (λ c. search needs) (λ c. search needs) returns (λ c κs. search needs)
-    (λ c κs. search needs)
-    (λ c. search needs) entry-rows-requires (λ c κs. search needs) (λ c. search needs) returns-2 (λ c κs. search needs) (λ c κs. search needs)
+    (λ c κs. search needs) (λ c. search needs) write-rows-requires (λ c. search needs) returns-2 (λ c κs. search needs) (λ c κs. search needs)
     (λ c κs. search needs) (λ c. search needs) final-of-requires (λ c κs. search needs) (λ c. search needs) returns-3)

@@ -4,7 +4,7 @@ use mathlib.Core.Path.{_≡_, refl}
 use mathlib.Core.Bool.{Bool, true, false, cond, not, _&&_, _||_}
 use mathlib.Core.List.{List, [], _∷_}
 use native.Mathlib.Omega.{arith}
-use borrow.Author.Tests.{ne-eqb}
+use borrow.Author.Tests.{eq-eqb, ne-eqb}
 use lib.Bits.{bitAnd, and-le-r}
 use lib.Dec.{T, eqb, leb, leb→le, ltb, ltb→lt}
 use lib.ListN.{length}
@@ -131,10 +131,14 @@ sound c =
     && (leb (c .weight) 67108864
     && (leb (c .up) 4398046511104
     && (leb (c .down) 4398046511104 && (leb (c .base) 65535 && (ltb (c .shift) 64
-    && (leb (c .mask) 67108863 && (leb (c .flip) 67108863 && (eqb (c .flip) 0 || leb (c .mask) (c .flip)))))))))
+    && (leb (c .mask) 67108863 && (leb (c .flip) 67108863 && ((eqb (c .flip) 0 || leb (c .mask) (c .flip))
+    && (not (eqb (c .weighs) 0) || leb (c .weight) 0)))))))))
 
 flip-right : (a b : ℕ) → T (eqb a 0 || leb b a) → (a ≡ 0 → ⊥) → b ≤ a
 flip-right a b t n = leb→le b a (rw (ne-eqb a 0 n) at t)
+
+weighs-right : (a b : ℕ) → T (not (eqb a 0) || leb b 0) → a ≡ 0 → b ≡ 0
+weighs-right a b t e = let h : b ≤ 0 = leb→le b 0 (rw (eq-eqb a 0 e) at t) in omega arith
 
 sound-of : (c : PathConstants) → T (sound c) → Sound c
 sound-of c t =
@@ -145,16 +149,18 @@ sound-of c t =
     let u5 = and-right (leb (c .base) 65535) _ u4 in
     let u6 = and-right (ltb (c .shift) 64) _ u5 in
     let u7 = and-right (leb (c .mask) 67108863) _ u6 in
+    let u8 = and-right (leb (c .flip) 67108863) _ u7 in
     record {
       edges-fit = leb→le _ _ (and-left (leb (c .edges) 4398046511104) _ t);
       weight-fits = leb→le _ _ (and-left (leb (c .weight) 67108864) _ u1);
+      weighs-right = weighs-right (c .weighs) (c .weight) (and-right (eqb (c .flip) 0 || leb (c .mask) (c .flip)) _ u8);
       up-fits = leb→le _ _ (and-left (leb (c .up) 4398046511104) _ u2);
       down-fits = leb→le _ _ (and-left (leb (c .down) 4398046511104) _ u3);
       base-fits = leb→le _ _ (and-left (leb (c .base) 65535) _ u4);
       shift-fits = ltb→lt _ _ (and-left (ltb (c .shift) 64) _ u5);
       mask-fits = leb→le _ _ (and-left (leb (c .mask) 67108863) _ u6);
       flip-small = leb→le _ _ (and-left (leb (c .flip) 67108863) _ u7);
-      flip-fits = flip-right (c .flip) (c .mask) (and-right (leb (c .flip) 67108863) _ u7);
+      flip-fits = flip-right (c .flip) (c .mask) (and-left (eqb (c .flip) 0 || leb (c .mask) (c .flip)) _ u8);
     }
 
 pub legal-sound : (ks : List ℕ) → T (legal-keys ks) → Sound (constants ks)

@@ -4,6 +4,7 @@ use mathlib.Core.Path.{_≡_, refl, sym, ap, subst, _∙_}
 use mathlib.Core.Bool.{Bool, true, false, cond, not}
 use mathlib.Core.List.{List}
 use mathlib.Core.Option.{Option, none, some}
+use native.Mathlib.Nat.{mul-le-mul}
 use native.Mathlib.Omega.{arith}
 use borrow.Author.Tests.{eq-eqb, ne-eqb, leb-true, leb-false}
 use lib.Dec.{T, eqb, leb}
@@ -16,10 +17,14 @@ use Rattle.walks.specs.Walks.{Edge}
 use Rattle.walks.proofs.Same.{same-eq, same-of}
 use Rattle.walks.proofs.Tests.{T-of}
 use Rattle.packed_figures.specs.declared.PathConstants.{PathConstants}
-use Rattle.packed_figures.specs.Packed.{Packs, Small, absent, along, base-word, bits, constants, distinct, figure-of, figures-of, onward, word, word-of}
+use Rattle.packed_figures.specs.Packed.{Extends, Packs, Small, absent, along, base-word, bits, constants, distinct, figure-of, figures-of, onward, word, word-of}
 use Rattle.packed_figures.proofs.Extension.{word-base, word-onward}
 use Rattle.packed_figures.proofs.Legal.{legal-bits}
 use Rattle.packed_figures.proofs.Words.{word-list, word-lt, word-order, word-value}
+
+-- a weight adds less than 2^42
+pub grows : (c : PathConstants) (x weight capacity : ℕ) → Extends c x weight capacity → c .weight * weight ≤ 67108864 * 65535
+grows c x weight capacity p = mul-le-mul (p .sound .weight-fits) (let h : weight ≤ 65535 = omega (arith, p .weight-fits) in h)
 
 -- what is absent stays so
 pub along-absent : (c : PathConstants) (x weight capacity : ℕ) → absent ≤ x → absent ≤ along c x weight capacity

@@ -108,6 +108,7 @@ abbrev pub packing : List ℕ → ℕ → PathConstants
 packing ks j = record {
   edges = unit-of 1 ks;
   weight = unit-of 2 ks;
+  weighs = cond (eqb (unit-of 2 ks) 0) 0 1;
   up = unit-of 3 ks;
   down = unit-of 4 ks;
   last = j;
@@ -146,6 +147,7 @@ figure-of c x = let f = bitAnd (x / 2 ^ c .shift) (c .mask) in cond (eqb (c .fli
 pub record Sound (c : PathConstants) : Type 0 where
   pub edges-fit : c .edges ≤ 4398046511104
   pub weight-fits : c .weight ≤ 67108864
+  pub weighs-right : c .weighs ≡ 0 → c .weight ≡ 0
   pub up-fits : c .up ≤ 4398046511104
   pub down-fits : c .down ≤ 4398046511104
   pub base-fits : c .base ≤ 65535

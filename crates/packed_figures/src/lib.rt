@@ -4,7 +4,7 @@
 ghost use mathlib.Core.Path.{_≡_};
 ghost use mathlib.Core.Bool.{cond};
 ghost use mathlib.Core.List.{[], _∷_};
-ghost use Prim.Native.Nat.{_^_, _<_, _≤_, min, max};
+ghost use Prim.Native.Nat.{_+_, _*_, _^_, _<_, _≤_, min, max};
 ghost use lib.Dec.{eqb};
 ghost use Rattle.walks.specs.Keys.{measure, kept};
 ghost use Rattle.packed_figures.specs.Packed.{Extends, Sound, Starts, along, base-word, constants, figure-of, flip-of, width};
@@ -15,6 +15,7 @@ ghost use Rattle.packed_figures.specs.Steps.{SmallUnits, key-or-before, 
 pub struct PathConstants {
     pub edges: u64,
     pub weight: u64,
+    pub weighs: u8,
     pub up: u64,
     pub down: u64,
     pub last: u8,
@@ -56,12 +57,23 @@ fn greatest(x: u64, y: u64) -> u64
     y
 }
 
+// A word with an edge's weight added, where a key counts it: a loop over edges asks that once.
+fn weighed(c: PathConstants, x: u64, weight: u64) -> u64
+    requires { ⌜ Extends c x weight 0 ⌝ }
+    ensures { λ r. ⌜ r ≡ x + c .weight * weight ⌝ }
+{
+    if c.weighs == 0 {
+        return x;
+    }
+    x + c.weight * weight
+}
+
 // What an edge's weight and capacity make of a word that counts the edge already. ABSENT stays at least ABSENT.
 pub fn through(c: PathConstants, x: u64, weight: u64, capacity: u64) -> u64
     requires { ⌜ Extends c x weight capacity ⌝ }
     ensures { λ r. ⌜ r ≡ along c x weight capacity ⌝ }
 {
-    let y = x + c.weight * weight;
+    let y = weighed(c, x, weight);
     if c.last == 5 {
         return greatest(y, y - y % 65536 + (65535 - capacity));
     }
@@ -171,6 +183,16 @@ fn unit_of(j: u8, a: u8, b: u8, c: u8, u: Units) -> u64
     if_same(a, j, u.first, 0) + if_same(b, j, u.second, 0) + if_same(c, j, u.third, 0)
 }
 
+// Is a weight counted?
+fn weighs_of(unit: u64) -> u8
+    ensures { λ r. ⌜ r ≡ cond (eqb unit 0) 0 1 ⌝ }
+{
+    if unit == 0 {
+        return 0;
+    }
+    1
+}
+
 // The bits after the third key, where it stands first.
 fn shift_of_third(a: u8, b: u8, c: u8) -> u64
     ensures { λ r. ⌜ r ≡ last-shift a b c ⌝ }
@@ -185,10 +207,12 @@ fn constants_of(a: u8, b: u8, c: u8) -> PathConstants
     ensures { λ r. ⌜ r ≡ constants (a ∷ b ∷ c ∷ []) ⌝ }
 {
     let u = units_of(a, b, c);
+    let weight = unit_of(2, a, b, c, u);
     let top = power(bits_of(c)) - 1;
     PathConstants {
         edges: unit_of(1, a, b, c, u),
-        weight: unit_of(2, a, b, c, u),
+        weight,
+        weighs: weighs_of(weight),
         up: unit_of(3, a, b, c, u),
         down: unit_of(4, a, b, c, u),
         last: c,

@@ -18,6 +18,7 @@ abbrev pub no-constants : PathConstants
 no-constants = record {
   edges = 0;
   weight = 0;
+  weighs = 0;
   up = 0;
   down = 0;
   last = 0;

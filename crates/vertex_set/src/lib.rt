@@ -29,10 +29,7 @@ fn digit_if(test: bool, j: usize) -> u64
     requires { ⌜ j < 64 ⌝ }
     ensures { λ r. ⌜ r ≡ cond test (2 ^ j) 0 ⌝ }
 {
-    if test {
-        return 1u64 << j;
-    }
-    0
+    (test as u64) << j
 }
 
 // v into set f where the test holds: a store either way, no branch to predict.

@@ -88,15 +88,16 @@ fn touch(
         Touched c n j (now (successors .entry)) (now (figures .entry)) (now (work .entry)) (now (figures .exit)) (now (work .exit))
         ⌝ }
 {
-    vertex_set::clear(work, 0);
     let first = 32 + 8 * n;
+    let mut touched = vertex_set::empty();
     let mut m = vertex_set::first(figures, j);
     while m.vertex < n {
         let u = m.vertex;
         figures[first + u] = figures[32 + 8 * u + j] + c.edges;
-        vertex_set::join(work, 0, successors, u);
+        touched = vertex_set::with(touched, successors, u);
         m = vertex_set::after(figures, j, m);
     }
+    vertex_set::store(work, 0, touched);
 }
 
 // The vertices of set j lend no more, where no other does.

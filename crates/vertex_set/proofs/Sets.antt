@@ -99,6 +99,15 @@ member-replaced words f w g v h room = go (ℕ-discrete g f)
         ∙ of-four w (v / 64) (omega arith)))
     go (no n) = rw (ne-eqb g f n) (ap (λ (x : ℕ). digit x (v % 64)) (word-other n (decLt g f)))
 
+-- those of a set by itself
+lone-member : (l : List ℕ) (v : ℕ) → digit (getD l (v / 64) 0) (v % 64) ≡ member l 0 v
+unfolding member
+lone-member l v = ap (λ (i : ℕ). digit (getD l i 0) (v % 64)) (let e : v / 64 ≡ 4 * 0 + v / 64 = omega arith in e)
+
+pub member-of-set : (words : List ℕ) (f : ℕ) (l : List ℕ) (v : ℕ) → v < 256 → 4 * f + 4 ≤ length words
+    → member (replaced words f (λ k. getD l k 0)) f v ≡ member l 0 v
+member-of-set words f l v h room = member-replaced words f (λ k. getD l k 0) f v h room ∙ rw (eq-eqb f f refl) (lone-member l v)
+
 -- EMPTIED
 pub member-emptied : (words : List ℕ) (f g v : ℕ) → v < 256 → 4 * f + 4 ≤ length words
     → member (emptied words f) g v ≡ cond (eqb g f) false (member words g v)

@@ -5,9 +5,9 @@ ghost use Prim.Native.Nat.{_+_, _*_, _-_, _/_, _^_, _≤_, _<_};
 ghost use lib.Count.{trailingZeros};
 ghost use mathlib.Core.List.{[], _∷_};
 ghost use mathlib.Core.Bool.{cond};
-ghost use lib.ListN.{length};
+ghost use lib.ListN.{length, getD};
 ghost use lib.Seq.{sets};
-ghost use Rattle.vertex_set.specs.Sets.{Met, above, emptied, filled, inserted, joined, ones};
+ghost use Rattle.vertex_set.specs.Sets.{Met, above, emptied, filled, four, inserted, joined, ones, replaced};
 
 // A member, and the digits above it in its word: so the next one in the word is found without reading it again. No member is 256.
 pub struct Member {
@@ -106,6 +106,52 @@ pub fn join(words: &mut [u64], f: usize, others: &[u64], g: usize)
     let d = words[at + 3] | others[from + 3];
     put(words, f, a, b, c, d);
 }
+
+// ---- a set by itself
+
+// Its four words: a loop that joins sets keeps them at hand.
+pub struct Four {
+    pub a: u64,
+    pub b: u64,
+    pub c: u64,
+    pub d: u64,
+}
+
+// No member.
+pub fn empty() -> Four
+    ensures { λ r. ⌜ four r ≡ 0 ∷ 0 ∷ 0 ∷ 0 ∷ [] ⌝ }
+{
+    Four {
+        a: 0,
+        b: 0,
+        c: 0,
+        d: 0,
+    }
+}
+
+// The members of set g of a table besides its own.
+pub fn with(s: Four, others: &[u64], g: usize) -> Four
+    requires { ⌜ 4 * g + 4 ≤ length (now others) ⌝ }
+    ensures { λ r. ⌜ four r ≡ joined (four s) 0 (now (others .entry)) g ⌝ }
+{
+    let from = 4 * g;
+    Four {
+        a: s.a | others[from],
+        b: s.b | others[from + 1],
+        c: s.c | others[from + 2],
+        d: s.d | others[from + 3],
+    }
+}
+
+// It becomes set f of a table.
+pub fn store(words: &mut [u64], f: usize, s: Four)
+    requires { ⌜ 4 * f + 4 ≤ length (now words) ⌝ }
+    ensures { λ _. ⌜ now (words .exit) ≡ replaced (now (words .entry)) f (λ k. getD (four s) k 0) ⌝ }
+{
+    put(words, f, s.a, s.b, s.c, s.d);
+}
+
+// ---- the members, in rising order
 
 // The lowest digit of a word that has one; its first stands for the vertex `base`.
 fn lowest(base: usize, word: u64) -> Member

@@ -73,14 +73,15 @@ pub fn through(c: PathConstants, x: u64, weight: u64, capacity: u64) -> u64
     requires { ⌜ Extends c x weight capacity ⌝ }
     ensures { λ r. ⌜ r ≡ along c x weight capacity ⌝ }
 {
-    let y = weighed(c, x, weight);
     if c.last == 5 {
+        let y = weighed(c, x, weight);
         return greatest(y, y - y % 65536 + (65535 - capacity));
     }
     if c.last == 6 {
-        return least(y, y - y % 65536 + capacity);
+        let z = weighed(c, x, weight);
+        return least(z, z - z % 65536 + capacity);
     }
-    y
+    weighed(c, x, weight)
 }
 
 // The word of the empty walk at v.

@@ -16,7 +16,23 @@ use Rattle.walks.specs.Rounds.{bases, extend-all}
 use Rattle.walks.specs.Walks.{Edge, base, extend}
 use Rattle.walks.proofs.Tests.{and-left, and-right, T-of}
 use Rattle.packed_figures.specs.declared.PathConstants.{PathConstants}
-use Rattle.packed_figures.specs.Packed.{Small, along, base-word, code, constants, distinct, held, onward, packing, room, total, unit-of, within, without, word}
+use Rattle.packed_figures.specs.Packed.{
+  Small,
+  along,
+  base-word,
+  code,
+  constants,
+  distinct,
+  held,
+  onward,
+  packing,
+  room,
+  total,
+  unit-of,
+  within,
+  without,
+  word,
+}
 use Rattle.packed_figures.proofs.Distinct.{all-map, distinct-all, without-all}
 use Rattle.packed_figures.proofs.Legal.{by-key, legal-known, legal-order}
 use Rattle.packed_figures.proofs.Order.{flipped-lt}

@@ -17,7 +17,22 @@ use Rattle.walks.specs.Walks.{Edge}
 use Rattle.walks.proofs.Same.{same-eq, same-of}
 use Rattle.walks.proofs.Tests.{T-of}
 use Rattle.packed_figures.specs.declared.PathConstants.{PathConstants}
-use Rattle.packed_figures.specs.Packed.{Extends, Packs, Small, absent, along, base-word, bits, constants, distinct, figure-of, figures-of, onward, word, word-of}
+use Rattle.packed_figures.specs.Packed.{
+  Extends,
+  Packs,
+  Small,
+  absent,
+  along,
+  base-word,
+  bits,
+  constants,
+  distinct,
+  figure-of,
+  figures-of,
+  onward,
+  word,
+  word-of,
+}
 use Rattle.packed_figures.proofs.Extension.{word-base, word-onward}
 use Rattle.packed_figures.proofs.Legal.{legal-bits}
 use Rattle.packed_figures.proofs.Words.{word-list, word-lt, word-order, word-value}
@@ -70,7 +85,12 @@ module _ (ks : List ℕ) (ok : T (legal-keys ks)) where
   pub word-brought : (e : Edge) (p o : Option (List ℕ)) → Packs ks p → Packs ks o → Packs ks (through ks e o)
       → word-of ks (best ks p (through ks e o)) ≡ min (word-of ks p) (onward (constants ks) (word-of ks o) (e .weight) (e .capacity))
   word-brought e p none a b c =
-      ap (word-of ks) (best-none ks p) ∙ omega (arith, word-most p a, along-absent (constants ks) (absent + constants ks .edges) (e .weight) (e .capacity) (omega arith))
+      ap (word-of ks) (best-none ks p) ∙ omega (
+        arith,
+        word-most p a,
+        along-absent (constants ks) (absent + constants ks .edges) (e .weight) (e .capacity)
+            (omega arith),
+      )
   word-brought e p (some xs) a b c =
       word-best p (some (extend-all ks e xs)) a c ∙ ap (min (word-of ks p)) (word-onward ks ok xs b e)
 

@@ -121,7 +121,8 @@ packing ks j = record {
 unfoldable pub constants : List ℕ → PathConstants
 constants ks = packing (distinct ks) (last ks)
 
--- the low 16 bits t after an edge: by key 5 they have complements of capacities, by key 6 capacities, of which the smallest of a walk counts; by others no bound
+-- the low 16 bits t after an edge: by key 5 they are a complement of the walk's capacity, by key 6 that capacity, which is the smallest of its edges; by others
+-- they are not bounded
 abbrev pub held : PathConstants → ℕ → ℕ → ℕ
 held c capacity t = cond (eqb (c .last) 5) (max t (65535 - capacity)) (cond (eqb (c .last) 6) (min t capacity) t)
 

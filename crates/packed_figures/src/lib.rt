@@ -10,8 +10,9 @@ ghost use Rattle.walks.specs.Keys.{measure, kept};
 ghost use Rattle.packed_figures.specs.Packed.{Extends, Sound, Starts, along, base-word, constants, figure-of, flip-of, width};
 ghost use Rattle.packed_figures.specs.Steps.{SmallUnits, key-or-before, last-shift, path-keys, second-bits, third-bits, unit-among, units-of};
 
-// What is fixed for a path reduction: what one more edge adds to a word, the last key, by which it bounds the low 16 bits, what the empty walk has, where the value
-// stands.
+// What is fixed for a path reduction: what one more edge adds to a word and whether a weight counts, the last key, by which an edge bounds the low 16 bits,
+// what
+// the empty walk has, where the value stands.
 pub struct PathConstants {
     pub edges: u64,
     pub weight: u64,

@@ -124,7 +124,8 @@ module _ (s : List ℕ) (table : List PackedPath) (k : ℕ) (h : k < 8) (given :
       subst (λ (a : ℕ). Stands (graph-of s) (path-at table a) 0 a l′) (sym e) (begun-stands s (getD table k no-path) given k l l′ y)
   shown-now j i (no n) =
       let m : ¬ (j ≡ k) = n in
-      stands-kept (graph-of s) (path-at table j) 0 j l l′ (y .sound .long) (y .sound .idle) (λ v q. y .others j (omega arith) n v q) (x .each j (omega arith))
+      stands-kept (graph-of s) (path-at table j) 0 j l l′ (y .sound .long) (y .sound .idle) (λ v q. y .others j (omega arith) n v q) (x .each j (omega
+      arith))
 
   pub started-more : AllStand (graph-of s) (suc k) table 0 l′
   started-more = record { each = λ j i. shown-now j i (ℕ-discrete j k); long = y .sound .long; idle = y .sound .idle }

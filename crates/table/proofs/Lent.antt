@@ -33,7 +33,8 @@ module _ (n : ℕ) (L : ℕ → ℕ) (base : List ℕ) where
   upto-none = record { done = λ u h. absurd (omega arith); left = λ u h. refl; rest = λ k h. refl; size = refl }
 
   -- one more
-  pub upto-more : (l : List ℕ) (v x : ℕ) → 32 + 8 * n + v < length base → x ≡ L v → Upto n L base l v → Upto n L base (set l (32 + 8 * n + v) x) (v + 1)
+  pub upto-more : (l : List ℕ) (v x : ℕ) → 32 + 8 * n + v < length base → x ≡ L v → Upto n L base l v → Upto n L base (set l (32 + 8 * n + v) x)
+      (v + 1)
   upto-more l v x room e p = record {
     done = λ u h. go u h (ℕ-discrete u v);
     left = λ u h. getD-set-other l (32 + 8 * n + v) (32 + 8 * n + u) x 0 (λ q. omega (arith, q)) ∙ p .left u (omega arith);
@@ -57,7 +58,8 @@ module _ (n : ℕ) (L : ℕ → ℕ) (base : List ℕ) where
       (getD-set-other l (32 + 8 * n + x) (4 * j + u / 64) y 0 (λ e. omega (arith, e)) ∙ p .rest (4 * j + u / 64) (omega arith))
 
   -- those that have what they shall lend are passed over
-  pub upto-passed : (l : List ℕ) (v w : ℕ) → v ≤ w → ((u : ℕ) → v ≤ u → u < w → lent n base u ≡ L u) → Upto n L base l v → Upto n L base l w
+  pub upto-passed : (l : List ℕ) (v w : ℕ) → v ≤ w → ((u : ℕ) → v ≤ u → u < w → lent n base u ≡ L u) → Upto n L base l v → Upto n L
+      base l w
   upto-passed l v w up there p = record {
     done = λ u h. go u h (decLt u v);
     left = λ u h. p .left u (omega arith);

@@ -283,7 +283,8 @@ module _ (words : List ℕ) (f k a : ℕ) (h : k < 4) (g : a < 64) (word t : ℕ
       shr-shr word a (t + 1) ∙ rw (p, ← q, there)
 
 -- WHERE A WORD HAS A DIGIT, from its digit a on, the lowest is the next member
-pub met-here : (words : List ℕ) (f k a : ℕ) → k < 4 → a < 64 → getD words (4 * f + k) 0 < 2 ^ 64 → (rest : ℕ) → rest ≡ getD words (4 * f + k) 0 / 2 ^ a
+pub met-here : (words : List ℕ) (f k a : ℕ) → k < 4 → a < 64 → getD words (4 * f + k) 0 < 2 ^ 64 → (rest : ℕ) → rest ≡ getD words (4 * f +
+    k) 0 / 2 ^ a
     → (rest ≡ 0 → ⊥) → (m : Member) → m .vertex ≡ 64 * k + a + trailingZeros 64 rest → m .above ≡ rest / 2 ^ (trailingZeros 64 rest + 1)
     → Met words f (64 * k + a) m
 met-here words f k a h g bound rest e some m v r =
@@ -293,7 +294,8 @@ met-here words f k a h g bound rest e some m v r =
     record {
       vertex-is = v ∙ next-here words f k a h g w t refl bound nonzero (ap (trailingZeros 64) e);
       above-is = λ l.
-          r ∙ ap (λ (x : ℕ). x / 2 ^ (t + 1)) e ∙ above-here words f k a h g w t refl bound nonzero (ap (trailingZeros 64) e) ∙ ap (above words f) (sym v);
+          r ∙ ap (λ (x : ℕ). x / 2 ^ (t + 1)) e ∙ above-here words f k a h g w t refl bound nonzero (ap (trailingZeros 64) e) ∙ ap (above words f)
+          (sym v);
     }
 
 -- from another vertex, where the next member is the same
@@ -313,7 +315,8 @@ last-digit words f v bound some = go (ℕ-discrete (v % 64 + 1) 64)
     go (no n) = omega (arith, n)
 
 -- where there is none above v, the search goes on at the next word
-pub none-above : (words : List ℕ) (f v : ℕ) → v < 256 → above words f v ≡ 0 → next-member words f (64 * (v / 64 + 1)) ≡ next-member words f (v + 1)
+pub none-above : (words : List ℕ) (f v : ℕ) → v < 256 → above words f v ≡ 0 → next-member words f (64 * (v / 64 + 1)) ≡ next-member words f (v +
+    1)
 none-above words f v h z = go (ℕ-discrete (v % 64 + 1) 64)
   where
     go : Dec (v % 64 + 1 ≡ 64) → next-member words f (64 * (v / 64 + 1)) ≡ next-member words f (v + 1)

@@ -43,7 +43,14 @@ through-spec =
     returns
     (λ c κs. weighs _ _ _ _ (c .before .before .before .before .pre))
     (λ c. search needs)
-    (λ c. let p = c .before .before .before .before .before .pre in omega (arith, c .weighed2 .ensures, grows _ _ _ _ p, p .at-most-absent, p .sound .edges-fit, p .capacity-fits))
+    (λ c. let p = c .before .before .before .before .before .pre in omega (
+      arith,
+      c .weighed2 .ensures,
+      grows _ _ _ _ p,
+      p .at-most-absent,
+      p .sound .edges-fit,
+      p .capacity-fits,
+    ))
     (λ c κs. search needs)
     returns-2
     (λ c κs. weighs _ _ _ _ (c .before .before .before .before .pre))

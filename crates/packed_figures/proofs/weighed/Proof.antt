@@ -11,5 +11,10 @@ weighed-spec =
     (tie.spec
     (λ c. rw (c .before .before .pre .sound .weighs-right (c .if1 .taken)) (omega arith))
     (λ c. omega (arith, grows _ _ _ _ (c .before .before .before .pre)))
-    (λ c. omega (arith, grows _ _ _ _ (c .before .before .before .pre), c .before .before .before .pre .at-most-absent, c .before .before .before .pre .sound .edges-fit))
+    (λ c. omega (
+      arith,
+      grows _ _ _ _ (c .before .before .before .pre),
+      c .before .before .before .pre .at-most-absent,
+      c .before .before .before .pre .sound .edges-fit,
+    ))
     (λ c. refl))

@@ -27,7 +27,11 @@ returns c =
     let s = known .before in
     let a = s .args in
     let l = met-least (a .figures .now) (a .j) 0 (omega arith) _ (c .before .before .before .first .ensures) in
-    let end : at16 (a .graph .now) 5 ≤ c .before .before .before .first .result .vertex = omega (arith, c .before .before .vertices .ensures .0, c .if1 .taken) in (
+    let end : at16 (a .graph .now) 5 ≤ c .before .before .before .first .result .vertex = omega (
+      arith,
+      c .before .before .vertices .ensures .0,
+      c .if1 .taken,
+    ) in (
       rests (a .graph .now) (a .path) (given known) (a .j) (a .r) (a .figures .now) (s .pre .4)
           (λ v h. cell-mark (a .figures .now) (a .j) v ∙ l .none-before v (omega arith) (omega (arith, end))),
       refl,
@@ -58,23 +62,37 @@ pull-round-requires c κs =
 
 returns-2 : tie.Need-returns-2
 returns-2 c =
-    let s = c .before .before .before .before .before .before .before .before .before .before .before .before .before .before .before .before .before .before .before in
+    let s = c .before .before .before .before .before .before .before .before .before .before .before .before .before .before .before .before .before .before
+    .before in
     let a = s .args in
-    let t = c .before .before .before .before .push-round in
-    (push-stands (a .graph .now) (a .path) (given (c .before .before .before .before .before .before .before .before .before .before .before .before .before .before .before .before .before .before)) (a .j) (a .r) (a .figures .now) (s .pre .4) _ _ (t .ensures .0), t .ensures .1)
+    let t = c .before .before .before .before .push-round in (
+      push-stands (a .graph .now) (a .path) (given
+          (c .before .before .before .before .before .before .before .before .before .before .before .before .before .before .before .before .before .before))
+          (a .j) (a .r) (a .figures .now) (s .pre .4) _ _ (t .ensures .0),
+      t .ensures .1,
+    )
 
 returns-3 : tie.Need-returns-3
 returns-3 c =
-    let s = c .before .before .before .before .before .before .before .before .before .before .before .before .before .before .before .before .before .before .before in
+    let s = c .before .before .before .before .before .before .before .before .before .before .before .before .before .before .before .before .before .before
+    .before in
     let a = s .args in
-    let t = c .before .before .before .before .pull-round in
-    (pull-stands (a .graph .now) (a .path) (given (c .before .before .before .before .before .before .before .before .before .before .before .before .before .before .before .before .before .before)) (a .j) (a .r) (a .figures .now) (s .pre .4) _ _ (t .ensures .0), t .ensures .1)
+    let t = c .before .before .before .before .pull-round in (
+      pull-stands (a .graph .now) (a .path) (given
+          (c .before .before .before .before .before .before .before .before .before .before .before .before .before .before .before .before .before .before))
+          (a .j) (a .r) (a .figures .now) (s .pre .4) _ _ (t .ensures .0),
+      t .ensures .1,
+    )
 
 pub advance-spec : {M : Type 1} → statement M
 advance-spec =
     tie.close
     (tie.spec
-    (λ c κs. omega (arith, c .before .before .before .before .before .before .before .pre .1, c .before .before .before .before .before .before .before .pre .4 .sound .long))
+    (λ c κs. omega (
+      arith,
+      c .before .before .before .before .before .before .before .pre .1,
+      c .before .before .before .before .before .before .before .pre .4 .sound .long,
+    ))
     (λ c κs. c .before .before .before .before .before .before .before .before .pre .0 .threads .accepted)
     (λ c. refl)
     returns

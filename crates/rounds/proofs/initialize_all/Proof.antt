@@ -66,8 +66,11 @@ loop-again c =
       rw (add-one (l .j))
           (started-more (a .graph .now) (a .t3) (l .j) (omega (arith, s .pre .1))
           (record {
-            bytes = λ i. omega
-                (arith, c .before .before .before .before .before .before .before .before .before .before .before .before .before .before .shared-slice-known .given i);
+            bytes = λ i. omega (
+              arith,
+              c .before .before .before .before .before .before .before .before .before .before .before .before .before
+                  .before .shared-slice-known .given i,
+            );
             accepted = s .pre .0;
             fits =
                 fits;

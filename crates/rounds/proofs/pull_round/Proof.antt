@@ -31,7 +31,12 @@ returns c =
     let t = pull-given (a .graph .now) (a .path) k (a .j) (s .pre .1) (a .r) (s .pre .4) l (s .pre .5) (a .heads .now) (a .nexts .now)
     (a .successors .now) (s .pre .0) in (
       step-round (a .graph .now) (a .path) k (a .j) (s .pre .1) (a .r) (s .pre .4) l (s .pre .5) (a .heads .now) (a .nexts .now) (a .successors .now)
-          (s .pre .0) _ _ t _ _ (rw (s .pre .3, c .before .before .before .before .before .before .before .before .before .fill .ensures, c .before .before .before .before .before .before .before .before .before .before .vertices .ensures .0) at (c .before .before .before .before .step .ensures .0)),
+          (s .pre .0) _ _ t _ _ (rw (
+            s .pre .3,
+            c .before .before .before .before .before .before .before .before .before .fill .ensures,
+            c .before .before .before .before .before .before .before .before .before .before .vertices .ensures .0,
+          ) at
+          (c .before .before .before .before .step .ensures .0)),
       c .before .before .before .before .step .ensures .1,
     )
 
@@ -40,8 +45,13 @@ pull-round-spec =
     tie.close
     (tie.spec
     (λ c κs. c .before .before .before .before .before .before .before .pre .0 .threads .accepted)
-    (λ c κs. omega (arith, c .before .before .before .before .before .before .before .before .pre .1, c .before .before .before .before .before .before .before .before .pre .5 .long))
+    (λ c κs. omega (
+      arith,
+      c .before .before .before .before .before .before .before .before .pre .1,
+      c .before .before .before .before .before .before .before .before .pre .5 .long,
+    ))
     step-requires
-    (λ c. c .before .before .before .before .step .kept .1 .1 .1 .1 .1 .1 .0 ∙ c .before .before .before .before .before .before .before .before .before .fill .kept .0)
+    (λ c. c .before .before .before .before .step .kept .1 .1 .1 .1 .1 .1 .0 ∙
+    c .before .before .before .before .before .before .before .before .before .fill .kept .0)
     (λ c. c .before .before .before .before .step .ensures .1)
     returns)

@@ -8,8 +8,10 @@ use Rattle.rounds.proofs.run_in.Tie as tie
 -- the index of the graph, the constants, and the initial values
 rounds-requires : tie.Need-rounds-requires
 rounds-requires c κs =
-    let s = c .before .before .before .before .before .before .before .before .before .before .before .before .before .before .before .before .before .before .before .before .before .before .before .before .before .before .before in
-    let t = c .before .before .before .before .before .before .before .before .before .before .before .before .before .before .before .before .before .index in (
+    let s = c .before .before .before .before .before .before .before .before .before .before .before .before .before .before .before .before .before .before
+    .before .before .before .before .before .before .before .before .before in
+    let t = c .before .before .before .before .before .before .before .before .before .before .before .before .before .before .before .before .before .index
+    in (
       record {
         threads = record {
           accepted = s .pre .0;
@@ -29,8 +31,10 @@ rounds-requires c κs =
 
 read-values-requires : tie.Need-read-values-requires
 read-values-requires c κs =
-    let s = c .before .before .before .before .before .before .before .before .before .before .before .before .before .before .before .before .before .before .before .before .before .before .before .before .before .before .before .before .before .before .before .before .before in
-    let v = c .before .before .before .before .before .before .before .before .before .before .before .before .before .before .before .before .vertices .ensures in
+    let s = c .before .before .before .before .before .before .before .before .before .before .before .before .before .before .before .before .before .before
+    .before .before .before .before .before .before .before .before .before .before .before .before .before .before .before in
+    let v = c .before .before .before .before .before .before .before .before .before .before .before .before .before .before .before
+    .before .vertices .ensures in
     let ran = c .before .before .before .before .before .rounds in (
       v .1,
       s .pre .1,
@@ -40,7 +44,13 @@ read-values-requires c κs =
     )
 
 returns : tie.Need-returns
-returns c = (_, c .before .before .before .before .before .before .before .before .rounds .ensures .0, rw (c .before .before .before .before .before .before .before .before .before .before .before .before .before .before .before .before .before .before .before .vertices .ensures .0) at (c .before .before .read-values .ensures))
+returns c = (
+  _,
+  c .before .before .before .before .before .before .before .before .rounds .ensures .0,
+  rw
+      (c .before .before .before .before .before .before .before .before .before .before .before .before .before .before .before .before .before .before
+      .before .vertices .ensures .0) at (c .before .before .read-values .ensures),
+)
 
 pub run-in-spec : {M : Type 1} → statement M
 run-in-spec =
@@ -48,13 +58,22 @@ run-in-spec =
     (tie.spec
     (λ c κs. search needs)
     (λ c κs. search needs)
-    (λ c κs. (c .before .before .before .before .before .before .before .before .before .before .before .before .before .before .before .before .before .pre .1, rw (c .vertices .ensures .0) (c .before .before .before .before .before .before .before .before .before .before .before .before .before .before .before .before .before .pre .2)))
-    (λ c κs. let s = c .before .before .before .before .before .before .before .before .before .before .before .before .before .before .before .before .before .before .before in (s .pre .0, s .pre .1, s .pre .2, c .before .all-constants .ensures, s .pre .6))
+    (λ c κs. (
+      c .before .before .before .before .before .before .before .before .before .before .before .before .before .before .before .before
+          .before .pre .1,
+      rw (c .vertices .ensures .0) (c .before .before .before .before .before .before .before .before .before .before .before .before
+          .before .before .before .before .before .pre .2),
+    ))
+    (λ c κs. let s = c .before .before .before .before .before .before .before .before .before .before .before .before .before .before .before .before
+    .before .before .before in (s .pre .0, s .pre .1, s .pre .2, c .before .all-constants .ensures, s .pre .6))
     rounds-requires
     read-values-requires
     (λ c. search needs)
     (λ c. search needs)
     (λ c. search needs)
-    (λ c. c .before .before .read-values .kept .1 .1 .1 .1 .0 ∙ c .before .before .before .before .before .before .before .before .rounds .kept .1 .1 .1 .1 .1 .1 .1 .1 .1 .0 ∙ c .before .before .before .before .before .before .before .before .before .before .before .before .before .before .before .before .initialize-all .kept .1 .1 .1 .1 .0)
+    (λ c. c .before .before .read-values .kept .1 .1 .1 .1 .0 ∙
+    c .before .before .before .before .before .before .before .before .rounds .kept .1 .1 .1 .1 .1 .1 .1 .1 .1 .0 ∙
+    c .before .before .before .before .before .before .before .before .before .before .before .before .before .before .before
+    .before .initialize-all .kept .1 .1 .1 .1 .0)
     (λ c. search needs)
     returns)

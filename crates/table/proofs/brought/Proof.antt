@@ -37,6 +37,11 @@ brought-spec =
     (λ c. omega (arith, c .vertices .ensures .1, c .before .before .before .from-at .ensures .2))
     (λ c. omega (arith, c .vertices .ensures .1, c .before .before .before .from-at .ensures .2))
     (λ c. omega (arith, c .vertices .ensures .1))
-    (λ c. omega (arith, c .before .vertices .ensures .0, c .before .before .before .before .from-at .ensures .1, c .before .before .before .before .before .before .before .pre .0 .table-fits))
+    (λ c. omega (
+      arith,
+      c .before .vertices .ensures .0,
+      c .before .before .before .before .from-at .ensures .1,
+      c .before .before .before .before .before .before .before .pre .0 .table-fits,
+    ))
     through-requires
     returns)

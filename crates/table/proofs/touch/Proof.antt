@@ -41,7 +41,8 @@ zeros = 0 ∷ 0 ∷ 0 ∷ 0 ∷ []
 abbrev Inv-loop : tie.InvT-loop
 Inv-loop c j n successors figures₀ work first touched₀ m₀ figures touched m =
     (m .vertex ≤ 256) × (m .vertex < 256 → member figures₀ j (m .vertex) ≡ true) × (m .vertex < 256 → m .above ≡ above figures₀ j (m .vertex))
-    × Upto n (lends c j figures₀) figures₀ figures (min (m .vertex) n) × (four touched ≡ joined-chosen zeros 0 figures₀ j successors (min (m .vertex) n))
+    × Upto n (lends c j figures₀) figures₀ figures (min (m .vertex) n) × (four touched ≡ joined-chosen zeros 0 figures₀ j successors (min
+    (m .vertex) n))
 
 abbrev μ-loop : tie.MeasureT-loop
 μ-loop c j n successors figures₀ work first touched₀ m₀ figures touched m = 256 - m .vertex
@@ -93,7 +94,8 @@ after-requires c κs =
     let small : u < 256 = omega (arith, c .before .before .before .before .if1 .taken, s .pre .2) in (
       small,
       l .inv .2 small
-          ∙ sym (above-stored (a .n) (lends (a .c) (a .j) (a .figures .now)) (a .figures .now) (l .figures) (min u (a .n)) (l .inv .3) (a .j) (s .pre .1) u x u
+          ∙ sym (above-stored (a .n) (lends (a .c) (a .j) (a .figures .now)) (a .figures .now) (l .figures) (min u (a .n)) (l .inv .3) (a .j) (s .pre .1) u
+          x u
           small),
       omega (arith, s .pre .1, s .pre .4, l .inv .3 .size, length-set (l .figures) (32 + 8 * a .n + u) x),
     )
@@ -176,13 +178,34 @@ touch-spec =
     loop-holds
     (λ c. omega (arith, c .before .before .before .before .before .before .before .before .before .pre .2, c .if1 .taken))
     (λ c. omega (arith, c .before .before .before .before .before .before .before .before .before .pre .2, c .if1 .taken))
-    (λ c. omega (arith, c .before .before .before .before .before .before .before .before .before .pre .1, c .before .before .before .before .before .before .before .before .before .pre .2, c .if1 .taken))
-    (λ c. omega (arith, c .before .before .before .before .before .before .before .before .before .pre .1, c .before .before .before .before .before .before .before .before .before .pre .2, c .if1 .taken))
-    (λ c. omega (arith, c .before .before .before .before .before .before .before .before .before .before .pre .1, c .before .before .before .before .before .before .before .before .before .before .pre .4, c .before .if1 .taken, c .before .before .before .loop .inv .3 .size))
+    (λ c. omega (
+      arith,
+      c .before .before .before .before .before .before .before .before .before .pre .1,
+      c .before .before .before .before .before .before .before .before .before .pre .2,
+      c .if1 .taken,
+    ))
+    (λ c. omega (
+      arith,
+      c .before .before .before .before .before .before .before .before .before .pre .1,
+      c .before .before .before .before .before .before .before .before .before .pre .2,
+      c .if1 .taken,
+    ))
+    (λ c. omega (
+      arith,
+      c .before .before .before .before .before .before .before .before .before .before .pre .1,
+      c .before .before .before .before .before .before .before .before .before .before .pre .4,
+      c .before .if1 .taken,
+      c .before .before .before .loop .inv .3 .size,
+    ))
     word-fits
     (λ c. omega (arith, c .before .before .before .before .before .before .before .before .before .before .before .pre .2, c .before .before .if1 .taken))
     (λ c. omega (arith, c .before .before .before .before .before .before .before .before .before .before .before .pre .2, c .before .before .if1 .taken))
-    (λ c. omega (arith, c .before .before .before .before .before .before .before .before .before .before .before .pre .4, c .before .before .if1 .taken, c .before .before .before .before .loop .inv .3 .size))
+    (λ c. omega (
+      arith,
+      c .before .before .before .before .before .before .before .before .before .before .before .pre .4,
+      c .before .before .if1 .taken,
+      c .before .before .before .before .loop .inv .3 .size,
+    ))
     (λ c κs. omega (arith, c .before .before .before .before .before .before .before .before .before .before .before .pre .3, c .before .before .if1 .taken))
     after-requires
     loop-less

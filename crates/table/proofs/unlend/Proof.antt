@@ -40,7 +40,8 @@ after-requires c κs =
     let small : l .m .vertex < 256 = omega (arith, here, s .pre .1) in (
       small,
       l .inv .1 small
-          ∙ sym (above-stored (a .n) (λ u. absent) (a .figures .now) (l .figures) (min (l .m .vertex) (a .n)) (l .inv .2) (a .j) (s .pre .0) (l .m .vertex) absent
+          ∙ sym (above-stored (a .n) (λ u. absent) (a .figures .now) (l .figures) (min (l .m .vertex) (a .n)) (l .inv .2) (a .j) (s .pre .0) (l .m .vertex)
+          absent
           (l .m .vertex) small),
       omega (arith, s .pre .0, s .pre .2, l .inv .2 .size, length-set (l .figures) (32 + 8 * a .n + l .m .vertex) absent),
     )
@@ -50,7 +51,11 @@ loop-less c =
     let l = c .before .before .before .before .loop in
     let a = c .before .before .before .before .before .before .before .before .args in
     let here : l .m .vertex < a .n = omega (arith, c .before .before .if1 .taken) in
-    let h = met-least (set (l .figures) (32 + 8 * a .n + l .m .vertex) absent) (a .j) (l .m .vertex + 1) (omega (arith, here, c .before .before .before .before .before .before .before .before .pre .1)) _
+    let h = met-least (set (l .figures) (32 + 8 * a .n + l .m .vertex) absent) (a .j) (l .m .vertex + 1) (omega (
+      arith,
+      here,
+      c .before .before .before .before .before .before .before .before .pre .1,
+    )) _
     (c .after .ensures) in
     omega (arith, here, c .before .before .before .before .before .before .before .before .pre .1, h .from)
 

@@ -51,7 +51,8 @@ walk-at-requires c κs =
     )
 
 -- the digits above a vertex that is walked
-above-kept : (s : List ℕ) (c : PathConstants) (j : ℕ) (l work : List ℕ) (v : ℕ) → v < 256 → above (walked-mark s c j l work v) 0 v ≡ above work 0 v
+above-kept : (s : List ℕ) (c : PathConstants) (j : ℕ) (l work : List ℕ) (v : ℕ) → v < 256 → above (walked-mark s c j l work v) 0 v ≡ above work
+    0 v
 unfolding walked-mark
 above-kept s c j l work v h = marked-above (moves s c j (lent-in s l) l v) work 1 v 0 v h (omega arith)
 
@@ -70,12 +71,14 @@ loop-less : tie.Need-loop-less Inv-loop μ-loop
 loop-less c =
     let l = c .before .before .before .before .before .before .before .before .before .before .before .loop in
     let small : l .m .vertex < 256 = omega (arith, c .before .before .before .before .before .before .before .before .before .if1 .taken) in
-    let h = met-least (c .before .before .before .before .before .before .walk-at .last .1 .1 .1 .1 .1 .1 .1 .0) 0 (l .m .vertex + 1) (omega (arith, small)) _ (c .after .ensures) in
+    let h = met-least (c .before .before .before .before .before .before .walk-at .last .1 .1 .1 .1 .1 .1 .1 .0) 0 (l .m .vertex + 1) (omega (arith, small)) _
+    (c .after .ensures) in
     omega (arith, small, h .from)
 
 loop-again : tie.Need-loop-again Inv-loop μ-loop
 loop-again c =
-    let s = c .before .before .before .before .before .before .before .before .before .before .before .before .before .before .before .before .before .before .before in
+    let s = c .before .before .before .before .before .before .before .before .before .before .before .before .before .before .before .before .before .before
+    .before in
     let a = s .args in
     let slot = s .pre .0 .slot in
     let l = c .before .before .before .before .before .before .before .before .before .before .before .loop in

@@ -24,7 +24,8 @@ returns c =
     let w = getD (a .words .now) (4 * a .f + l .j) 0 in
     let e : 64 * l .j + 0 ≡ 64 * l .j = omega arith in
     met-from (a .words .now) (a .f) (64 * l .j + 0) (64 * a .k) _ (ap (next-member (a .words .now) (a .f)) e ∙ l .inv .1)
-    (met-here (a .words .now) (a .f) (l .j) 0 (omega arith) (omega arith) (c .before .before .shared-slice-known2 .given (4 * a .f + l .j) .fits) w (sym (div-one w))
+    (met-here (a .words .now) (a .f) (l .j) 0 (omega arith) (omega arith) (c .before .before .shared-slice-known2 .given (4 * a .f + l .j) .fits) w (sym
+    (div-one w))
     (c .before .if1 .taken) _ (c .lowest .ensures .0 ∙ omega arith) (c .lowest .ensures .1))
 
 loop-again : tie.Need-loop-again Inv-loop μ-loop

@@ -3,3 +3,4 @@ pub mod Slots
 pub mod Meant
 pub mod Loops
 pub mod Answers
+pub mod SameMap

@@ -3,3 +3,4 @@ pub mod Numbers
 pub mod Meant
 pub mod Table
 pub mod Every
+pub mod SameMap

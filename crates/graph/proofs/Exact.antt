@@ -1,17 +1,17 @@
 -- THE ACCEPTED BYTES ARE EXACTLY THE ENCODINGS OF LEGAL GRAPHS, and writing what was read yields the bytes read. Assumes nothing.
 use Prim.Native.Nat.{ℕ, zero, suc, _+_, _*_, _≤_, _<_, suc-le-suc}
-use mathlib.Core.Path.{_≡_, refl, ap, _∙_}
-use mathlib.Core.Bool.{cond}
+use mathlib.Core.Path.{_≡_, refl, sym, ap, _∙_}
+use mathlib.Core.Bool.{Bool, true, false, cond}
 use mathlib.Core.List.{List, [], _∷_, _++_}
 use native.Mathlib.Omega.{arith}
 use native.Mathlib.Nat.{le-of-suc-le-suc}
-use borrow.Author.Tests.{leb-false, eqb-false, le-ltb, lt-leb, eq-eqb, ne-eqb}
+use borrow.Author.Tests.{leb-false, eqb-false, eqb-true, le-ltb, lt-leb, eq-eqb, ne-eqb}
 use lib.Dec.{leb, eqb}
 use lib.ListN.{length, length-append}
 use Rattle.meaning.specs.Limits.{GraphLegal}
 use Rattle.walks.specs.Walks.{Edge, Graph, edge-at}
 use Rattle.wire.specs.Header.{header-code, then}
-use Rattle.wire.specs.Wire.{Bytes, at16, done, le16}
+use Rattle.wire.specs.Wire.{Bytes, at16, done, fitted, le16}
 use Rattle.wire.proofs.Codes.{past, then-both, then-none, then-same}
 use Rattle.wire.proofs.Header.{header-accepted}
 use Rattle.graph.specs.Encode.{edges-bytes, encode, head-bytes, table-bytes, table-graph, write-reply}
@@ -63,17 +63,31 @@ all-right n (e ∷ es) f = then-none (edge-code n e) (edges-code n es) (f 0 (ome
 
 -- ---- the typed form
 
+-- the reader's number is the first refusal
+pub reading-code : (s : List ℕ) → graph-reading s .code ≡ graph-code s
+unfolding graph-reading
+reading-code s = go (eqb (graph-code s) 0) refl
+  where
+    go : (b : Bool) → eqb (graph-code s) 0 ≡ b → graph-reading s .code ≡ graph-code s
+    go true e = rw e (sym (eqb-true _ _ e))
+    go false e = rw e
+
 -- of accepted bytes the reader gives the typed form of their graph
 pub graph-read : (s : List ℕ) → graph-code s ≡ 0 → graph-reading s .graph ≡ table-of (graph-of s)
 unfolding graph-reading
 graph-read s z = rw (eq-eqb _ _ z)
 
 -- which means that graph
-table-read : (s : List ℕ) → graph-code s ≡ 0 → table-graph (graph-reading s .graph) ≡ graph-of s
+pub table-read : (s : List ℕ) → graph-code s ≡ 0 → table-graph (graph-reading s .graph) ≡ graph-of s
 table-read s z = ap table-graph (graph-read s z) ∙ typed (graph-of s)
 
+-- and has at most 1,024 rows
+pub read-few : (s : List ℕ) → graph-code s ≡ 0 → graph-reading s .graph .count ≤ 1024
+unfolding table-of
+read-few s z = rw (graph-read s z, edges-count s) (accepted s z .sizes .few-edges)
+
 -- the bytes of the typed form of a graph are the graph's
-table-encoded : (g : Graph) → table-bytes (table-of g) ≡ encode g
+pub table-encoded : (g : Graph) → table-bytes (table-of g) ≡ encode g
 unfolding table-bytes table-of
 table-encoded g = ap (λ (h : Graph). head-bytes (g .vertices) (length (g .edges)) ++ edges-bytes (h .edges)) (typed g)
 
@@ -100,7 +114,7 @@ judged-bytes n m es hn hm same f =
 -- ---- legal graphs
 
 -- each field of a legal graph is 16 bits wide
-legal-fits : (g : Graph) → GraphLegal g → EdgesFit (g .edges)
+pub legal-fits : (g : Graph) → GraphLegal g → EdgesFit (g .edges)
 legal-fits g l i h =
     let ends = l .fits .ends-fit i h in
     record {
@@ -157,3 +171,8 @@ unfolding write-reply
 write-read s b z room h =
     let back : table-bytes (graph-reading s .graph) ≡ s = ap table-bytes (graph-read s z) ∙ table-encoded (graph-of s) ∙ read-sound s b z .1 in
     rw (back, eq-eqb _ _ z, le-ltb _ _ h)
+
+-- THE BYTES OF A LEGAL GRAPH ARE WRITTEN FROM ITS TYPED FORM, where they fit
+pub write-legal : (g : Graph) → GraphLegal g → (room : ℕ) → write-reply (table-of g) room ≡ fitted (encode g) room
+unfolding write-reply
+write-legal g l room = rw (table-encoded g, eq-eqb _ _ (read-complete g l .0))

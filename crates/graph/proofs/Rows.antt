@@ -58,7 +58,7 @@ tabulate-more (suc n) i f =
     ∙ ap (λ (j : ℕ). tabulate n (suc i) f ++ (f j ∷ [])) (suc-add i n ∙ sym (add-suc i n)))
 
 -- a row stored behind those of some edges
-stored : (es : List Edge) (e : Edge) → length es < 1024 → set (filled es) (length es) (row-of e) ≡ filled (es ++ (e ∷ []))
+pub stored : (es : List Edge) (e : Edge) → length es < 1024 → set (filled es) (length es) (row-of e) ≡ filled (es ++ (e ∷ []))
 unfolding filled
 stored es e h =
     let rest : ℕ = 1024 - (length es + 1) in

@@ -18,8 +18,7 @@ ghost use Rattle.graph.specs.Graph.{
   blank-table,
   graph-reading,
 };
-ghost use Rattle.graph.specs.Encode.{row-edge, edge-bytes, edges-bytes, head-bytes, write-reply};
-ghost use Rattle.graph.specs.Steps.{table-code};
+ghost use Rattle.graph.specs.Encode.{row-edge, edge-bytes, edges-bytes, head-bytes, table-bytes, write-reply};
 
 // An edge: "from, to, seconds, crate size".
 pub struct EdgeRow {
@@ -221,8 +220,8 @@ fn rows_code(n: u16, m: u16, rows: [EdgeRow; 1024]) -> u8
 }
 
 // The number of the first refusal of a typed form, or 0: that of its bytes, without writing them.
-fn judge_table(graph: EdgeTable) -> u8
-    ensures { λ r. ⌜ r ≡ table-code graph ⌝ }
+pub fn judge_table(graph: EdgeTable) -> u8
+    ensures { λ r. ⌜ r ≡ graph-code (table-bytes graph) ⌝ }
 {
     let n = graph.vertices;
     let m = graph.count;

@@ -4,6 +4,7 @@ pub mod Fuse
 pub mod Unique
 pub mod Rounds
 pub mod Together
+pub mod SameGraph
 pub mod Main
 pub mod Limits
 pub mod Bounds

@@ -134,7 +134,7 @@ smallest-none g r s =
 
 -- two ways to run that agree on the path reductions of a plan have the same outcome
 module _ (W W′ : Way) (n : ℕ) (p : Plan) (agree : All (λ c. W c ≡ W′ c) (p .paths)) where
-  stopped-same : (r : ℕ) → stopped W n p r ≡ stopped W′ n p r
+  pub stopped-same : (r : ℕ) → stopped W n p r ≡ stopped W′ n p r
   unfolding stopped
   stopped-same r = ap (λ (F : ℕ → List Value). outcome F)
       (fun-ext (λ v. map-same _ _ (p .paths) (all-weaken (p .paths) (λ c e. ap (λ (f : ℕ → State). value (f r v)) e) agree)))
@@ -142,7 +142,7 @@ module _ (W W′ : Way) (n : ℕ) (p : Plan) (agree : All (λ c. W c ≡ W′ c)
       outcome : (ℕ → List Value) → Outcome
       outcome F = record { rounds = r; rows = body-rows (p .body) F n }
 
-  run-same : run W n p ≡ run W′ n p
+  pub run-same : run W n p ≡ run W′ n p
   unfolding run
   run-same = stopped-same (run-rounds W n p) ∙ ap (λ (Ss : List (ℕ → State)). stopped W′ n p (rounds n Ss)) (map-same W W′ (p .paths) agree)
 

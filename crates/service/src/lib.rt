@@ -9,6 +9,7 @@ ghost use Rattle.counted.specs.Counted.{asked-reply};
 ghost use Rattle.engine.specs.declared.Limit.the-variants.{Quiet, Rounds};
 ghost use Rattle.engine.specs.Run.{run-reply};
 ghost use Rattle.fusion.specs.Fusion.{fuse-reply};
+ghost use Rattle.sorted_graph.specs.Sorted.{sort-reply};
 ghost use Rattle.wire.specs.Wire.{Returned};
 ghost use Rattle.service.specs.Tally.{Tallied};
 
@@ -107,7 +108,17 @@ pub extern "C" fn grafs_board_push_rounds(
     board::push(board, graph, Limit::Rounds(rounds), out)
 }
 
-// ---- the same, counted
+// ---- maps
+
+// A map is written with its rows in rising order of from, to, seconds, crate size.
+#[no_mangle]
+pub extern "C" fn grafs_sort_map(map: &[u8], out: &mut [u8]) -> u32
+    ensures { λ r. ⌜ Returned (sort-reply (now (map .entry)) (length (now (out .entry)))) r (now (out .entry)) (now (out .exit)) ⌝ }
+{
+    sorted_graph::sort(map, out)
+}
+
+// ---- the runs, counted
 
 // A counted run: the tally's numbers go by value, and are put back.
 fn tallied(

@@ -14,3 +14,8 @@ pub mod Joint
 pub mod Steps
 pub mod Bounds
 pub mod Direct
+pub mod Matched
+pub mod Renumber
+pub mod Often
+pub mod Rows
+pub mod OftenSamples

@@ -1,0 +1,5 @@
+pub mod Numbers
+mod Rows
+mod Reply
+pub mod Written
+pub mod Samples

@@ -1,0 +1,4 @@
+pub mod Laws
+pub mod ByNumber
+mod Merging
+mod Halves

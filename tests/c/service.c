@@ -401,16 +401,17 @@ enum { MOST_ROWS = GRAFS_PASSAGES_MAX, HEAD = 9, ROW = 8 };
 
 static void put16(uint8_t *p, unsigned x) { p[0] = (uint8_t)(x & 255), p[1] = (uint8_t)(x >> 8); }
 
-/* In order, each row twice: the row changes in its crate size, and at every fourth, 16th and 128th in its seconds, to and from as well. */
+/* In order, every fourth row as the one before. Else a row has another crate size than the one before, and at every fourth, 32nd and 256th step other seconds,
+ * another to and another from as well. */
 static void put_rows(uint8_t *map)
 {
     const uint8_t head[HEAD] = { 'L', 'P', 'M', 1, 0, U16(9), U16(MOST_ROWS) };
     memcpy(map, head, sizeof head);
-    for (unsigned i = 0; i < MOST_ROWS / 2; i++)
-        for (unsigned twice = 0; twice < 2; twice++) {
-            uint8_t *row = map + HEAD + ROW * (2 * i + twice);
-            put16(row, i / 128), put16(row + 2, i / 16 % 8), put16(row + 4, 255 * (i / 4 % 4)), put16(row + 6, 1 + 255 * (i % 4));
-        }
+    for (unsigned i = 0; i < MOST_ROWS; i++) {
+        unsigned step = i - i / 4;
+        uint8_t *row = map + HEAD + ROW * i;
+        put16(row, step / 256), put16(row + 2, step / 32 % 8), put16(row + 4, 255 * (step / 4 % 8)), put16(row + 6, 1 + 255 * (step % 4));
+    }
 }
 
 /* In an order that depends on the number. */
@@ -456,7 +457,7 @@ static void try_most_rows(void)
         try_sort_lent(&c, sizeof map);
         try_sort_lent(&c, sizeof map - 1);
     }
-    /* One field of one row another, to a value that the map has or not; one of two equal rows left out; both there, but another row twice; a place more. */
+    /* One field of one row another; a row left out; the next row twice in place of one; a place more. */
     for (size_t i = 0; i < MOST_ROWS; i += 93)
         for (size_t field = 0; field < 4; field++)
             for (unsigned x = 3; x < 9; x += 5) {
@@ -471,8 +472,8 @@ static void try_most_rows(void)
     put16(out + 7, MOST_ROWS - 1);
     expect(!sorts_to(out, sizeof out - ROW, want, sizeof want) && !sorts_to(out, sizeof out - ROW, want, sizeof want - ROW), "a row less", MOST_ROWS - 1);
     memcpy(out, want, sizeof out);
-    memcpy(out + HEAD + ROW, out + HEAD + 2 * ROW, ROW); /* the first row once, the second three times */
-    expect(!sorts_to(out, sizeof out, want, sizeof want), "another row repeated", 1);
+    memcpy(out + HEAD + 4 * ROW, out + HEAD + 5 * ROW, ROW);
+    expect(!sorts_to(out, sizeof out, want, sizeof want), "another row repeated", 4);
     put16(map + 5, 10);
     expect(!sorts_to(map, sizeof map, want, sizeof want), "another number of places", 10);
     put16(want + 5, 10);

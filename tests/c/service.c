@@ -420,7 +420,7 @@ static void shuffle(uint8_t *map, uint32_t number)
     for (uint32_t i = MOST_ROWS - 1; i > 0; i--) {
         number = number * 1664525u + 1013904223u;
         uint8_t *a = map + HEAD + ROW * i, *b = map + HEAD + ROW * ((number >> 16) % (i + 1)), kept[ROW];
-        memcpy(kept, a, ROW), memcpy(a, b, ROW), memcpy(b, kept, ROW);
+        memcpy(kept, a, ROW), memmove(a, b, ROW), memcpy(b, kept, ROW);
     }
 }
 
@@ -428,7 +428,7 @@ static void reverse(uint8_t *map)
 {
     for (size_t i = 0, k = MOST_ROWS - 1; i < k; i++, k--) {
         uint8_t *a = map + HEAD + ROW * i, *b = map + HEAD + ROW * k, kept[ROW];
-        memcpy(kept, a, ROW), memcpy(a, b, ROW), memcpy(b, kept, ROW);
+        memcpy(kept, a, ROW), memmove(a, b, ROW), memcpy(b, kept, ROW);
     }
 }
 

@@ -655,7 +655,7 @@ static void shuffle_rows(file *f)
 {
     for (unsigned i = at16(f->b + 7); i > 1; i--) {
         uint8_t *a = f->b + MAP_HEAD + ROW * (i - 1), *b = f->b + MAP_HEAD + ROW * below(i), kept[ROW];
-        memcpy(kept, a, ROW), memcpy(a, b, ROW), memcpy(b, kept, ROW);
+        memcpy(kept, a, ROW), memmove(a, b, ROW), memcpy(b, kept, ROW);
     }
 }
 
@@ -663,7 +663,7 @@ static void reverse_rows(file *f)
 {
     for (unsigned i = 0, k = at16(f->b + 7); i + 1 < k; i++) {
         uint8_t *a = f->b + MAP_HEAD + ROW * i, *b = f->b + MAP_HEAD + ROW * --k, kept[ROW];
-        memcpy(kept, a, ROW), memcpy(a, b, ROW), memcpy(b, kept, ROW);
+        memcpy(kept, a, ROW), memmove(a, b, ROW), memcpy(b, kept, ROW);
     }
 }
 

@@ -179,12 +179,17 @@ fn fuse_file(fields: &[u8], file: &[u8], out: &mut [u8]) -> u32 {
     fusion::fuse(&file[0..end], out)
 }
 
+// A refusal as a writer answers it.
+fn refused(k: u8) -> u32 {
+    65536 + k as u32
+}
+
 // A map is put in order: read, and its typed form is written, or refused as the reader says.
 fn sort_file(fields: &[u8], file: &[u8], out: &mut [u8]) -> u32 {
     let end = answer_at(16, fields, file);
     let reading = graph::read(&file[0..end]);
     if reading.code != 0 {
-        return 65536 + reading.code as u32;
+        return refused(reading.code);
     }
     sorted_graph::write(reading.graph, out)
 }

@@ -1,12 +1,12 @@
 #!/usr/bin/env python3
-"""Writes the cases on which the program `cases` tries the readers and the writers, those of runs (make_runs.py) and of boards
-(make_boards.py).
+"""Writes the cases on which the program `cases` tries the readers and the writers, those of runs (make_runs.py), of boards
+(make_boards.py) and of maps that are sorted.
 
-    python3 tests/make_cases.py          writes cases.bin, runs.bin and boards.bin in crates/cases/data, and crates/cases/stdout
-    python3 tests/make_cases.py list     prints each case of cases.bin: index, kind, number, name, length, first bytes
+    python3 tests/make_cases.py          writes cases.bin, runs.bin, boards.bin and sorts.bin in crates/cases/data, and crates/cases/stdout
+    python3 tests/make_cases.py list     prints each case of cases.bin, then of sorts.bin: index, kind, number, name, length, first bytes
 
-Each number here is written by hand from document 01 ("Numbers at the desk" and the order below that table) and, for conditions
-and sets of starts, document 02, a) and b); none is what a reader said. In the file a case is a kind byte (its place in KINDS), the
+Each number here is written by hand from document 01 ("Numbers at the desk" and the order below that table) and, for conditions,
+sets of starts and sorted maps, document 02, a), b) and f); none is what a reader said. In the file a case is a kind byte (its place in KINDS), the
 number, a 16-bit length and as many bytes; all integers low byte first. The bytes are those of the file to be judged, but for these kinds:
     answers   n (16 bits), kind, room (16 bits): the fields that the writer of answers judges
     .. written    five 16-bit fields, then a file: it is read, and its typed form is written, with other values of some fields,
@@ -16,6 +16,9 @@ number, a 16-bit length and as many bytes; all integers low byte first. The byte
               another one behind that which is read
     questions fused    five 16-bit fields: the length lent, three of 0, and where the worksheet starts; the question; the worksheet
               (none where refused)
+    maps sorted    likewise: the map, and the map in order (none where refused)
+    .. with other counts    the same, with n and m in the second and third field: the map is read, and its typed form is put in order
+              with these counts
 """
 import os
 import sys
@@ -1076,6 +1079,151 @@ def sets_fused():
                      + hexed("31 00"))
 
 
+# ------------------------------------------------------------------------------------------------ maps sorted (sorts.bin)
+# "rows in rising order of from, to, seconds, crate size, and preserve repeats" (document 02, f). The map is judged as every map, by its
+# rows as they stand there, then 15. Rows are (from, to, seconds, crate size); those expected are written by hand, in their order; of
+# many rows they are counted up in order, and stand in the map in another one.
+
+
+def rows_file(n, rows, **head):
+    return map_file(n, [row(*fields) for fields in rows], **head)
+
+
+def rising(rows):
+    """Whether the rows are in order: no row comes before the one ahead of it, by the first field in which they differ."""
+    for above, below in zip(rows, rows[1:]):
+        differing = [(x, y) for x, y in zip(above, below) if x != y]
+        if differing and differing[0][0] > differing[0][1]:
+            return False
+    return True
+
+
+def dealt(rows, step):
+    """The rows in another order: every so many-th, going round. The step has no divisor in common with their number."""
+    return [rows[i * step % len(rows)] for i in range(len(rows))]
+
+
+def sort_case(number, name, whole, want, lent, n=0, m=0):
+    return written(number, name, whole + want, lent, n, m, 0, len(whole))
+
+
+def orders(name, n, want, *others):
+    """The rows in order, and other orders of the same ones, lent what is needed, one more, one less, none."""
+    assert rising(want)
+    whole = rows_file(n, want)
+    for which, rows in enumerate((want, want[::-1], *others)):
+        assert len(rows) == len(want) and all(rows.count(fields) == want.count(fields) for fields in want)
+        for number, lent in ((0, len(whole)), (0, len(whole) + 1), (15, len(whole) - 1), (15, 0)):
+            yield sort_case(number, f"{name}, order {which}", rows_file(n, rows), whole if number == 0 else b"", lent)
+
+
+def sort_orders():
+    a, b, c, d = (0, 1, 5, 10), (0, 2, 2, 4), (1, 3, 0, 7), (2, 1, 3, 20)
+    yield sort_case(0, "map A", MAP_A, rows_file(4, [a, b, c, d]), 41)
+    yield from orders("map A", 4, [a, b, c, d], [d, c, b, a], [b, a, d, c], [c, d, a, b], [a, c, b, d], [b, d, a, c])
+    yield from orders("no row", 1, [])
+    yield from orders("one row", 2, [(1, 0, 0, 1)])
+    for n in (1, 2, 255, 256):
+        last = n - 1
+        yield from orders(f"n {n}", n, [(0, 0, 9, 9), (0, last, 9, 9), (last, 0, 9, 9), (last, last, 9, 9)] if n > 1 else [(0, 0, 9, 9)])
+    # Behind the field that decides, all is the other way round.
+    yield from orders("by from", 256, [(0, 255, 65535, 65534), (1, 254, 256, 256), (254, 1, 255, 255), (255, 0, 0, 1)],
+                      [(1, 254, 256, 256), (255, 0, 0, 1), (0, 255, 65535, 65534), (254, 1, 255, 255)])
+    yield from orders("by to", 256, [(7, 0, 65535, 65534), (7, 1, 256, 256), (7, 254, 255, 255), (7, 255, 0, 1)],
+                      [(7, 1, 256, 256), (7, 255, 0, 1), (7, 0, 65535, 65534), (7, 254, 255, 255)])
+    seconds = [0, 1, 254, 255, 256, 257, 511, 512, 32767, 32768, 65280, 65534, 65535]
+    yield from orders("by seconds", 9, [(7, 8, x, 65534 - i) for i, x in enumerate(seconds)], dealt([(7, 8, x, 65534 - i) for i, x in enumerate(seconds)], 5))
+    crates = [1, 2, 254, 255, 256, 257, 511, 512, 32767, 32768, 65280, 65533, 65534]
+    yield from orders("by crate size", 9, [(7, 8, 9, x) for x in crates], dealt([(7, 8, 9, x) for x in crates], 5))
+    yield from orders("each field in turn", 3, [(0, 0, 1, 2), (0, 0, 1, 3), (0, 0, 2, 1), (0, 1, 0, 1), (1, 0, 0, 1), (1, 0, 0, 2), (1, 2, 0, 1), (2, 0, 0, 1)],
+                      [(1, 0, 0, 2), (0, 0, 2, 1), (2, 0, 0, 1), (0, 0, 1, 3), (1, 2, 0, 1), (0, 1, 0, 1), (1, 0, 0, 1), (0, 0, 1, 2)])
+    # 255 and 256 by their low bytes alone, or by the bytes as they stand, would be the other way round.
+    yield from orders("low bytes", 2, [(0, 1, 255, 256), (0, 1, 256, 255)])
+    yield from orders("low bytes of crate sizes", 2, [(0, 1, 7, 255), (0, 1, 7, 256)])
+
+
+def sort_repeats():
+    """Each row as often as it is there. Maps that differ in how often are told apart."""
+    a, b, c = (0, 1, 5, 9), (0, 1, 5, 10), (1, 0, 0, 1)
+    yield from orders("twice", 2, [a, a])
+    yield from orders("equal rows between others", 2, [a, b, b, c], [b, c, b, a], [b, a, c, b])
+    yield from orders("two of the first", 2, [a, a, b], [a, b, a])
+    yield from orders("two of the second", 2, [a, b, b], [b, a, b])
+    yield from orders("one of each", 2, [a, b])
+    yield from orders("three of each", 2, [a] * 3 + [b] * 3 + [c] * 3, [a, b, c] * 3, [c, b, a] * 3, [b, c, a, a, c, b, b, a, c])
+    for many in (3, 4, 5, 7, 8, 9, 15, 16, 17):
+        yield sort_case(0, f"{many} equal rows", rows_file(2, [a] * many), rows_file(2, [a] * many), 9 + 8 * many)
+
+
+def sort_many():
+    """Numbers of rows around powers of two; the most rows."""
+    for many in (31, 32, 33, 63, 64, 65, 127, 128, 129):
+        want = [(i // 30, i // 6 % 5, 255 * (i // 3 % 2) + 1, 1 + 254 * (i % 3)) for i in range(many)]
+        assert rising(want)
+        for name, rows in (("in order", want), ("falling", want[::-1]), ("dealt", dealt(want, 37))):
+            yield sort_case(0, f"{many} rows, {name}", rows_file(6, rows), rows_file(6, want), 9 + 8 * many)
+    apart = [(i // 256, i // 32 % 8, 255 * (i // 4 % 8), 1 + 255 * (i % 4)) for i in range(1024)]
+    alike = [(i // 512, 1, 256 - i // 512, 7) for i in range(1024)]
+    assert rising(apart) and rising(alike) and alike[511] != alike[512]
+    for name, want, rows in (("in order", apart, apart), ("falling", apart, apart[::-1]), ("dealt by 401", apart, dealt(apart, 401)),
+                             ("halves", apart, apart[512:] + apart[:512]), ("two values", alike, dealt(alike, 513))):
+        yield sort_case(0, f"1,024 rows, {name}", rows_file(256, rows), rows_file(256, want), 8201)
+    yield sort_case(15, "1,024 rows, dealt by 401", rows_file(256, dealt(apart, 401)), b"", 8200)
+
+
+def sort_refusals():
+    """In the order of judging; each with what is judged later, and lent nothing or enough."""
+    good, wrong = (0, 0, 7, 1), (1, 1, 0, 0)
+    for number, name, whole in (
+        (1, "nothing", b""), (1, "8 bytes, other letters", b"XYZ" + u16(2) + bytes(3)), (1, "8 bytes", b"LPM" + ONE + bytes(3)),
+        (2, "other letters, version 2, n 0, m 1,025", map_file(0, [], 1025, b"LPQ", 2)), (2, "another map's letters", rows_file(1, [good], mark=b"LPm")),
+        (3, "version 2, n 0, m 1,025", map_file(0, [], 1025, version=2)), (3, "version 0", rows_file(1, [good], version=0)),
+        (3, "version 257", rows_file(1, [good], version=257)),
+        (4, "n 0, m 1,025", map_file(0, [], 1025)), (4, "n 0, and a row of no place", rows_file(0, [wrong])), (4, "n 257", map_file(257)),
+        (4, "n 257, a row too many", map_file(257, [row(*wrong)], 0)), (4, "n 65,535", map_file(65535)),
+        (5, "m 1,025, no row", map_file(1, [], 1025)), (5, "m 1,025, of wrong rows", rows_file(1, [wrong] * 1025)), (5, "m 65,535", map_file(1, [], 65535)),
+        (6, "m 1,024, no row", map_file(1, [], 1024)), (6, "a byte left over, and a wrong row", rows_file(1, [wrong]) + b"\0"),
+        (6, "a byte missing, and a wrong row", rows_file(1, [wrong])[:-1]), (6, "a row left over", map_file(1, [row(*good)], 0)),
+        (7, "from n, and crate size 0", rows_file(1, [(1, 0, 0, 0)])), (7, "to n, and crate size 65,535", rows_file(1, [(0, 1, 0, 65535)])),
+        (7, "from 256 of 256", rows_file(256, [(256, 0, 0, 1)])), (7, "to 65,535", rows_file(256, [(0, 65535, 0, 1)])),
+        (8, "crate size 0", rows_file(1, [(0, 0, 0, 0)])), (8, "crate size 65,535", rows_file(1, [(0, 0, 0, 65535)])),
+        # By the rows as they stand: in order the other row would come first, and the other number.
+        (8, "crate size of a row that comes last, to n of one that comes first", rows_file(2, [(1, 1, 0, 0), (0, 2, 0, 1)])),
+        (7, "from n of a row that comes last, crate size of one that comes first", rows_file(2, [(2, 1, 0, 1), (0, 1, 0, 0)])),
+        (8, "crate size of row 1 of three, from n of row 2", rows_file(2, [(1, 1, 0, 1), (1, 0, 0, 65535), (2, 0, 0, 1)])),
+        (7, "to n of row 1 of three, crate size of row 2", rows_file(2, [(1, 1, 0, 1), (1, 2, 0, 1), (0, 0, 0, 0)])),
+        (7, "from n of the last of three rows", rows_file(3, [good, (2, 2, 0, 1), (3, 0, 0, 1)])),
+        (8, "crate size of the last of three rows", rows_file(3, [(2, 2, 0, 1), good, (0, 0, 0, 65535)])),
+        (8, "crate size of the last of 1,024 rows", rows_file(1, [good] * 1023 + [(0, 0, 0, 0)])),
+    ):
+        for lent in (0, 9000):
+            yield sort_case(number, name, whole, b"", lent)
+
+
+def maps_sorted():
+    for part in (sort_orders, sort_repeats, sort_many, sort_refusals):
+        yield from part()
+
+
+def counts_sorted():
+    """The typed form of a map, put in order with other counts. The rows behind those that were read are 0 to 0, 0 seconds, crate size 0."""
+    rows = [(2, 1, 3, 20), (1, 3, 0, 7), (0, 2, 2, 4), (0, 1, 5, 10)]
+    whole = rows_file(4, rows)
+    for n, m, want in ((4, 4, rows[::-1]), (4, 3, [(0, 2, 2, 4), (1, 3, 0, 7), (2, 1, 3, 20)]), (4, 2, [(1, 3, 0, 7), (2, 1, 3, 20)]),
+                       (3, 1, [(2, 1, 3, 20)]), (1, 0, []), (256, 4, rows[::-1])):
+        size, sorted_map = 9 + 8 * m, rows_file(n, want)
+        assert rising(want)
+        for number, lent in ((0, size), (0, size + 1), (15, size - 1), (15, 0)):
+            yield sort_case(number, f"n {n}, m {m}", whole, sorted_map if number == 0 else b"", lent, n, m)
+    # Row 1 goes to place 3. The row of crate size 0 behind the four would be the first in order: 7 is by the rows as they are handed.
+    for number, n, m in ((4, 0, 4), (4, 257, 4), (4, 0, 1025), (4, 65535, 0), (5, 4, 1025), (5, 1, 1025), (5, 4, 65535), (7, 3, 4), (7, 3, 5), (7, 2, 1),
+                         (8, 4, 5), (8, 4, 1024)):
+        for lent in (0, 9000):
+            yield sort_case(number, f"n {n}, m {m}", whole, b"", lent, n, m)
+
+
+SORT_KINDS = (("maps sorted", maps_sorted), ("maps sorted with other counts", counts_sorted))
+
 # ------------------------------------------------------------------------------------------------ the file
 
 
@@ -1088,10 +1236,10 @@ KINDS = (("maps", maps), ("questions", questions), ("worksheets", sheets), ("ans
          ("questions written", questions_written), ("worksheets written", worksheets_written), ("questions fused", questions_fused))
 
 
-def table():
+def table(kinds):
     """All cases, each once: (kind, number, name, bytes). The same bytes under two names must have the same number."""
     seen = {}
-    for kind, (word, part) in enumerate(KINDS):
+    for kind, (word, part) in enumerate(kinds):
         for number, name, body in part():
             known = seen.setdefault((kind, body), (number, name))
             assert known[0] == number, f"{word}: {known} and {(number, name)}"
@@ -1112,16 +1260,21 @@ def counts(kinds, cases):
 
 
 def main():
-    cases, runs, boards = table(), make_runs.table(make_runs.KINDS), make_runs.table(make_boards.KINDS)
+    cases, runs, boards, sorts = table(KINDS), make_runs.table(make_runs.KINDS), make_runs.table(make_boards.KINDS), table(SORT_KINDS)
     if sys.argv[1:] == ["list"]:
-        for index, (kind, number, name, body) in enumerate(cases):
-            print(f"{index:3} {KINDS[kind][0]:10} {number:2}  {name}  [{len(body)}] {body[:48].hex()}")
+        for kinds, listed in ((KINDS, cases), (SORT_KINDS, sorts)):
+            for index, (kind, number, name, body) in enumerate(listed):
+                print(f"{index:3} {kinds[kind][0]:10} {number:2}  {name}  [{len(body)}] {body[:48].hex()}")
         return
-    write("cases.bin", [(kind, number, body) for kind, number, _, body in cases], 0)
-    write("runs.bin", [(kind, case[4], make_runs.body(case)) for kind, case in runs], len(KINDS))
-    write("boards.bin", [(kind, case[4], make_runs.body(case)) for kind, case in boards], len(KINDS) + len(make_runs.KINDS))
+    first = 0
+    for name, kinds, listed in (("cases.bin", KINDS, [(kind, number, body) for kind, number, _, body in cases]),
+                                ("runs.bin", make_runs.KINDS, [(kind, case[4], make_runs.body(case)) for kind, case in runs]),
+                                ("boards.bin", make_boards.KINDS, [(kind, case[4], make_runs.body(case)) for kind, case in boards]),
+                                ("sorts.bin", SORT_KINDS, [(kind, number, body) for kind, number, _, body in sorts])):
+        write(name, listed, first)
+        first += len(kinds)
     with open(os.path.join(FOLDER, "stdout"), "w") as f:
-        f.writelines(counts(KINDS, cases) + counts(make_runs.KINDS, runs) + counts(make_boards.KINDS, boards))
+        f.writelines(counts(KINDS, cases) + counts(make_runs.KINDS, runs) + counts(make_boards.KINDS, boards) + counts(SORT_KINDS, sorts))
 
 
 main()

@@ -504,6 +504,53 @@ static void *do_ways(void *unused)
     return unused;
 }
 
+/* The ring with the four rows from each place together. */
+static size_t ring_in_order(uint8_t *bytes, size_t room)
+{
+    grafs_map m = grafs_begin_map(bytes, room, GRAFS_PLACES_MAX);
+    for (unsigned i = 0; i < GRAFS_PASSAGES_MAX; i++)
+        grafs_passage(&m, i / 4, (i / 4 + 1) % GRAFS_PLACES_MAX, 1, i / 4 == GRAFS_PLACES_MAX - 1 ? 2 : 9);
+    return grafs_end_map(&m);
+}
+
+static uint8_t ring[GRAFS_MAP_MAX]; /* in order */
+
+static int sorts_again(uint8_t *out)
+{
+    return grafs_sort_map(graph, graph_len, out, GRAFS_MAP_MAX) == sizeof ring && !memcmp(out, ring, sizeof ring);
+}
+
+/* The longest map, by rows that rise four times, in order, in falling order; and refused by its last row. */
+static void *do_sort(void *unused)
+{
+    static uint8_t sorted[GRAFS_MAP_MAX], out[GRAFS_MAP_MAX], map[GRAFS_MAP_MAX];
+    expect(sorts_again(sorted), "sort on little stack", 0);
+    expect(grafs_sort_map(sorted, sizeof sorted, out, sizeof out) == sizeof out && !memcmp(out, sorted, sizeof out), "sort in order on little stack", 0);
+    memcpy(map, sorted, 9);
+    for (size_t i = 0; i < GRAFS_PASSAGES_MAX; i++)
+        memcpy(map + 9 + 8 * i, sorted + sizeof sorted - 8 * (i + 1), 8);
+    expect(grafs_sort_map(map, sizeof map, out, sizeof out) == sizeof out && !memcmp(out, sorted, sizeof out), "sort in falling order on little stack", 0);
+    expect(grafs_sort_map(map, sizeof map, out, sizeof out - 1) == GRAFS_REFUSAL + GRAFS_BUFFER_SHORT, "refused by the length on little stack", 0);
+    map[sizeof map - 2] = map[sizeof map - 1] = 0;
+    expect(grafs_sort_map(map, sizeof map, out, sizeof out) == GRAFS_REFUSAL + GRAFS_CRATE, "refused by the last row on little stack", 0);
+    return unused;
+}
+
+static uint32_t sort_of(unsigned places, unsigned passages)
+{
+    uint8_t map[GRAFS_MAP_MAX + 8], out[GRAFS_MAP_MAX];
+    return grafs_number_of(grafs_sort_map(map, map_of(places, passages, map, sizeof map), out, sizeof out));
+}
+
+/* As many places and rows as the limits say are sorted, one more of each is refused by its number; no sorted map is longer than the longest map. */
+static void try_sort(void)
+{
+    expect(sort_of(GRAFS_PLACES_MAX, GRAFS_PASSAGES_MAX) == GRAFS_DONE && sort_of(1, 0) == GRAFS_DONE, "places and passages sorted", 0);
+    expect(sort_of(GRAFS_PLACES_MAX + 1, 0) == GRAFS_PLACES && sort_of(0, 0) == GRAFS_PLACES, "places sorted", GRAFS_PLACES_MAX + 1);
+    expect(sort_of(1, GRAFS_PASSAGES_MAX + 1) == GRAFS_PASSAGES, "passages sorted", GRAFS_PASSAGES_MAX + 1);
+    expect(GRAFS_MAP_MAX == 9 + 8 * GRAFS_PASSAGES_MAX && ring_in_order(ring, sizeof ring) == sizeof ring, "the longest map", GRAFS_MAP_MAX);
+}
+
 static uint32_t board_with(unsigned questions)
 {
     static uint8_t board[2 * GRAFS_BOARD_MAX], out[GRAFS_BOARD_ANSWERS_MAX];
@@ -587,6 +634,7 @@ static void *take_turns(void *given)
         uint8_t board[GRAFS_BOARD_MAX], answers[GRAFS_BOARD_ANSWERS_MAX];
         size_t len = board_of(s, GRAFS_BOARD_QUESTIONS_MAX, board, sizeof board);
         t->wrong += !boards_again(s, grafs_board_push(board, len, graph, graph_len, answers, sizeof answers), answers);
+        t->wrong += !sorts_again(answers);
 #endif
     }
     return NULL;
@@ -622,8 +670,10 @@ int main(void)
     try_stack("run", do_run, GRAFS_RUN_STACK);
 #ifdef SERVICE
     try_boards();
+    try_sort();
     try_stack("a run by another call", do_ways, GRAFS_RUN_STACK);
     try_stack("a board", do_boards, GRAFS_BOARD_STACK);
+    try_stack("a map in order", do_sort, GRAFS_SORT_STACK);
 #endif
     try_threads();
     printf("c: limits: %u comparisons, %u differ\n", tried, failed);

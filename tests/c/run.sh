@@ -57,7 +57,7 @@ files() {
         cmp "$dir/question.lpq" crates/grafs_main/data/question.lpq && cmp "$dir/map.lpm" crates/grafs_main/data/map.lpm
 }
 
-# Each way of a run, of a worksheet and of a board, counted and not: the sixteen names behind `fuse` and `run`.
+# Each way of a run, of a worksheet and of a board, counted and not: sixteen of the seventeen names behind `fuse` and `run`.
 sixteen() { for of in '' counted_ board_ counted_board_; do for way in pull push; do echo "Tgrafs_$of$way" "Tgrafs_$of${way}_rounds"; done; done; }
 in_order() { printf '%s\n' "$@" | sort | tr '\n' ' '; }
 
@@ -94,7 +94,7 @@ check 'the example that writes files' files
 check 'the C in the pages' pages
 check 'exactly two functions are exported' exported "$lib" 'Tfuse Trun '
 check 'exactly two functions are exported, by their other names' exported "$prefixed" 'Tgrafs_fuse Tgrafs_run '
-check 'exactly eighteen functions are exported by the service' exported "$served" "$(in_order Tfuse Trun $(sixteen))"
+check 'exactly nineteen functions are exported by the service' exported "$served" "$(in_order Tfuse Trun Tgrafs_sort_map $(sixteen))"
 check 'nothing but memcpy, memmove and memset is asked for' asked_for "$lib"
 check 'nothing but these is asked for by the service' asked_for "$served"
 check 'the archive has no data that can be written' no_data "$lib"

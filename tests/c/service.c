@@ -1,6 +1,6 @@
-/* The sixteen calls of grafs_service.h, from C: stored bytes in, stored bytes out, by pull and by push, counted and not, each with every lent length from 0 to
- * some bytes more than needed, and with tallies small and at their greatest. The rest of the buffer, the bytes before and behind it and the tally, and the
- * inputs must be as they were. */
+/* The seventeen calls of grafs_service.h, from C: stored bytes in, stored bytes out, by pull and by push, counted and not, each with every lent length from 0
+ * to some bytes more than needed, and with tallies small and at their greatest. The rest of the buffer, the bytes before and behind it and the tally, and the
+ * inputs must be as they were. What is answered on a map must be answered on the same map with its rows in order. */
 #include "check.h"
 #include "grafs_service.h"
 
@@ -90,12 +90,26 @@ static void try_with(const test_case *c, size_t lent, int whole)
     }
 }
 
+/* The same on the map with its rows in order. */
+static void try_in_order(const test_case *c)
+{
+    uint8_t sorted[GRAFS_MAP_MAX];
+    uint32_t len = grafs_sort_map(c->map, c->map_len, sorted, sizeof sorted);
+    test_case d = *c;
+    if (len >= GRAFS_REFUSAL)
+        return;
+    d.map = sorted, d.map_len = len;
+    try_with(&d, c->want_len, 0);
+    try_with(&d, 20000, 0);
+}
+
 static void try_case(const test_case *c)
 {
     for (size_t lent = 0; lent <= c->want_len + 3; lent++)
         if (lent < 500 || lent + 3 > c->want_len)
             try_with(c, lent, lent == c->want_len || lent == 0);
     try_with(c, 20000, 1);
+    try_in_order(c);
 }
 
 /* ---------------------------------------------------------------------------------------------------------------------- bytes */
@@ -301,6 +315,177 @@ static void try_longest(void)
     }
 }
 
+/* ---------------------------------------------------------------------------------------------------------------------- maps in order */
+typedef struct {
+    const char *name;
+    const uint8_t *map;
+    size_t map_len;
+    uint32_t number; /* 0, or the refusal */
+    const uint8_t *want;
+    size_t want_len;
+} sort_case;
+
+static void try_sort_lent(const sort_case *c, size_t lent)
+{
+    uint8_t *map = copy_of(c->map, c->map_len), *room = filled_room(lent + 2 * GUARD), *out = room + GUARD;
+    uint32_t n = grafs_sort_map(map, c->map_len, out, lent);
+    uint32_t number = c->number ? c->number : lent < c->want_len ? GRAFS_BUFFER_SHORT : GRAFS_DONE;
+    size_t done = number == GRAFS_DONE ? c->want_len : 0;
+    expect(n == (number == GRAFS_DONE ? c->want_len : GRAFS_REFUSAL + number), c->name, lent);
+    expect(!memcmp(out, c->want, done), c->name, lent);
+    expect(still_filled(room, GUARD) && still_filled(out + done, lent - done + GUARD), c->name, lent);
+    expect(!memcmp(map, c->map, c->map_len), c->name, lent);
+    free(map), free(room);
+}
+
+/* Every length lent, and what was written sorted again. */
+static void try_sort(const sort_case *c)
+{
+    for (size_t lent = 0; lent <= c->want_len + 3; lent++)
+        if (lent < 100 || lent + 3 > c->want_len)
+            try_sort_lent(c, lent);
+    try_sort_lent(c, 20000);
+    const sort_case again = { c->name, c->want, c->want_len, 0, c->want, c->want_len };
+    if (!c->number)
+        try_sort_lent(&again, c->want_len);
+}
+
+#define U16(x) (x) & 255, (x) >> 8
+#define PASSAGE(from, to, seconds, crate) U16(from), U16(to), U16(seconds), U16(crate)
+#define MAP(n, m, ...) BYTES('L', 'P', 'M', 1, 0, U16(n), U16(m), __VA_ARGS__)
+#define NO_ROW(n) BYTES('L', 'P', 'M', 1, 0, U16(n), 0, 0)
+
+static void try_sorts(void)
+{
+    const sort_case cases[] = {
+        { "map A", MAP_A, 0, MAP(4, 4, PASSAGE(0, 1, 5, 10), PASSAGE(0, 2, 2, 4), PASSAGE(1, 3, 0, 7), PASSAGE(2, 1, 3, 20)) },
+        { "no row", NO_ROW(1), 0, NO_ROW(1) },
+        { "no row, 256 places", NO_ROW(256), 0, NO_ROW(256) },
+        { "one row", MAP(1, 1, PASSAGE(0, 0, 65535, 65534)), 0, MAP(1, 1, PASSAGE(0, 0, 65535, 65534)) },
+        { "by from", MAP(256, 3, PASSAGE(255, 0, 0, 1), PASSAGE(1, 2, 3, 4), PASSAGE(0, 255, 65535, 65534)), 0,
+            MAP(256, 3, PASSAGE(0, 255, 65535, 65534), PASSAGE(1, 2, 3, 4), PASSAGE(255, 0, 0, 1)) },
+        { "by to", MAP(256, 3, PASSAGE(7, 255, 0, 1), PASSAGE(7, 1, 3, 4), PASSAGE(7, 0, 65535, 65534)), 0,
+            MAP(256, 3, PASSAGE(7, 0, 65535, 65534), PASSAGE(7, 1, 3, 4), PASSAGE(7, 255, 0, 1)) },
+        { "by seconds", MAP(9, 4, PASSAGE(7, 8, 256, 1), PASSAGE(7, 8, 65535, 1), PASSAGE(7, 8, 255, 4), PASSAGE(7, 8, 0, 65534)), 0,
+            MAP(9, 4, PASSAGE(7, 8, 0, 65534), PASSAGE(7, 8, 255, 4), PASSAGE(7, 8, 256, 1), PASSAGE(7, 8, 65535, 1)) },
+        { "by crate size", MAP(9, 4, PASSAGE(7, 8, 9, 65534), PASSAGE(7, 8, 9, 256), PASSAGE(7, 8, 9, 255), PASSAGE(7, 8, 9, 1)), 0,
+            MAP(9, 4, PASSAGE(7, 8, 9, 1), PASSAGE(7, 8, 9, 255), PASSAGE(7, 8, 9, 256), PASSAGE(7, 8, 9, 65534)) },
+        { "repeats", MAP(2, 5, PASSAGE(1, 0, 2, 3), PASSAGE(0, 1, 2, 3), PASSAGE(1, 0, 2, 3), PASSAGE(0, 1, 2, 3), PASSAGE(1, 0, 2, 3)), 0,
+            MAP(2, 5, PASSAGE(0, 1, 2, 3), PASSAGE(0, 1, 2, 3), PASSAGE(1, 0, 2, 3), PASSAGE(1, 0, 2, 3), PASSAGE(1, 0, 2, 3)) },
+        { "nothing", NOTHING, GRAFS_SHORT, NOTHING },
+        { "eight bytes of another file", BYTES('L', 'P', 'Q', 2, 0, 0, 0, 0), GRAFS_SHORT, NOTHING },
+        { "another file, version 2, no places", BYTES('L', 'P', 'Q', 2, 0, 0, 0, 1, 4), GRAFS_MARK, NOTHING },
+        { "version 2, no places", BYTES('L', 'P', 'M', 2, 0, 0, 0, 1, 4), GRAFS_VERSION, NOTHING },
+        { "version 257", BYTES('L', 'P', 'M', 1, 1, 1, 0, 0, 0), GRAFS_VERSION, NOTHING },
+        { "no places", NO_ROW(0), GRAFS_PLACES, NOTHING },
+        { "no places, 1,025 rows, length", BYTES('L', 'P', 'M', 1, 0, 0, 0, 1, 4), GRAFS_PLACES, NOTHING },
+        { "257 places", NO_ROW(257), GRAFS_PLACES, NOTHING },
+        { "1,025 rows, length", BYTES('L', 'P', 'M', 1, 0, 1, 0, 1, 4), GRAFS_PASSAGES, NOTHING },
+        { "a byte left over, a row from nowhere", MAP(1, 1, PASSAGE(1, 0, 0, 0), 0), GRAFS_LENGTH, NOTHING },
+        { "a byte missing, a row from nowhere", BYTES('L', 'P', 'M', 1, 0, 1, 0, 1, 0, 1, 0, 0, 0, 0, 0, 0), GRAFS_LENGTH, NOTHING },
+        { "from, crate size 0", MAP(2, 1, PASSAGE(2, 0, 0, 0)), GRAFS_NO_SUCH_PLACE, NOTHING },
+        { "to, crate size 65,535", MAP(2, 1, PASSAGE(0, 2, 0, 65535)), GRAFS_NO_SUCH_PLACE, NOTHING },
+        { "crate size 0", MAP(2, 1, PASSAGE(0, 1, 0, 0)), GRAFS_CRATE, NOTHING },
+        { "crate size 65,535", MAP(2, 1, PASSAGE(0, 1, 0, 65535)), GRAFS_CRATE, NOTHING },
+        { "the first row's crate size, though its place is the last", MAP(2, 2, PASSAGE(1, 1, 0, 0), PASSAGE(0, 2, 0, 1)), GRAFS_CRATE, NOTHING },
+        { "the first row's place, though its place is the last", MAP(2, 2, PASSAGE(2, 1, 0, 1), PASSAGE(0, 1, 0, 0)), GRAFS_NO_SUCH_PLACE, NOTHING },
+        { "the second row's crate size, the third one's from", MAP(2, 3, PASSAGE(1, 1, 0, 1), PASSAGE(1, 0, 0, 65535), PASSAGE(2, 0, 0, 1)), GRAFS_CRATE,
+            NOTHING },
+    };
+    for (size_t i = 0; i < sizeof cases / sizeof *cases; i++)
+        try_sort(&cases[i]);
+}
+
+/* ---------------------------------------------------------------------------------------------------------------------- 1,024 rows */
+enum { MOST_ROWS = GRAFS_PASSAGES_MAX, HEAD = 9, ROW = 8 };
+
+static void put16(uint8_t *p, unsigned x) { p[0] = (uint8_t)(x & 255), p[1] = (uint8_t)(x >> 8); }
+
+/* In order, every fourth row as the one before. Else a row has another crate size than the one before, and at every fourth, 32nd and 256th step other seconds,
+ * another to and another from as well. */
+static void put_rows(uint8_t *map)
+{
+    const uint8_t head[HEAD] = { 'L', 'P', 'M', 1, 0, U16(9), U16(MOST_ROWS) };
+    memcpy(map, head, sizeof head);
+    for (unsigned i = 0; i < MOST_ROWS; i++) {
+        unsigned step = i - i / 4;
+        uint8_t *row = map + HEAD + ROW * i;
+        put16(row, step / 256), put16(row + 2, step / 32 % 8), put16(row + 4, 255 * (step / 4 % 8)), put16(row + 6, 1 + 255 * (step % 4));
+    }
+}
+
+/* In an order that depends on the number. */
+static void shuffle(uint8_t *map, uint32_t number)
+{
+    for (uint32_t i = MOST_ROWS - 1; i > 0; i--) {
+        number = number * 1664525u + 1013904223u;
+        uint8_t *a = map + HEAD + ROW * i, *b = map + HEAD + ROW * ((number >> 16) % (i + 1)), kept[ROW];
+        memcpy(kept, a, ROW), memmove(a, b, ROW), memcpy(b, kept, ROW);
+    }
+}
+
+static void reverse(uint8_t *map)
+{
+    for (size_t i = 0, k = MOST_ROWS - 1; i < k; i++, k--) {
+        uint8_t *a = map + HEAD + ROW * i, *b = map + HEAD + ROW * k, kept[ROW];
+        memcpy(kept, a, ROW), memmove(a, b, ROW), memcpy(b, kept, ROW);
+    }
+}
+
+static int sorts_to(const uint8_t *map, size_t len, const uint8_t *want, size_t want_len)
+{
+    uint8_t *in = copy_of(map, len), *out = room_of(len);
+    uint32_t n = grafs_sort_map(in, len, out, len);
+    int same = n == want_len && !memcmp(out, want, want_len);
+    expect(n == len, "as many bytes as the map has", n);
+    free(in), free(out);
+    return same;
+}
+
+static void try_most_rows(void)
+{
+    static uint8_t want[GRAFS_MAP_MAX], map[GRAFS_MAP_MAX], out[GRAFS_MAP_MAX];
+    put_rows(want);
+    memcpy(map, want, sizeof map);
+    const sort_case c = { "1,024 rows", map, sizeof map, 0, want, sizeof want };
+    expect(sizeof want == HEAD + ROW * MOST_ROWS, "1,024 rows fill the longest map", sizeof want);
+    try_sort(&c);
+    reverse(map);
+    try_sort(&c);
+    for (uint32_t number = 0; number < 20; number++) {
+        shuffle(map, number);
+        try_sort_lent(&c, sizeof map);
+        try_sort_lent(&c, sizeof map - 1);
+    }
+    /* One field of one row another; a row left out; the next row twice in place of one; a place more. */
+    for (size_t i = 0; i < MOST_ROWS; i += 93)
+        for (size_t field = 0; field < 4; field++)
+            for (unsigned x = 3; x < 9; x += 5) {
+                uint8_t *at = map + HEAD + ROW * i + 2 * field, kept[2] = { at[0], at[1] };
+                if (at[0] != x || at[1] != 0) {
+                    put16(at, x);
+                    expect(!sorts_to(map, sizeof map, want, sizeof want), "one field another", i);
+                    memcpy(at, kept, 2);
+                }
+            }
+    memcpy(out, map, sizeof out);
+    put16(out + 7, MOST_ROWS - 1);
+    expect(!sorts_to(out, sizeof out - ROW, want, sizeof want) && !sorts_to(out, sizeof out - ROW, want, sizeof want - ROW), "a row less", MOST_ROWS - 1);
+    memcpy(out, want, sizeof out);
+    memcpy(out + HEAD + 4 * ROW, out + HEAD + 5 * ROW, ROW);
+    expect(!sorts_to(out, sizeof out, want, sizeof want), "another row repeated", 4);
+    put16(map + 5, 10);
+    expect(!sorts_to(map, sizeof map, want, sizeof want), "another number of places", 10);
+    put16(want + 5, 10);
+    expect(sorts_to(map, sizeof map, want, sizeof want), "the same with that number of places", 10);
+    /* One row too many. */
+    uint8_t *longer = filled_room(sizeof map + ROW);
+    memcpy(longer, map, sizeof map);
+    put16(longer + 7, MOST_ROWS + 1);
+    expect(grafs_sort_map(longer, sizeof map + ROW, out, sizeof out) == GRAFS_REFUSAL + GRAFS_PASSAGES, "1,025 rows", MOST_ROWS + 1);
+    free(longer);
+}
+
 /* Every call with nothing but null pointers of length 0, and a tally where it takes one. */
 static void try_nulls(void)
 {
@@ -314,6 +499,9 @@ static void try_nulls(void)
             expect(counted_rounds[on][way](NULL, 0, NULL, 0, 9, NULL, 0, t) == refused && t[GRAFS_TALLY_ASKED] == 9 && t[GRAFS_TALLY_ANSWERED] == 4 &&
                 t[GRAFS_TALLY_REFUSED] == 5, "null pointers, given rounds, counted", (size_t)on);
         }
+    const uint8_t map[] = { 'L', 'P', 'M', 1, 0, 1, 0, 0, 0 };
+    expect(grafs_sort_map(NULL, 0, NULL, 0) == refused, "null pointers, sorted", 0);
+    expect(grafs_sort_map(map, sizeof map, NULL, 0) == GRAFS_REFUSAL + GRAFS_BUFFER_SHORT, "a null pointer, sorted", 1);
 }
 
 /* `fuse` and `run` of this archive: test.c tries them in full, linked with it too. */
@@ -323,6 +511,8 @@ int main(void)
     try_boards();
     try_refusals();
     try_longest();
+    try_sorts();
+    try_most_rows();
     try_nulls();
     printf("c: service: %u comparisons, %u differ\n", tried, failed);
     return failed != 0;

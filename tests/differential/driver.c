@@ -1,6 +1,6 @@
 /* Random cases, legal and damaged, for the library and the plain implementation alike: the number returned and every byte of the buffer,
- * with guard bytes on both sides, must be the same, and the tally where the call is counted. Every fourth case is a board, the others questions and
- * worksheets.
+ * with guard bytes on both sides, must be the same, and the tally where the call is counted. Every fourth case is a board, every eighth a map to be sorted,
+ * the others questions and worksheets.
  *
  *     driver CASES [FIRST]     cases FIRST, FIRST + 1, ..; a case depends on its number alone, so one can be tried again by itself
  *
@@ -615,9 +615,117 @@ static void damage_board(file *f)
     }
 }
 
+/* ---------------------------------------------------------------- maps to be sorted */
+
+enum { MAP_HEAD = 9, ROW = 8 };
+
+static unsigned at16(const uint8_t *p)
+{
+    return p[0] + 256u * p[1];
+}
+
+static void set16(uint8_t *p, unsigned x)
+{
+    p[0] = (uint8_t)x, p[1] = (uint8_t)(x >> 8);
+}
+
+static unsigned some_row_count(void)
+{
+    switch (below(12)) {
+    case 0: return below(3);
+    case 1: return ONE_OF(1023, 1024, 1024);
+    case 2: return ONE_OF(15, 16, 17, 31, 32, 33, 63, 64, 65, 127, 128, 129, 255, 256, 257, 511, 512, 513);
+    case 3: return between(20, 300);
+    default: return between(2, 20);
+    }
+}
+
+/* A place, seconds or a crate size, in one map of few different ones, or of such as a low byte alone would put in another order, or of any. */
+static unsigned some_place_of(unsigned n, unsigned manner)
+{
+    return manner == 0 ? below(n < 3 ? n : 3) : below(n);
+}
+
+static unsigned some_field_of(unsigned manner)
+{
+    return manner == 0 ? between(1, 3) : manner == 1 ? ONE_OF(1, 254, 255, 256, 257, 511, 512, 32767, 32768, 65280, 65533, 65534) : between(1, 65534);
+}
+
+static void shuffle_rows(file *f)
+{
+    for (unsigned i = at16(f->b + 7); i > 1; i--) {
+        uint8_t *a = f->b + MAP_HEAD + ROW * (i - 1), *b = f->b + MAP_HEAD + ROW * below(i), kept[ROW];
+        memcpy(kept, a, ROW), memmove(a, b, ROW), memcpy(b, kept, ROW);
+    }
+}
+
+static void reverse_rows(file *f)
+{
+    for (unsigned i = 0, k = at16(f->b + 7); i + 1 < k; i++) {
+        uint8_t *a = f->b + MAP_HEAD + ROW * i, *b = f->b + MAP_HEAD + ROW * --k, kept[ROW];
+        memcpy(kept, a, ROW), memmove(a, b, ROW), memcpy(b, kept, ROW);
+    }
+}
+
+/* Rows of which many have their first fields, or all, from the one before; then as they are, in order, in falling order, in order but for one row, or in two
+ * parts that are in order each. */
+static void some_rows(file *f, unsigned n)
+{
+    unsigned m = some_row_count(), places = below(2), seconds = below(3), size = below(3), alike = below(3);
+    put_head(f, 'M', one_in(100) ? ONE_OF(0, 2, 256, 257) : 1), put(f, 2, n), put(f, 2, m);
+    for (unsigned i = 0; i < m; i++) {
+        unsigned row[4] = { some_place_of(n, places), some_place_of(n, places), some_field_of(seconds) - one_in(10), some_field_of(size) };
+        for (unsigned k = i && alike ? below(alike == 1 ? 5 : 9) : 0; k > 0; k--)
+            if (k <= 4)
+                row[k - 1] = at16(f->b + f->len - ROW + 2 * (k - 1));
+        for (unsigned k = 0; k < 4; k++)
+            put(f, 2, row[k]);
+    }
+    unsigned order = below(8);
+    static file sorted;
+    if (order > 3 || m < 2 || plain_sort_map(f->b, f->len, sorted.b, MOST) >= GRAFS_REFUSAL)
+        return;
+    memcpy(f->b, sorted.b, f->len);
+    if (order == 1)
+        reverse_rows(f);
+    else if (order == 2)
+        set16(f->b + MAP_HEAD + ROW * below(m), below(n));
+    else if (order == 3) {
+        size_t cut = ROW * (size_t)below(m);
+        memcpy(f->b + MAP_HEAD, sorted.b + MAP_HEAD + cut, ROW * m - cut);
+        memcpy(f->b + MAP_HEAD + ROW * m - cut, sorted.b + MAP_HEAD, cut);
+    }
+}
+
+/* Places that there are not and crate sizes that are none, in one to four fields. */
+static void spoil_rows(file *f)
+{
+    unsigned n = at16(f->b + 5), m = at16(f->b + 7);
+    for (unsigned i = m ? between(1, 4) : 0; i > 0; i--) {
+        uint8_t *row = f->b + MAP_HEAD + ROW * below(m);
+        if (one_in(2))
+            set16(row + 6, ONE_OF(0, 65535));
+        else
+            set16(row + 2 * below(2), ONE_OF(n, n + 1, n + 256, 65535));
+    }
+}
+
+/* Counts at their limits, one of them or both; rows to go with 1,025. */
+static void spoil_counts(file *f)
+{
+    unsigned m = at16(f->b + 7), which = between(1, 3);
+    if (which & 1)
+        set16(f->b + 5, ONE_OF(0, 0, 1, 256, 257, 257, 65535));
+    if (which & 2)
+        set16(f->b + 7, ONE_OF(m - 1, m + 1, 0, 1024, 1025, 1025, 65535));
+    if (at16(f->b + 7) == 1025 && one_in(2))
+        insert(f, f->len, MAP_HEAD + ROW * 1025 - f->len);
+}
+
 /* ---------------------------------------------------------------- comparing */
 
 enum { PULL, PUSH };
+enum { FUSE, RUN, BOARD, SORT, CALLS };
 enum { ON_WORKSHEET, ON_BOARD };
 
 typedef uint32_t quiet_call(const uint8_t *, size_t, const uint8_t *, size_t, uint8_t *, size_t);
@@ -631,7 +739,7 @@ static counted_call *const counted[2][2] = { { grafs_counted_pull, grafs_counted
 static counted_rounds_call *const counted_rounds[2][2] = { { grafs_counted_pull_rounds, grafs_counted_push_rounds },
     { grafs_counted_board_pull_rounds, grafs_counted_board_push_rounds } };
 
-static unsigned long long numbers[3][STARTS_ORDER + 1], numbered, most_rounds, past_places, full_tallies;
+static unsigned long long numbers[CALLS][STARTS_ORDER + 1], numbered, most_rounds, past_places, full_tallies;
 
 static void print_file(const char *name, const file *f)
 {
@@ -655,31 +763,34 @@ static unsigned number_of(uint32_t result)
     return result < GRAFS_REFUSAL ? 0 : result - GRAFS_REFUSAL;
 }
 
-/* Both implementations on the same bytes, in buffers filled alike; `map` is null for fuse. Returns the number of bytes written, or 65,536 + number. */
-static uint32_t compare(unsigned long long index, const file *first, const file *map, size_t lent)
+/* Both implementations on the same bytes, in buffers filled alike; `map` is null but for run. Returns the number of bytes written, or 65,536 + number. */
+static uint32_t compare(unsigned long long index, int what, const file *first, const file *map, size_t lent)
 {
+    static const char *const names[CALLS] = { "fuse", "run", "board", "sort" };
     size_t room = lent + 2 * GUARD, map_len = map ? map->len : 0;
     uint8_t *a = copy_of(first->b, first->len), *b = map ? copy_of(map->b, map_len) : NULL;
     uint8_t *theirs = malloc(room), *ours = malloc(room), fill = (uint8_t)below(256);
     if (!theirs || !ours)
         exit(2);
     memset(theirs, fill, room), memset(ours, fill, room);
-    uint32_t x = map ? run(a, first->len, b, map_len, theirs + GUARD, lent) : fuse(a, first->len, theirs + GUARD, lent);
+    uint32_t x = what == RUN ? run(a, first->len, b, map_len, theirs + GUARD, lent)
+                             : (what == SORT ? grafs_sort_map : fuse)(a, first->len, theirs + GUARD, lent);
     int kept = !memcmp(a, first->b, first->len) && (!map || !memcmp(b, map->b, map_len));
-    uint32_t y = map ? plain_run(a, first->len, b, map_len, ours + GUARD, lent) : plain_fuse(a, first->len, ours + GUARD, lent);
+    uint32_t y = what == RUN ? plain_run(a, first->len, b, map_len, ours + GUARD, lent)
+                             : (what == SORT ? plain_sort_map : plain_fuse)(a, first->len, ours + GUARD, lent);
     size_t differs = 0;
     while (differs < room && theirs[differs] == ours[differs])
         differs++;
     if (x != y || differs < room || !kept) {
-        printf("case %llu differs: %s, lent %zu: library %u, plain %u; first byte that differs %ld; inputs %s\n", index, map ? "run" : "fuse", lent, x, y,
+        printf("case %llu differs: %s, lent %zu: library %u, plain %u; first byte that differs %ld; inputs %s\n", index, names[what], lent, x, y,
             differs < room ? (long)differs - GUARD : -1L, kept ? "as they were" : "changed");
         print_file("first", first);
         if (map)
             print_file("map", map);
         exit(1);
     }
-    numbers[map != NULL][number_of(x)]++;
-    if (map && x < GRAFS_REFUSAL) {
+    numbers[what][number_of(x)]++;
+    if (what == RUN && x < GRAFS_REFUSAL) {
         const uint8_t *answer = ours + GUARD;
         unsigned n = answer[5] + 256u * answer[6], rounds = answer[7] + 256u * answer[8];
         numbered += answer[10] == 1;
@@ -806,7 +917,7 @@ static void try_sheet(unsigned long long index)
         if (damaged && one_in(2))
             damage(&question);
         uint32_t need = plain_fuse(question.b, question.len, room, sizeof room);
-        compare(index, &question, NULL, some_lent(need < GRAFS_REFUSAL ? need : 40));
+        compare(index, FUSE, &question, NULL, some_lent(need < GRAFS_REFUSAL ? need : 40));
         if (need >= GRAFS_REFUSAL)
             return;
         memcpy(worksheet.b, room, need);
@@ -818,7 +929,7 @@ static void try_sheet(unsigned long long index)
     if (damaged && one_in(2))
         damage_map(&map);
     size_t lent = some_lent(answer_length(&worksheet, &map));
-    compare(index, &worksheet, &map, lent);
+    compare(index, RUN, &worksheet, &map, lent);
     compare_ways(index, ON_WORKSHEET, &worksheet, &map, lent);
 }
 
@@ -830,7 +941,7 @@ static struct {
 static void count_board(unsigned number)
 {
     const plain_board_met *met = &plain_last_board;
-    numbers[2][number]++;
+    numbers[BOARD][number]++;
     boards.all++;
     if (number) {
         boards.refused[met->where][number]++;
@@ -861,16 +972,178 @@ static void try_board(unsigned long long index)
     count_board(compare_ways(index, ON_BOARD, &board, &map, lent));
 }
 
+/* What maps to be sorted were like: by the fields in which neighbours in order differ first, 4 where in none. */
+static struct {
+    unsigned long long all, first_differ[5], in_order, falling, of_no_row, of_most_rows, place_before_crate, crate_before_place, alike[2], refused_alike;
+} sorts;
+
+/* The field in which two rows differ first, 4 where in none, and whether the first row is the lesser one there. */
+static unsigned first_difference(const uint8_t *a, const uint8_t *b, int *less)
+{
+    unsigned field = 0;
+    while (field < 4 && at16(a + 2 * field) == at16(b + 2 * field))
+        field++;
+    *less = field < 4 && at16(a + 2 * field) < at16(b + 2 * field);
+    return field;
+}
+
+/* Of a map that was sorted, as it was handed over and as it was written. */
+static void count_sorted(const file *map, const file *sorted)
+{
+    unsigned m = at16(map->b + 7);
+    int met[5] = { 0 }, rising = 1, falling = 1, less;
+    for (unsigned i = 1; i < m; i++) {
+        const uint8_t *row = sorted->b + MAP_HEAD + ROW * i, *handed = map->b + MAP_HEAD + ROW * i;
+        met[first_difference(row - ROW, row, &less)] = 1;
+        rising &= first_difference(handed - ROW, handed, &less) == 4 || less;
+        falling &= first_difference(handed - ROW, handed, &less) == 4 || !less;
+    }
+    for (int i = 0; i < 5; i++)
+        sorts.first_differ[i] += (unsigned)met[i];
+    sorts.in_order += m > 1 && rising;
+    sorts.falling += m > 1 && falling && !rising;
+    sorts.of_no_row += m == 0;
+    sorts.of_most_rows += m == 1024;
+}
+
+/* Of one that was refused by 7 or 8: whether another row has the other fault. */
+static void count_refused(const file *map, unsigned number)
+{
+    unsigned n = at16(map->b + 5), places = 0, crates = 0;
+    if (number != GRAFS_NO_SUCH_PLACE && number != GRAFS_CRATE)
+        return;
+    for (const uint8_t *row = map->b + MAP_HEAD; row < map->b + map->len; row += ROW) {
+        unsigned size = at16(row + 6), place = at16(row) >= n || at16(row + 2) >= n;
+        places += place;
+        crates += !place && (size == 0 || size == 65535);
+    }
+    sorts.place_before_crate += number == GRAFS_NO_SUCH_PLACE && crates;
+    sorts.crate_before_place += number == GRAFS_CRATE && places;
+}
+
+static void sort_differs(unsigned long long index, const char *what, const file *map, const file *other)
+{
+    printf("case %llu differs: sort, %s\n", index, what);
+    print_file("map", map);
+    print_file("other", other);
+    exit(1);
+}
+
+/* Whether the library writes the other map as the same bytes. */
+static int sorts_alike(const file *other, const file *sorted)
+{
+    static uint8_t room[GRAFS_MAP_MAX];
+    uint32_t x = grafs_sort_map(other->b, other->len, room, sizeof room);
+    return x == sorted->len && !memcmp(room, sorted->b, x);
+}
+
+/* Another map: a field of a row, a row less, one twice in place of another one, a place more. Returns 0 where it would be the same, or none. */
+static int make_other(file *f)
+{
+    unsigned n = at16(f->b + 5), m = at16(f->b + 7), way = below(4), field = below(4), x;
+    uint8_t *row = m ? f->b + MAP_HEAD + ROW * below(m) : NULL, *twice = m ? f->b + MAP_HEAD + ROW * below(m) : NULL;
+    switch (m ? way : 0) {
+    case 0:
+        set16(f->b + 5, n + 1);
+        return n < 256;
+    case 1:
+        memmove(row, row + ROW, (size_t)(f->b + f->len - (row + ROW)));
+        f->len -= ROW, set16(f->b + 7, m - 1);
+        return 1;
+    case 2:
+        if (!memcmp(row, twice, ROW))
+            return 0;
+        memcpy(row, twice, ROW);
+        return 1;
+    default:
+        x = field < 2 ? below(n) : one_in(2) ? between(1, 65534) : at16(row + 2 * field) ^ (1u << below(16));
+        if (x == at16(row + 2 * field) || (field == 3 && (x == 0 || x == 65535)))
+            return 0;
+        set16(row + 2 * field, x);
+        return 1;
+    }
+}
+
+/* A worksheet or a board on both maps, by a way and for some rounds or to quiet: the same number and bytes, refused ones too. */
+static void answers_alike(unsigned long long index, int on, const file *asked, const file *map, const file *sorted)
+{
+    static uint8_t one[GRAFS_BOARD_ANSWERS_MAX], two[GRAFS_BOARD_ANSWERS_MAX];
+    int way = one_in(2) ? PUSH : PULL, rounds = one_in(2) ? PLAIN_QUIET : some_rounds(map);
+    size_t lent = one_in(8) ? below(60) : sizeof one;
+    uint8_t fill = (uint8_t)below(256);
+    memset(one, fill, sizeof one), memset(two, fill, sizeof two);
+    uint32_t x = call(on, way, asked->b, asked->len, map->b, map->len, rounds, one, lent, NULL);
+    uint32_t y = call(on, way, asked->b, asked->len, sorted->b, sorted->len, rounds, two, lent, NULL);
+    if (x != y || memcmp(one, two, sizeof one)) {
+        print_file("asked", asked);
+        sort_differs(index, "another answer on the sorted map", map, sorted);
+    }
+    sorts.alike[on] += x < GRAFS_REFUSAL;
+    sorts.refused_alike += x >= GRAFS_REFUSAL;
+}
+
+/* An accepted map: again, shuffled, changed, asked. */
+static void try_sorted(unsigned long long index, const file *map, const file *sorted)
+{
+    static file other, asked;
+    unsigned n = at16(map->b + 5);
+    if (!sorts_alike(sorted, sorted))
+        sort_differs(index, "sorted again", map, sorted);
+    other = *map;
+    shuffle_rows(&other);
+    if (!sorts_alike(&other, sorted))
+        sort_differs(index, "shuffled", map, &other);
+    for (int i = 0; i < 3; i++) {
+        other = *map;
+        if (!make_other(&other))
+            continue;
+        shuffle_rows(&other);
+        if (sorts_alike(&other, sorted))
+            sort_differs(index, "the same bytes for another map", map, &other);
+    }
+    some_worksheet(&asked, n);
+    answers_alike(index, ON_WORKSHEET, &asked, map, sorted);
+    some_board(&asked, n, 0);
+    answers_alike(index, ON_BOARD, &asked, map, sorted);
+}
+
+/* A map is sorted, in one of three cases damaged. Of one that is accepted, what the library writes must be as it is promised. */
+static void try_sort(unsigned long long index)
+{
+    static void (*const harm[])(file *) = { damage, damage_map, spoil_rows, spoil_counts };
+    static file map, sorted;
+    unsigned n = some_places();
+    if (one_in(6))
+        some_map(&map, n);
+    else
+        some_rows(&map, n);
+    if (one_in(3))
+        harm[below(4)](&map);
+    uint32_t number = number_of(compare(index, SORT, &map, NULL, some_lent(one_in(20) ? 9 : map.len ? map.len : 1)));
+    sorts.all++;
+    count_refused(&map, number);
+    if (number && number != GRAFS_BUFFER_SHORT)
+        return;
+    uint32_t len = grafs_sort_map(map.b, map.len, sorted.b, MOST);
+    if (len != map.len)
+        sort_differs(index, "another length", &map, &sorted);
+    sorted.len = len;
+    count_sorted(&map, &sorted);
+    try_sorted(index, &map, &sorted);
+}
+
 static void try_case(unsigned long long index)
 {
     state = SEED + index * 0x2545f4914f6cdd1du;
     if (index % 4 == 3)
         try_board(index);
+    else if (index % 8 == 5)
+        try_sort(index);
     else
         try_sheet(index);
 }
 
-/* What matters of conditions, sets and boards, and how often it was met. Returns whether all of it was. */
+/* What matters of conditions, sets, boards and maps to be sorted, and how often it was met. Returns whether all of it was. */
 static int all_met(void)
 {
     const struct {
@@ -889,11 +1162,11 @@ static int all_met(void)
         { "runs answered with a set of more than eight starts", plain_sets.of_more_than_eight },
         { "runs answered of version 2 with single starts", plain_sets.version_2_of_single },
         { "runs answered of version 2 with no start", plain_sets.version_2_of_none },
-        { "questions refused 17", numbers[0][STARTS_ORDER] },
-        { "worksheets refused 17", numbers[1][STARTS_ORDER] },
+        { "questions refused 17", numbers[FUSE][STARTS_ORDER] },
+        { "worksheets refused 17", numbers[RUN][STARTS_ORDER] },
         { "tallies that can count no more", full_tallies },
         { "boards", boards.all },
-        { "boards answered", numbers[2][0] },
+        { "boards answered", numbers[BOARD][0] },
         { "boards answered of 1 question", boards.answered[1] },
         { "boards answered of 2 questions", boards.answered[2] },
         { "boards answered of 3 questions", boards.answered[3] },
@@ -916,6 +1189,22 @@ static int all_met(void)
         { "boards refused 6 within a question", boards.refused[PLAIN_QUESTION][GRAFS_LENGTH] },
         { "boards refused 13 by starts that the map does not have", boards.refused[PLAIN_STARTS][GRAFS_START] },
         { "boards refused 15", boards.refused[PLAIN_BUFFER][GRAFS_BUFFER_SHORT] },
+        { "maps to be sorted", sorts.all },
+        { "maps sorted of no row", sorts.of_no_row },
+        { "maps sorted of 1,024 rows", sorts.of_most_rows },
+        { "maps sorted that were in order", sorts.in_order },
+        { "maps sorted that were in falling order", sorts.falling },
+        { "maps sorted with rows that differ in from", sorts.first_differ[0] },
+        { "maps sorted with rows of the same from that differ in to", sorts.first_differ[1] },
+        { "maps sorted with rows of the same from and to that differ in seconds", sorts.first_differ[2] },
+        { "maps sorted with rows that differ in crate size alone", sorts.first_differ[3] },
+        { "maps sorted with a row repeated", sorts.first_differ[4] },
+        { "maps refused 7 with a crate size that is none in another row", sorts.place_before_crate },
+        { "maps refused 8 with a place that there is not in another row", sorts.crate_before_place },
+        { "maps to be sorted refused 15", numbers[SORT][GRAFS_BUFFER_SHORT] },
+        { "worksheets answered alike on a map and in its order", sorts.alike[ON_WORKSHEET] },
+        { "boards answered alike on a map and in its order", sorts.alike[ON_BOARD] },
+        { "worksheets and boards refused alike on both", sorts.refused_alike },
     };
     int all = 1;
     for (size_t i = 0; i < sizeof met / sizeof *met; i++) {
@@ -930,8 +1219,8 @@ int main(int argc, char **argv)
     unsigned long long cases = argc > 1 ? strtoull(argv[1], NULL, 10) : 100000, first = argc > 2 ? strtoull(argv[2], NULL, 10) : 0;
     for (unsigned long long i = first; i < first + cases; i++)
         try_case(i);
-    for (int of = 0; of < 3; of++) {
-        static const char *const names[] = { "fuse: ", "run:  ", "board:" };
+    for (int of = FUSE; of < CALLS; of++) {
+        static const char *const names[CALLS] = { "fuse: ", "run:  ", "board:", "sort: " };
         printf("%s answered %llu; refused", names[of], numbers[of][0]);
         for (int number = 1; number <= STARTS_ORDER; number++)
             if (numbers[of][number])

@@ -13,6 +13,9 @@ enum { PLAIN_QUIET = -1 };
 uint32_t plain_run_for(const uint8_t *worksheet, size_t worksheet_len, const uint8_t *map, size_t map_len, int rounds, uint8_t *out, size_t lent);
 uint32_t plain_board(const uint8_t *board, size_t board_len, const uint8_t *map, size_t map_len, int rounds, uint8_t *out, size_t lent);
 
+/* A map with its rows in order. */
+uint32_t plain_sort_map(const uint8_t *map, size_t map_len, uint8_t *out, size_t lent);
+
 /* What a call with this result does to the tally: asked, answered, refused. */
 void plain_count(uint32_t result, uint64_t tally[3]);
 

@@ -4,8 +4,8 @@
 #include "grafs_service.h"
 
 enum { GUARD = 64, MOST = 20000, FILL = 0xa5, QUIET = -1 };
-enum { FUSE, RUN, BOARD };
-enum { PULL, PUSH, COUNTED_PULL, COUNTED_PUSH, BY_NAME, WAYS }; /* BY_NAME: `fuse` and `run` themselves */
+enum { FUSE, RUN, BOARD, SORT };
+enum { PULL, PUSH, COUNTED_PULL, COUNTED_PUSH, BY_NAME, WAYS }; /* BY_NAME: `fuse`, `run` and grafs_sort_map themselves */
 
 typedef struct {
     const uint8_t *at;
@@ -33,8 +33,10 @@ static void constant(int line, const char *name, unsigned long long in_header, u
 static uint32_t called(int kind, int way, bytes a, bytes map, int rounds, uint8_t *out, size_t lent, uint64_t *t)
 {
     uint16_t r = (uint16_t)rounds;
+    if (way == BY_NAME && kind == RUN)
+        return run(a.at, a.len, map.at, map.len, out, lent);
     if (way == BY_NAME)
-        return kind == FUSE ? fuse(a.at, a.len, out, lent) : run(a.at, a.len, map.at, map.len, out, lent);
+        return (kind == FUSE ? fuse : grafs_sort_map)(a.at, a.len, out, lent);
     if (rounds == QUIET)
         switch (way) {
         case PULL: return ON(grafs_board_pull, grafs_pull)(a.at, a.len, map.at, map.len, out, lent);
@@ -74,7 +76,7 @@ static int holds(int kind, int way, bytes first, bytes map, int rounds, size_t l
 static void call(int line, const char *text, int kind, bytes first, bytes map, int rounds, size_t lent, uint32_t refused, bytes want)
 {
     int held = lent <= MOST && want.len <= MOST && (rounds == QUIET || rounds <= 65535);
-    for (int way = kind == FUSE ? BY_NAME : PULL; way < WAYS && held; way++)
+    for (int way = kind == FUSE || kind == SORT ? BY_NAME : PULL; way < WAYS && held; way++)
         if (way != BY_NAME || (kind != BOARD && rounds == QUIET))
             held = holds(kind, way, first, map, rounds, lent, refused, want);
     if (held)

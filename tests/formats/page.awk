@@ -20,20 +20,20 @@ function define(    i) {
 }
 
 # A line of a block `calls`.
-function call(    line, i, kind, rounds, lent, refused, want) {
+function call(    line, i, kind, alone, rounds, lent, refused, want) {
     $1 = $1; line = $0
-    if (line !~ /^(fuse [A-Z0-9_]+|(run|board) [A-Z0-9_]+ [A-Z0-9_]+( rounds [0-9]+)?)( lent [0-9]+)? -> ([A-Z0-9_]+|refused [1-9][0-9]*)$/)
+    if (line !~ /^((fuse|sort) [A-Z0-9_]+|(run|board) [A-Z0-9_]+ [A-Z0-9_]+( rounds [0-9]+)?)( lent [0-9]+)? -> ([A-Z0-9_]+|refused [1-9][0-9]*)$/)
         return wrong(FNR, "no call: " line)
-    kind = $1; rounds = "QUIET"; lent = most[kind]
-    i = kind == "fuse" ? 3 : 4
+    kind = $1; alone = kind == "fuse" || kind == "sort"; rounds = "QUIET"; lent = most[kind]
+    i = alone ? 3 : 4
     if ($i == "rounds") { rounds = $(i + 1); i += 2 }
     if ($i == "lent") { lent = $(i + 1); i += 2 }
     refused = $(i + 1) == "refused" ? $(i + 2) : 0
     want = refused ? "" : $(i + 1)
-    if (!known($2) || (kind != "fuse" && !known($3)) || (!refused && !known(want))) return
+    if (!known($2) || (!alone && !known($3)) || (!refused && !known(want))) return
     calls++
     printf "call(%d, %s, %s, %s, ", FNR, quoted(line), toupper(kind), bytes($2)
-    printf "%s, %s, %s, %s, %s);\n", bytes(kind == "fuse" ? "" : $3), rounds, lent, refused, bytes(want)
+    printf "%s, %s, %s, %s, %s);\n", bytes(alone ? "" : $3), rounds, lent, refused, bytes(want)
 }
 
 # A row of a table that has a constant in a cell of its own: its value is in the first cell.
@@ -50,7 +50,7 @@ function row(    cell, n, i, value) {
         }
 }
 
-BEGIN { most["fuse"] = "GRAFS_WORKSHEET_MAX"; most["run"] = "GRAFS_ANSWER_MAX"; most["board"] = "GRAFS_BOARD_ANSWERS_MAX" }
+BEGIN { most["fuse"] = "GRAFS_WORKSHEET_MAX"; most["run"] = "GRAFS_ANSWER_MAX"; most["board"] = "GRAFS_BOARD_ANSWERS_MAX"; most["sort"] = "GRAFS_MAP_MAX" }
 FILENAME ~ /\.h$/ { if (/^#define GRAFS_[A-Z_]+ [0-9]/) constant[$2] = 1; else if (/^ *GRAFS_[A-Z_]+ = [0-9]/) constant[$1] = 1; next }
 /^```/ { block = block == "" ? substr($0, 4) " " : ""; name = ""; next }
 block == "" && /^\|/ { row() }

@@ -13,11 +13,11 @@
 #include "grafs_service.h"
 
 enum { PAGE = 4096, ROOM = 24 * PAGE, GUARD = 64, VERSION_OFFSET = 3, PLACES_OFFSET = 5, CHAINS_OFFSET = 6, KIND_OFFSET = 5, ROUNDS_OFFSET = 7 };
-enum { ANSWER_HEAD = 10, ROW = 9, LAST_NUMBER = 17, NUMBERS };
+enum { ANSWER_HEAD = 10, ROW = 9, MAP_HEAD = 9, PASSAGE = 8, LAST_NUMBER = 17, NUMBERS };
 enum { HEAP, TO_THE_END, FROM_THE_START, PLACEMENTS };
 
-/* What a call is made on, and how: FUSE and RUN are the calls of these names; the others go by a way. */
-enum { FUSE, RUN, SHEET, BOARD, CALLS };
+/* What a call is made on, and how: FUSE, RUN and SORT are the calls of these names; the others go by a way. */
+enum { FUSE, RUN, SHEET, BOARD, SORT, CALLS };
 enum { PULL, PUSH, COUNTED_PULL, COUNTED_PUSH, WAYS };
 enum { QUIET = -1 };
 
@@ -36,12 +36,13 @@ typedef struct {
     uint8_t out[ROOM];
 } reply;
 
-static const call_kind fusing = { FUSE, 0, QUIET }, running = { RUN, 0, QUIET }, boarding = { BOARD, PUSH, QUIET };
+static const call_kind fusing = { FUSE, 0, QUIET }, running = { RUN, 0, QUIET }, boarding = { BOARD, PUSH, QUIET }, sorting = { SORT, 0, QUIET };
 
 /* Tells libFuzzer what is new, as the library tells it nothing: by call, number and how far the bytes were read; by shape of what was written. */
 __attribute__((section("__libfuzzer_extra_counters"))) static uint8_t seen[CALLS * NUMBERS * 128 + 1024];
 
 static unsigned long long calls, numbers[CALLS][NUMBERS], boards_answered[GRAFS_BOARD_QUESTIONS_MAX + 1], rounds_differ, ninth_together;
+static unsigned long long sorted_otherwise, with_repeats; /* maps whose rows were not in order; that have a row twice */
 static const uint8_t any_start[] = { 'L', 'P', 'M', 1, 0, 0, 1, 0, 0 };           /* 256 places: every start is one */
 static const uint8_t no_chain[] = { 'L', 'P', 'W', 1, 0, 1, 0, 0, 0x21, 1, 0, 0, 0 };
 
@@ -82,6 +83,8 @@ static uint32_t called(call_kind k, const uint8_t *a, size_t len, const uint8_t 
     calls++;
     if (k.on == FUSE)
         return fuse(a, len, out, lent);
+    if (k.on == SORT)
+        return grafs_sort_map(a, len, out, lent);
     if (k.on == RUN)
         return run(a, len, map, map_len, out, lent);
     if (k.way == PULL && quiet)
@@ -132,7 +135,7 @@ static int all(const uint8_t *p, size_t len, uint8_t fill)
     return 1;
 }
 
-/* One call at one placement: `map` is null for fuse. */
+/* One call at one placement: `map` is null for fuse, and for a map that is sorted. */
 static void call_at(int placement, call_kind k, bytes first, const bytes *map, size_t lent, reply *r)
 {
     static uint8_t *pages[3];
@@ -156,7 +159,7 @@ static void call_at(int placement, call_kind k, bytes first, const bytes *map, s
     expect(done <= lent, "no more bytes than lent");
     expect(!lent || all(out + done, lent - done, fill), "the rest of the buffer, and all of it at a refusal, as it was");
     expect(placement == HEAP || all(guard, GUARD, fill), "bytes beside the buffer as they were");
-    expect(!first.len || !memcmp(a, first.p, first.len), "the question, worksheet or board as it was");
+    expect(!first.len || !memcmp(a, first.p, first.len), "the question, worksheet, board or map as it was");
     expect(!map_len || !memcmp(b, map->p, map_len), "the map as it was");
     if (done)
         memcpy(r->out, out, done);
@@ -358,12 +361,100 @@ static void map_cut(bytes map, size_t cut)
     expect(number_of_map(part) == (part.len < 9 ? 1u : 6u), "a map cut off is 1 under 9 bytes, else 6");
 }
 
+/* ---------------------------------------------------------------- maps in order */
+
+static int in_order(const uint8_t *a, const uint8_t *b)
+{
+    for (int field = 0; field < 4; field++)
+        if (at16(a + 2 * field) != at16(b + 2 * field))
+            return at16(a + 2 * field) < at16(b + 2 * field);
+    return 1;
+}
+
+/* By the bytes as they stand, which is another order than that of the rows. */
+static int by_bytes(const void *a, const void *b)
+{
+    return memcmp(a, b, PASSAGE);
+}
+
+static void same_rows(const uint8_t *a, const uint8_t *b, unsigned m)
+{
+    static uint8_t one[PASSAGE * GRAFS_PASSAGES_MAX], two[PASSAGE * GRAFS_PASSAGES_MAX];
+    memcpy(one, a, PASSAGE * m), memcpy(two, b, PASSAGE * m);
+    qsort(one, m, PASSAGE, by_bytes), qsort(two, m, PASSAGE, by_bytes);
+    expect(!memcmp(one, two, PASSAGE * m), "the same rows equally often");
+}
+
+static void swap_rows(uint8_t *a, uint8_t *b)
+{
+    uint8_t kept[PASSAGE];
+    memcpy(kept, a, PASSAGE), memmove(a, b, PASSAGE), memcpy(b, kept, PASSAGE);
+}
+
+/* An accepted map and what was written: the head, the rows in order, the same ones; sorted again, and from another order, the same; from another map not. */
+static void sorted_checked(bytes map, const reply *r, size_t seed)
+{
+    static uint8_t other[GRAFS_MAP_MAX];
+    static reply changed;
+    unsigned m = at16(map.p + PLACES_OFFSET + 2), moved = 0, twice = 0;
+    expect(r->result == map.len && !memcmp(r->out, map.p, MAP_HEAD), "length and head of the map in order");
+    for (unsigned i = 1; i < m; i++) {
+        const uint8_t *row = r->out + MAP_HEAD + PASSAGE * i, *given = map.p + MAP_HEAD + PASSAGE * i;
+        expect(in_order(row - PASSAGE, row), "rows in rising order");
+        moved |= !in_order(given - PASSAGE, given);
+        twice |= !memcmp(row - PASSAGE, row, PASSAGE);
+    }
+    same_rows(map.p + MAP_HEAD, r->out + MAP_HEAD, m);
+    same_again(r, (int)(seed % PLACEMENTS), sorting, (bytes){ r->out, r->result }, NULL, r->result);
+    sorted_otherwise += moved, with_repeats += twice;
+    shape(970 + 2 * moved + twice, m < 64 ? m : 64 + m / 64);
+    if (!m)
+        return;
+    memcpy(other, map.p, map.len);
+    for (unsigned i = m; i > 1; i--, seed = seed * 1103515245u + 12345u)
+        swap_rows(other + MAP_HEAD + PASSAGE * (i - 1), other + MAP_HEAD + PASSAGE * (seed / 256 % i));
+    same_again(r, HEAP, sorting, (bytes){ other, map.len }, NULL, r->result);
+    other[MAP_HEAD + PASSAGE * (seed % m) + 4 + seed / 4096 % 2] ^= (uint8_t)(1u << seed / 65536 % 8); /* in the seconds */
+    call_at(HEAP, sorting, (bytes){ other, map.len }, NULL, r->result, &changed);
+    expect(changed.result == r->result && memcmp(changed.out, r->out, r->result), "other bytes for other rows");
+}
+
+/* A map is refused by what a run refuses it by, then 15. */
+static void sort_checked(bytes map, size_t lent)
+{
+    static reply r, whole;
+    call(sorting, map, NULL, lent, &r);
+    call_at(HEAP, sorting, map, NULL, GRAFS_MAP_MAX, &whole);
+    uint32_t number = number_of(whole.result);
+    expect(number == number_of_map(map), "a map is refused as at a run, and the header's length is always enough");
+    shape(number, 970);
+    if (number) {
+        expect(r.result == whole.result, "the map is judged before the length");
+        return;
+    }
+    expect(r.result == (lent < whole.result ? GRAFS_REFUSAL + GRAFS_BUFFER_SHORT : whole.result), "15 where the length is short, and only there");
+    exact_length(sorting, map, NULL, &whole);
+    sorted_checked(map, &whole, lent + map.len);
+}
+
+/* "every question answers alike on both": r is what the call gave on the map. */
+static void alike_in_order(const reply *r, call_kind k, bytes first, bytes map, size_t lent)
+{
+    static reply sorted;
+    call_at(HEAP, sorting, map, NULL, GRAFS_MAP_MAX, &sorted);
+    if (sorted.result < GRAFS_REFUSAL)
+        same_again(r, HEAP, k, first, &(bytes){ sorted.out, sorted.result }, lent);
+}
+
+/* ---------------------------------------------------------------- runs */
+
 /* A run for so many rounds: refused alike; reports the number, by all ways the same; from the quiet round on the rows are those of a run to the end. */
 static void rounds_checked(int on, int rounds, bytes first, bytes map, size_t lent, const reply *quiet)
 {
     static reply r;
     call_at(HEAP, (call_kind){ on, PUSH, rounds }, first, &map, lent, &r);
     same_by_all_ways(&r, on, rounds, first, &map, lent);
+    alike_in_order(&r, (call_kind){ on, PULL, rounds }, first, map, lent);
     expect(r.result == quiet->result, "the same number for given rounds");
     if (on != SHEET || r.result >= GRAFS_REFUSAL)
         return;
@@ -377,6 +468,7 @@ static void run_checked(bytes worksheet, bytes map, size_t lent, int rounds, rep
     bytes anywhere = { any_start, sizeof any_start };
     call(running, worksheet, &map, lent, r);
     same_by_all_ways(r, SHEET, QUIET, worksheet, &map, lent);
+    alike_in_order(r, running, worksheet, map, lent);
     rounds_checked(SHEET, rounds, worksheet, map, lent, r);
     judged_left_to_right(running, worksheet, &anywhere, number_at_length(running, worksheet, &anywhere));
     expect(number_of(r->result) == number_expected(worksheet, map, lent), "worksheet, map, starts, then 15");
@@ -515,6 +607,7 @@ static void board_checked(bytes board, bytes map, size_t lent, int rounds)
     bytes anywhere = { any_start, sizeof any_start };
     call(boarding, board, &map, lent, &r);
     same_by_all_ways(&r, BOARD, QUIET, board, &map, lent);
+    alike_in_order(&r, boarding, board, map, lent);
     rounds_checked(BOARD, rounds, board, map, lent, &r);
     judged_left_to_right(boarding, board, &anywhere, number_at_length(boarding, board, &anywhere));
     expect(number_of(r.result) == board_number(board, map, lent, &t), "count, questions in turn, left-over bytes, chains together, map, starts, then 15");
@@ -534,7 +627,7 @@ static void board_checked(bytes board, bytes map, size_t lent, int rounds)
 
 static void counts(void)
 {
-    static const char *const names[CALLS] = { "fuse:", "run:", "by ways:", "board:" };
+    static const char *const names[CALLS] = { "fuse:", "run:", "by ways:", "board:", "sort:" };
     for (int i = 0; i < CALLS; i++) {
         if (i == SHEET)
             continue;
@@ -548,6 +641,7 @@ static void counts(void)
     for (int i = 1; i <= GRAFS_BOARD_QUESTIONS_MAX; i++)
         fprintf(stderr, " %d: %llu", i, boards_answered[i]);
     fprintf(stderr, "; of different rounds alone %llu; nine chains together %llu\n", rounds_differ, ninth_together);
+    fprintf(stderr, "maps sorted that were not in order %llu, with a row repeated %llu\n", sorted_otherwise, with_repeats);
     fprintf(stderr, "%llu calls, every promise kept\n", calls);
 }
 
@@ -571,6 +665,19 @@ static size_t mend_map(uint8_t *map, size_t len)
         put16(row + 6, 1 + (at16(row + 6) + 65533) % 65534);
     }
     return 9 + 8 * m;
+}
+
+/* Two rows of a mended map change places, or one is written over the other. */
+static void mix_rows(uint8_t *map, size_t len, unsigned seed)
+{
+    unsigned m = (unsigned)(len < MAP_HEAD ? 0 : (len - MAP_HEAD) / PASSAGE);
+    if (m < 2)
+        return;
+    uint8_t *a = map + MAP_HEAD + PASSAGE * (seed / 64 % m), *b = map + MAP_HEAD + PASSAGE * (seed / 1024 % m);
+    if (seed / 32 % 2)
+        swap_rows(a, b);
+    else
+        memmove(a, b, PASSAGE);
 }
 
 /* Where a question of a board stands, by the lengths before it, counted down; 0 where they lead outside. */
@@ -627,6 +734,8 @@ size_t LLVMFuzzerCustomMutator(uint8_t *data, size_t size, size_t most, unsigned
         memcpy(data + 5, data[0] % 4 != 1 ? "LPQ\1\0" : data[5 + VERSION_OFFSET] == 2 ? "LPW\2\0" : "LPW\1\0", 5);
     if (seed / 4 % 2)
         size = 5 + first_len + mend_map(data + 5 + first_len, size - 5 - first_len);
+    if (seed / 4 % 4 == 1)
+        mix_rows(data + 5 + first_len, size - 5 - first_len, seed);
     return size;
 }
 
@@ -650,5 +759,8 @@ int LLVMFuzzerTestOneInput(const uint8_t *data, size_t size)
     case 2: fused_then_run(first, map, lent, rounds); break;
     default: board_checked(first, map, lent, rounds);
     }
+    sort_checked(data[0] % 4 ? map : first, lent);
+    if (data[0] % 4 == 0)
+        sort_checked(map, lent);
     return 0;
 }

@@ -1,13 +1,14 @@
 #!/usr/bin/env python3
-"""Writes the first inputs of the fuzz harness into a folder: document 01's trials, conditions, sets, absent operands and boards of document 02,
-the limits and some files beyond them.
+"""Writes the first inputs of the fuzz harness into a folder: document 01's trials, conditions, sets, absent operands, boards and maps to be
+sorted of document 02, the limits and some files beyond them.
 
     python3 tests/fuzz/seeds.py FOLDER
 
 An input is a selector byte (0 fuse, 1 run, 2 fuse then run, 3 board, and four times a number of rounds), a 16-bit number for the length lent, a
-16-bit length of the question, worksheet or board, its bytes, and the map's bytes.
+16-bit length of the question, worksheet or board, its bytes, and the map's bytes. The map is sorted too, and with 0 also the question's bytes.
 """
 import os
+import random
 import sys
 
 
@@ -94,6 +95,22 @@ MAPS = [MAP_A, map_file(1), map_file(1, (0, 0, 1, 3)), map_file(2, (0, 1, 1, 9),
         map_file(16, *((i, (i + 1) % 16, 65535, 65534 - i) for i in range(16))),
         map_file(256, *((i, i + 1, 65535, 1 + i) for i in range(255))),
         map_file(257), map_file(4, (0, 4, 1, 1)), map_file(4, (0, 1, 1, 0)), map_file(4, (0, 1, 1, 65535)), MAP_A + b"\0", MAP_A[:-1], b"LPM"]
+
+# maps to be sorted: in order, in falling order and shuffled; decided by each field, by high bytes, with repeats, 1,024 rows; and what is refused, by the rows
+# as they stand
+numbers = random.Random(1)
+ROWS = [[(0, 1, 5, 10), (0, 2, 2, 4), (1, 3, 0, 7), (2, 1, 3, 20)], [(i, 1, 1, 1) for i in (0, 1, 2, 255)], [(7, i, 1, 1) for i in (0, 1, 2, 255)],
+        [(7, 7, i, 1) for i in (0, 1, 255, 256, 257, 65535)], [(7, 7, 7, i) for i in (1, 255, 256, 257, 65534)], [(1, 2, 3, 4)] * 5,
+        [(i // 4, 0, 0, 1) for i in range(40)], sorted((i % 3, i % 2, 256 * (i % 5), 1 + i % 7) for i in range(64)), [(3, 3, i // 2, 9) for i in range(33)],
+        [(i // 4, (i // 4 + 1) % 256, 1, 9) for i in range(1024)], [(0, 0, 0, 1)] * 1024,
+        [(i // 512, i // 256 % 2, i // 16 % 16, 1 + i % 16) for i in range(1024)],
+        sorted((numbers.randrange(256), numbers.randrange(256), numbers.randrange(65536), 1 + numbers.randrange(65534)) for _one in range(300))]
+SORT_MAPS = [map_file(256, *order) for rows in ROWS
+             for order in (rows, rows[::-1], numbers.sample(rows, len(rows)), rows[len(rows) // 2:] + rows[:len(rows) // 2])]
+SORT_MAPS += [map_file(2, *rows) for rows in (
+    [(1, 1, 0, 0), (0, 2, 0, 1)], [(2, 1, 0, 1), (0, 1, 0, 0)], [(1, 1, 0, 1), (1, 0, 0, 65535), (2, 0, 0, 1)], [(0, 1, 1, 1), (0, 0, 1, 1), (0, 2, 1, 1)])]
+SORT_MAPS += [b"", b"LPM\1\0\1\0\0", b"LPQ\1\0\1\0\0\0", b"LPM\2\0\1\0\0\0", map_file(0), map_file(257, (0, 1, 1, 1)), map_file(1, *[(0, 0, 0, 1)] * 1025),
+              b"LPM\1\0\0\0\1\4", b"LPM\1\0\1\0\1\4"]
 
 counter = iter(range(1000))
 eight = [chain(1 + i % 6, start=i) for i in range(8)]
@@ -207,6 +224,8 @@ def main():
     inputs += [(1 + 4 * rounds, 2314, SHEETS[0], m) for rounds in (0, 1, 2, 3, 4, 63) for m in MAPS]
     inputs += [(3, lent, mixed, MAP_A) for lent in (0, 46, 92, 110, 111, 112)]
     inputs += [(3, 5, board(question(0, chain(2, start=4))), m) for m in MAPS]
+    inputs += [(0, 0x8000, b"", m) for m in SORT_MAPS] + [(0, lent, MAP_A, MAP_A) for lent in (0, 9, 40, 41, 42)]
+    inputs += [(1, 2314, SHEETS[1], m) for m in SORT_MAPS] + [(2, 2314, QUESTIONS[1], m) for m in SORT_MAPS] + [(3, 18512, mixed, m) for m in SORT_MAPS]
     for i, (selector, lent, first, chart) in enumerate(inputs):
         with open(os.path.join(folder, f"{i:04}"), "wb") as f:
             f.write(bytes([selector]) + u16(lent) + u16(len(first)) + first + chart)

@@ -1,6 +1,6 @@
-// Tries the readers and writers on the cases of cases.bin, runs on those of runs.bin and boards on those of boards.bin, which
-// tests/make_cases.py writes: a case is a kind byte, the number expected, a 16-bit length and as many bytes. Prints for each file the
-// first cases that differ, then how many there are of each kind, and how many differ.
+// Tries the readers and writers on the cases of cases.bin, runs on those of runs.bin, boards on those of boards.bin and the writer of
+// sorted maps on those of sorts.bin, which tests/make_cases.py writes: a case is a kind byte, the number expected, a 16-bit length
+// and as many bytes. Prints for each file the first cases that differ, then how many there are of each kind, and how many differ.
 use engine::Limit;
 ghost use Rattle.io.specs.Counts.{Counts};
 ghost use Prim.Native.Nat.{_≤_, _<_};
@@ -17,7 +17,7 @@ const NOT_WRITTEN: u32 = 65791;
 // What the lent buffer is filled with.
 const FILL: u8 = 0xa5;
 
-// The kinds from here on are of boards.
+// The kinds from here on are of boards, up to those of sorted maps.
 const BOARDS: u8 = 13;
 
 // Where a case has its bytes, and where the next one starts.
@@ -31,7 +31,7 @@ struct Case {
 struct Score {
     cases: u64,
     differences: u64,
-    kinds: [u64; 16],
+    kinds: [u64; 18],
 }
 
 fn load(path: &[u8], buf: &mut [u8]) -> usize
@@ -179,6 +179,31 @@ fn fuse_file(fields: &[u8], file: &[u8], out: &mut [u8]) -> u32 {
     fusion::fuse(&file[0..end], out)
 }
 
+// A refusal as a writer answers it.
+fn refused(k: u8) -> u32 {
+    65536 + k as u32
+}
+
+// A map is put in order: read, and its typed form is written, or refused as the reader says.
+fn sort_file(fields: &[u8], file: &[u8], out: &mut [u8]) -> u32 {
+    let end = answer_at(16, fields, file);
+    let reading = graph::read(&file[0..end]);
+    if reading.code != 0 {
+        return refused(reading.code);
+    }
+    sorted_graph::write(reading.graph, out)
+}
+
+// The same with the counts of the case.
+fn write_sorted(fields: &[u8], file: &[u8], out: &mut [u8]) -> u32 {
+    let end = answer_at(17, fields, file);
+    let reading = graph::read(&file[0..end]);
+    let mut table = reading.graph;
+    table.vertices = number(fields, 2);
+    table.count = number(fields, 4);
+    sorted_graph::write(table, out)
+}
+
 fn run(call: u8, rounds: u16, plan: &[u8], graph: &[u8], out: &mut [u8]) -> u32 {
     match call {
         0 => engine::pull(plan, graph, Limit::Quiet, out),
@@ -231,6 +256,8 @@ fn write_file(kind: u8, fields: &[u8], file: &[u8], out: &mut [u8]) -> u32 {
         5 => write_query(fields, file, out),
         6 => write_plan(fields, file, out),
         7 => fuse_file(fields, file, out),
+        16 => sort_file(fields, file, out),
+        17 => write_sorted(fields, file, out),
         _ => run_files(kind, fields, file, out),
     }
 }
@@ -243,7 +270,7 @@ fn lend(kind: u8, fields: &[u8], file: &[u8], lent: usize, out: &mut [u8]) -> u3
     NOT_WRITTEN
 }
 
-// Where what should be written starts: a writer writes the file that was read; or, as fusing and runs, what stands behind.
+// Where what should be written starts: a writer writes the file that was read; or, as fusing, runs and sorting, what stands behind.
 fn answer_at(kind: u8, fields: &[u8], file: &[u8]) -> usize
     ensures { λ r. ⌜ r ≤ length (now (file .entry)) ⌝ }
 {
@@ -310,7 +337,7 @@ fn more(x: u64) -> u64 {
 fn counted(score: Score, kind: u8) -> Score {
     let mut r = score;
     let k = wide(kind) as usize;
-    if k < 16 {
+    if k < 18 {
         r.kinds[k] = more(score.kinds[k]);
     }
     r.cases = more(score.cases);
@@ -331,7 +358,7 @@ fn scored(score: Score, c: Case, number: u8) -> Score {
 }
 
 fn run_all(s: &[u8]) -> Score {
-    let kinds = [0u64; 16];
+    let kinds = [0u64; 18];
     let mut score = Score {
         cases: 0,
         differences: 0,
@@ -376,6 +403,12 @@ fn print_boards(score: Score) {
     line(b"differences ", score.differences);
 }
 
+fn print_sorts(score: Score) {
+    line(b"maps sorted ", score.kinds[16]);
+    line(b"maps sorted with other counts ", score.kinds[17]);
+    line(b"differences ", score.differences);
+}
+
 fn main() {
     let mut buf = [0u8; 262144];
     let n = load(b"cases.bin", &mut buf);
@@ -384,4 +417,6 @@ fn main() {
     print_runs(run_all(&buf[..m]));
     let k = load(b"boards.bin", &mut buf);
     print_boards(run_all(&buf[..k]));
+    let j = load(b"sorts.bin", &mut buf);
+    print_sorts(run_all(&buf[..j]));
 }

@@ -1,4 +1,4 @@
-// Tries the readers and writers on the cases of cases.bin, runs on those of runs.bin, boards on those of boards.bin and the writer of
+// Tries the readers and writers on the cases of cases.bin, runs on those of runs.bin, boards on those of boards.bin and the writers of
 // sorted maps on those of sorts.bin, which tests/make_cases.py writes: a case is a kind byte, the number expected, a 16-bit length
 // and as many bytes. Prints for each file the first cases that differ, then how many there are of each kind, and how many differ.
 use engine::Limit;
@@ -179,22 +179,13 @@ fn fuse_file(fields: &[u8], file: &[u8], out: &mut [u8]) -> u32 {
     fusion::fuse(&file[0..end], out)
 }
 
-// A refusal as a writer answers it.
-fn refused(k: u8) -> u32 {
-    65536 + k as u32
-}
-
-// A map is put in order: read, and its typed form is written, or refused as the reader says.
+// A map is sorted.
 fn sort_file(fields: &[u8], file: &[u8], out: &mut [u8]) -> u32 {
     let end = answer_at(16, fields, file);
-    let reading = graph::read(&file[0..end]);
-    if reading.code != 0 {
-        return refused(reading.code);
-    }
-    sorted_graph::write(reading.graph, out)
+    sorted_graph::sort(&file[0..end], out)
 }
 
-// The same with the counts of the case.
+// A map is read, and its typed form is written sorted, with the counts of the case.
 fn write_sorted(fields: &[u8], file: &[u8], out: &mut [u8]) -> u32 {
     let end = answer_at(17, fields, file);
     let reading = graph::read(&file[0..end]);

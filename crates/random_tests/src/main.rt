@@ -1080,6 +1080,8 @@ const FUSE: u8 = 4;
 
 const JUDGE: u8 = 5;
 
+const SORT: u8 = 6;
+
 fn run(call: u8, rounds: u16, file: &[u8], graph: &[u8], out: &mut [u8]) -> u32 {
     match call {
         0 => engine::pull(file, graph, Limit::Quiet, out),
@@ -1087,6 +1089,7 @@ fn run(call: u8, rounds: u16, file: &[u8], graph: &[u8], out: &mut [u8]) -> u32 
         2 => engine::pull(file, graph, Limit::Rounds(rounds), out),
         3 => engine::push(file, graph, Limit::Rounds(rounds), out),
         4 => fusion::fuse(file, out),
+        6 => sorted_graph::sort(file, out),
         _ => plan::judge(file) as u32,
     }
 }
@@ -1144,6 +1147,29 @@ fn runs_differ(e: Expected, file: File, graph: File, whole: File, stopped: File)
     a + b + c + d
 }
 
+// The map sorted has as many bytes; sorted again it has the same ones; and so many of the four runs differ on it.
+fn sorted_differ(e: Expected, file: File, graph: File, whole: File, stopped: File) -> u64
+    ensures { λ r. ⌜ r ≤ 6 ⌝ }
+{
+    let mut f = e;
+    f.code = lesser(e.graph, 560) as u32;
+    f.file = e.graph;
+    f.lent = 560;
+    let ran = lend(SORT, f, graph, graph);
+    let made = ran.out;
+    let a = differs(SORT, f, graph, graph, made);
+    let b = differs(SORT, f, made, made, made);
+    a + b + runs_differ(e, file, made, whole, stopped)
+}
+
+// The runs on the map and on the map sorted, whose rows the expected values do not know.
+fn both_differ(e: Expected, file: File, graph: File, whole: File, stopped: File) -> u64
+    ensures { λ r. ⌜ r ≤ 10 ⌝ }
+{
+    let a = runs_differ(e, file, graph, whole, stopped);
+    a + sorted_differ(e, file, graph, whole, stopped)
+}
+
 // A query is fused: into a long buffer, into one as long as the plan, into one a byte short. The plan starts as gathered, and is run.
 fn fused_differ(e: Expected, q: File, head: File, graph: File, whole: File, stopped: File) -> u64 {
     let mut f = e;
@@ -1160,7 +1186,7 @@ fn fused_differ(e: Expected, q: File, head: File, graph: File, whole: File, stop
     let c = differs(FUSE, f, q, graph, [FILL; 560]);
     let mut g = e;
     g.file = size;
-    a + b + c + runs_differ(g, made, graph, whole, stopped)
+    a + b + c + both_differ(g, made, graph, whole, stopped)
 }
 
 // ---- damaged files
@@ -1289,7 +1315,7 @@ fn try_file(score: Score, c: Case, rows: &Rows, p: Paths, file: File, graph: Fil
     if c.query {
         return with_differences(r, fused_differ(e, file, head, graph, whole, stopped));
     }
-    with_differences(r, runs_differ(e, file, graph, whole, stopped))
+    with_differences(r, both_differ(e, file, graph, whole, stopped))
 }
 
 // A damaged file, of so many bytes.

@@ -47,7 +47,7 @@ install: lib
 	install -m 644 $(LIBRARIES) '$(DESTDIR)$(PREFIX)/lib'
 	@$(PC) '$(PREFIX)' grafs 'fuse and run' $(VERSION) '' grafs >$(PC_DIR)/grafs.pc
 	@$(PC) '$(PREFIX)' grafs_prefixed 'fuse and run' $(VERSION) ' -DGRAFS_PREFIXED' grafs_prefixed >$(PC_DIR)/grafs_prefixed.pc
-	@$(PC) '$(PREFIX)' grafs_service 'fuse, run, boards, counted runs' $(VERSION) '' service >$(PC_DIR)/grafs_service.pc
+	@$(PC) '$(PREFIX)' grafs_service 'fuse, run, boards, counted runs, sorted maps' $(VERSION) '' service >$(PC_DIR)/grafs_service.pc
 
 clean:
 	rm -rf build target

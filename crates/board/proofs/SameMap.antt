@@ -48,8 +48,8 @@ abbrev answers : Limit → List ℕ → Graph → List ℕ
 answers limit b g = answers-of limit g (board-rounds limit g (queries-of b)) (queries-of b)
 
 -- EVERY BOARD HAS THE SAME REPLY ON BOTH
-pub board-same : (m u : List ℕ) → graph-code m ≡ 0 → graph-code u ≡ 0 → SameGraph (graph-of m) (graph-of u) → Bytes m → (limit : Limit) (b : List ℕ) → Bytes b
-    → (room : ℕ) → board-reply limit b m room ≡ board-reply limit b u room
+pub board-same : (m u : List ℕ) → graph-code m ≡ 0 → graph-code u ≡ 0 → SameGraph (graph-of m) (graph-of u) → Bytes m
+    → (limit : Limit) (b : List ℕ) → Bytes b → (room : ℕ) → board-reply limit b m room ≡ board-reply limit b u room
 board-same m u ok fine same bm limit b bb room = go (eqb (run-code (board-scan b) m) 0) refl
   where
     code : run-code (board-scan b) m ≡ run-code (board-scan b) u

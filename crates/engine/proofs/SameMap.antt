@@ -1,5 +1,5 @@
--- MAPS WITH THE SAME PLACES AND THE SAME ROWS EQUALLY OFTEN: every run replies the same on both, by pull and by push, to quiet and stopped, whatever room is lent.
--- Assumes nothing.
+-- MAPS WITH THE SAME PLACES AND THE SAME ROWS EQUALLY OFTEN: every run replies the same on both, by pull and by push, to quiet and stopped, whatever room is
+-- lent. Assumes nothing.
 use Prim.Native.Nat.{ℕ}
 use mathlib.Core.Path.{_≡_, refl, sym, ap₂, _∙_}
 use mathlib.Core.Bool.{Bool, true, false}
@@ -27,7 +27,8 @@ use Rattle.engine.specs.Steps.{run-code}
 use Rattle.engine.proofs.Meant.{run-judged, run-means, run-refused}
 
 -- a plan has the same outcome on both
-pub outcome-same : {g h : Graph} → SameGraph g h → (limit : Limit) (p : Plan) → All (PathFits (g .vertices)) (p .paths) → outcome limit g p ≡ outcome limit h p
+pub outcome-same : {g h : Graph} → SameGraph g h → (limit : Limit) (p : Plan) → All (PathFits (g .vertices)) (p .paths)
+    → outcome limit g p ≡ outcome limit h p
 outcome-same same Quiet p fits = run-pull-same same p fits
 outcome-same same (Rounds r) p fits = stopped-pull-same same p fits r
 

@@ -1,5 +1,5 @@
--- GRAPHS WITH THE SAME VERTICES AND THE SAME EDGES EQUALLY OFTEN: every plan has the same outcome on both, every query the same meaning, and if the one is legal the
--- other is. Assumes nothing.
+-- GRAPHS WITH THE SAME VERTICES AND THE SAME EDGES EQUALLY OFTEN: every plan has the same outcome on both, every query the same meaning, and if the one is
+-- legal the other is. Assumes nothing.
 use Prim.Native.Nat.{ℕ, suc, _*_, _≤_, _<_}
 use mathlib.Core.Path.{_≡_, sym, ap, ap₂, _∙_, subst}
 use mathlib.Core.Bool.{true}

@@ -1,5 +1,5 @@
--- "EVERY QUESTION ANSWERS ALIKE ON BOTH" (document 02, f), a map s and what the sorted writer left of it, w: every worksheet and every board has the same reply, so
--- number, bytes and rounds, by pull and by push, to quiet and stopped, whatever room is lent; and what a query means is the same. Assumes nothing.
+-- "EVERY QUESTION ANSWERS ALIKE ON BOTH" (document 02, f), a map s and what the sorted writer left of it, w: every worksheet and every board has the same
+-- reply, so number, bytes and rounds, by pull and by push, to quiet and stopped, whatever room is lent; and what a query means is the same. Assumes nothing.
 use Prim.Native.Nat.{ℕ}
 use mathlib.Core.Path.{_≡_}
 use mathlib.Core.List.{List}

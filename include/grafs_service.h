@@ -30,7 +30,7 @@ extern "C" {
  * 34,000 bytes; the rest is margin. */
 #define GRAFS_BOARD_STACK 131072
 
-/* A thread that has so many bytes of stack left can call grafs_sort_map. Measured: some 65,000 bytes; the rest is margin. */
+/* A thread that has so many bytes of stack left can call grafs_sort_map. Measured: some 59,000 bytes; the rest is margin. */
 #define GRAFS_SORT_STACK 131072
 
 /* The tally of counted calls: three numbers, lent to each of them. A call adds one to asked, and one to answered or to refused, whatever it refuses by.

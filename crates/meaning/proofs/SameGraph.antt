@@ -1,7 +1,7 @@
 -- GRAPHS WITH THE SAME VERTICES AND THE SAME EDGES EQUALLY OFTEN: every plan has the same outcome on both, every query the same meaning, and if the one is
 -- legal the other is. Assumes nothing.
 use Prim.Native.Nat.{ℕ, suc, _*_, _≤_, _<_}
-use mathlib.Core.Path.{_≡_, sym, ap, ap₂, _∙_, subst}
+use mathlib.Core.Path.{_≡_, sym, ap, _∙_, subst}
 use mathlib.Core.Bool.{true}
 use mathlib.Core.List.{List}
 use lib.ListN.{length, getD}
@@ -9,7 +9,6 @@ use Rattle.value.specs.declared.Value.{Value}
 use Rattle.value.specs.declared.Value.the-variants.{Absent}
 use Rattle.walks.specs.Lists.{All}
 use Rattle.walks.specs.Often.{SameGraph}
-use Rattle.walks.specs.Rounds.{rounds}
 use Rattle.walks.specs.Walks.{AllTo, Edge, Graph, Within, edge, edge-at, network}
 use Rattle.walks.proofs.Often.{length-rearranged, places-of, rearranged-back}
 use Rattle.walks.proofs.Renumber.{Renumbered, all-figures, flipped, pushed-same, state-same, within-figures}
@@ -19,12 +18,12 @@ use Rattle.meaning.specs.Meaning.{Correct, Means, Outcome, PathOver, Row
 use Rattle.meaning.specs.Plan.{Plan}
 use Rattle.meaning.specs.Query.{At, Kind, PathReduction, Query, QueryTerm, each, every-edge, network-of, number, operator, over, over-where, path}
 use Rattle.meaning.specs.Query.{path-set, single, starts, written-paths}
-use Rattle.meaning.specs.Run.{pull, push, run, run-rounds, stopped}
-use Rattle.meaning.proofs.Lists.{all-weaken, map-same}
+use Rattle.meaning.specs.Run.{pull, push, run, stopped}
+use Rattle.meaning.proofs.Lists.{all-weaken}
 use Rattle.meaning.proofs.Rounds.{path-in-order, run-same, stopped-same}
 
 -- the other way round
-pub same-graph-back : {g h : Graph} → SameGraph g h → SameGraph h g
+same-graph-back : {g h : Graph} → SameGraph g h → SameGraph h g
 same-graph-back s = record { vertices-same = sym (s .vertices-same); edges-same = λ e. sym (s .edges-same e) }
 
 module _ {g h : Graph} (s : SameGraph g h) where
@@ -48,10 +47,6 @@ module _ {g h : Graph} (s : SameGraph g h) where
 
     pushes : All (λ c. push g c ≡ push h c) (p .paths)
     pushes = all-weaken (p .paths) push-same legal
-
-    -- the rounds
-    pub run-rounds-same : run-rounds (pull g) (g .vertices) p ≡ run-rounds (pull h) (h .vertices) p
-    run-rounds-same = ap₂ rounds (s .vertices-same) (map-same (pull g) (pull h) (p .paths) pulls)
 
     pub run-pull-same : run (pull g) (g .vertices) p ≡ run (pull h) (h .vertices) p
     run-pull-same = run-same (pull g) (pull h) (g .vertices) p pulls ∙ ap (λ (n : ℕ). run (pull h) n p) (s .vertices-same)
@@ -127,7 +122,7 @@ correct-same s q o c = record {
 
 module _ {g h : Graph} (s : SameGraph g h) where
   -- THE OTHER IS LEGAL TOO
-  pub graph-fits-same : GraphFits g → GraphFits h
+  graph-fits-same : GraphFits g → GraphFits h
   graph-fits-same f = record {
     some-vertex = subst (λ (n : ℕ). 0 < n) (s .vertices-same) (f .some-vertex);
     ends-fit = λ j l.

@@ -1,7 +1,7 @@
 -- What "the same places and the same rows equally often" tells apart, and what not.
 use Prim.Native.Nat.{ℕ}
 use mathlib.Core.Path.{_≡_}
-use mathlib.Core.List.{List, [], _∷_}
+use mathlib.Core.List.{[], _∷_}
 use native.Mathlib.Omega.{arith}
 use Rattle.walks.specs.Often.{SameEdges, SameGraph, same-edge}
 use Rattle.walks.specs.Walks.{Edge, Graph, edge}

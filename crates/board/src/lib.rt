@@ -1,5 +1,7 @@
 // Boards (document 02, d): "up to eight questions on the same map", bytes to bytes, by pull and by push, to the first quiet round or for a given number of
 // rounds. "one run's rounds serve the lot": the path reductions of all queries stand in one joint table, and those of each query's plan are found there.
+#![tactic(auto)]
+
 ghost use Rattle.std.specs.Prelude.{◌≡◌, ◌+◌, ◌≤◌, ◌<◌, length, get_or, drop};
 ghost use Rattle.board_text.specs.Board.{queries_code};
 ghost use Rattle.board_text.specs.Steps.{board_scan};

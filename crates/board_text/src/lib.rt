@@ -1,4 +1,6 @@
 // The bytes of boards (document 02, d): "a count byte, then each question behind its 16-bit length", judged and read.
+#![tactic(auto)]
+
 ghost use Rattle.std.specs.Prelude.{◌≡◌, ◌+◌, ◌≤◌, length, take, drop};
 ghost use Rattle.wire.specs.Wire.{at16};
 ghost use Rattle.board_text.specs.Board.{count_code};

@@ -1,6 +1,8 @@
 // Tries the readers and writers on the cases of cases.bin, runs on those of runs.bin, boards on those of boards.bin and the writers of
 // sorted maps on those of sorts.bin, which tests/make_cases.py writes: a case is a kind byte, the number expected, a 16-bit length
 // and as many bytes. Prints for each file the first cases that differ, then how many there are of each kind, and how many differ.
+#![tactic(auto)]
+
 ghost use Rattle.io.specs.Counts.{IsPrefixLen};
 ghost use Rattle.std.specs.Prelude.{◌<◌, ◌≤◌, length};
 
@@ -21,7 +23,7 @@ const FILL: u8 = 0xa5;
 const BOARDS: u8 = 13;
 
 // Where a case has its bytes, and where the next one starts.
-#[derive(Drop)]
+#[derive(Clone, Copy)]
 struct Case {
     kind: u8,
     expected: u8,
@@ -29,7 +31,7 @@ struct Case {
     next: usize,
 }
 
-#[derive(Drop)]
+#[derive(Clone, Copy)]
 struct Score {
     cases: u64,
     differences: u64,

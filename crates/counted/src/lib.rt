@@ -1,5 +1,7 @@
 // Counted runs (document 01): "The tally is one record, lent to each counted run and changed in place"; "A board is one counted run" (document 02, d).
 // The number and the buffer are those of the run that is not counted.
+#![tactic(auto)]
+
 ghost use Rattle.std.specs.Prelude.{◌≡◌, length, ltb};
 ghost use Rattle.counters.specs.Counted.{counted_by};
 ghost use Rattle.counted.specs.Counted.{Counted, asked_reply};
@@ -8,7 +10,7 @@ use counters::Counters;
 use engine::Limit;
 
 // What is run, a plan or a board, and the way it goes: the answers are the same.
-#[derive(Drop)]
+#[derive(Clone, Copy)]
 pub enum Way {
     Pull,
     Push,
@@ -17,7 +19,7 @@ pub enum Way {
 }
 
 // The number of a run, and the counters after it.
-#[derive(Drop)]
+#[derive(Clone, Copy)]
 pub struct Ended {
     pub number: u32,
     pub counters: Counters,

@@ -1,5 +1,7 @@
 // Makes the counted runs below, of worksheets and of boards, and compares the number returned, the whole buffer and the counters (document 01's
 // tally) with what was written down by hand from documents 01 and 02. Prints which cases differ, then how many there are and how many differ.
+#![tactic(auto)]
+
 ghost use Rattle.std.specs.Prelude.{◌≡◌, ◌≤◌, length};
 ghost use Rattle.counted.specs.Counted.{Counted, asked_reply};
 
@@ -46,14 +48,14 @@ const BOARD_CUT: u8 = 8;
 const BOARD_9: u8 = 9;
 
 // What a run left: its number, and the tally.
-#[derive(Drop)]
+#[derive(Clone, Copy)]
 struct Left {
     number: u32,
     counters: Counters,
 }
 
 // What a run is to leave: its number, and of an answer the rounds and the result; a second answer has the same rounds and the result 0.
-#[derive(Drop)]
+#[derive(Clone, Copy)]
 struct Wanted {
     number: u32,
     rounds: u8,
@@ -61,7 +63,7 @@ struct Wanted {
 }
 
 // How many cases were run and differed, and the tally that the last one left.
-#[derive(Drop)]
+#[derive(Clone, Copy)]
 struct Score {
     cases: u64,
     differences: u64,

@@ -1,4 +1,6 @@
 // The tally of document 01: how many runs were asked for, answered and refused.
+#![tactic(auto)]
+
 ghost use Rattle.std.specs.Prelude.{◌≡◌};
 ghost use Rattle.counters.specs.Counted.{counted_by};
 
@@ -6,7 +8,7 @@ ghost use Rattle.counters.specs.Counted.{counted_by};
 const MOST: u64 = 18446744073709551615;
 
 // The tally: "asked, answered, refused, 64 bits each".
-#[derive(Drop)]
+#[derive(Clone, Copy)]
 pub struct Counters {
     pub asked: u64,
     pub answered: u64,

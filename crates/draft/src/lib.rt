@@ -1,4 +1,6 @@
 // A draft of bytes to be written: a lent buffer, and how many of its bytes have been put. Bytes are put in place.
+#![tactic(auto)]
+
 ghost use Rattle.std.specs.Prelude.{◌≡◌, ◌∷◌, [], length, take};
 ghost use Rattle.wire.specs.Header.{header_bytes};
 ghost use Rattle.wire.specs.Wire.{Returned, fitted, le16, unless};

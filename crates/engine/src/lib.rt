@@ -1,4 +1,6 @@
 // Runs (document 01): a worksheet on a map, bytes to bytes, by pull and by push, to the first quiet round or for a given number of rounds.
+#![tactic(auto)]
+
 ghost use Rattle.std.specs.Prelude.{◌≡◌, ◌+◌, ◌*◌, ◌≤◌, length};
 ghost use Rattle.walks.specs.Lists.{All};
 ghost use Rattle.meaning.specs.Limits.{PathFits};
@@ -14,7 +16,7 @@ use packed_path::PackedPath;
 use progress::Progress;
 
 // How long a run goes on: to the first quiet round, or for a given number of rounds.
-#[derive(Drop)]
+#[derive(Clone, Copy)]
 pub enum Limit {
     Quiet,
     Rounds(u16),

@@ -1,26 +1,28 @@
 // The value of a plan's expression (document 01, worksheet), read straight from its accepted bytes: of an entry, over the values of
 // the path reductions at a vertex; of the final expression, over the results of the entries.
+#![tactic(auto)]
+
 ghost use Rattle.std.specs.Prelude.{◌≡◌, true, ◌<◌, length};
 ghost use Rattle.eval.specs.Steps.{as_found, entry_end, entry_found, evaluated, found, head, leaf_found, leaf_in, lone_in, named, one_of, rows_in};
 
 use value::Value;
 
 // The value of a term, and where the term behind it starts.
-#[derive(Drop)]
+#[derive(Clone, Copy)]
 pub struct Found {
     pub value: Value,
     pub next: usize,
 }
 
 // A term without those that it contains: a leaf's value, or an operator and where its two terms start.
-#[derive(Drop)]
+#[derive(Clone, Copy)]
 pub enum Head {
     Leaf(Found),
     Apply(u8, usize),
 }
 
 // What was found, as words alone, in which it is returned: the number, and 0 for `known` where it is absent.
-#[derive(Drop)]
+#[derive(Clone, Copy)]
 struct Words {
     known: u64,
     number: u64,

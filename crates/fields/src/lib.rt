@@ -1,4 +1,6 @@
 // Fields of terms, judged one by one (document 01, "Layouts"): "missing (1) before wrong". A byte past the end reads as 256.
+#![tactic(auto)]
+
 ghost use Rattle.std.specs.Prelude.{◌≡◌, ◌≤◌, get_or};
 ghost use Rattle.fields.specs.Fields.{opening_code, code_of, key_code, source_code};
 

@@ -1,5 +1,7 @@
 // Fusing, bytes to bytes (document 01: "Fusing puts equal chains together, in order of first writing, and reductions in order of writing"; "Fusing judges the
 // question, then 15"). The nodes of the query are gone through twice, for the two parts of the plan, each in written order.
+#![tactic(auto)]
+
 ghost use Rattle.std.specs.Prelude.{◌≡◌, ◌≤◌, cond, length, take};
 ghost use Rattle.plan_form.specs.Form.{any_set};
 ghost use Rattle.wire.specs.Wire.{Returned};
@@ -12,7 +14,7 @@ use plan_form::Form;
 use query_form::Reading;
 
 // The nodes of a plan as far as they are written: the first `len`.
-#[derive(Drop)]
+#[derive(Clone, Copy)]
 pub struct Written {
     pub list: [Node; 72],
     pub len: usize,

@@ -1,4 +1,6 @@
 // The two calls of the C service (document 01): "a result under 65,536 is the bytes written and 65,536 plus a number is a refusal".
+#![tactic(auto)]
+
 ghost use Rattle.std.specs.Prelude.{length};
 ghost use Rattle.engine.specs.declared.Limit.TheVariants.{Quiet};
 ghost use Rattle.engine.specs.Run.{run_reply};

@@ -1,10 +1,10 @@
 -- Each field of a typed form that a function is handed is as wide as its type. Assumes nothing.
 use Prim.Native.Nat.{ℕ, zero, suc, ◌<◌}
-use mathlib.Core.Path.{◌≡◌, sym, ◌∙◌}
-use mathlib.Core.List.{List, [], ◌∷◌, map}
+use mathlib.Core.Path.{◌≡◌}
+use mathlib.Core.List.{List, [], ◌∷◌}
 use native.Mathlib.Omega.{arith}
 use native.Mathlib.Nat.{le_of_suc-le-suc}
-use lib.ListN.{length, get_or, length-map}
+use lib.ListN.{length, get_or}
 use denote.Array.{each}
 use denote.Laws.{Is}
 use denote.Shadow.{shadow}
@@ -25,7 +25,7 @@ pub record TableFits (t : EdgeTable) : Type 0 where
   pub rows : (i : ℕ) → i < length t.rows → EdgeFits (row_edge (get_or t.rows i blank_row))
 
 -- from what the logic knows of an array of rows
-rows_fit : (rs : List EdgeRow) (us : List Val) → shadow (each (row.the_field).row.Denot (row.the_field).row.own_val (map (row.the_field).into rs) us) →
+rows_fit : (rs : List EdgeRow) (us : List Val) → shadow (each (row.the_row).Denot (row.the_row).own_val rs us) →
     (i : ℕ) → i < length rs → EdgeFits (row_edge (get_or rs i blank_row))
 rows_fit [] us g i h = absurd (omega arith)
 rows_fit (r ∷ rs) [] g i h = absurd g
@@ -42,6 +42,6 @@ table_fits t vs g =
     record {
       vertices = omega (arith, f.0.1);
       count = omega (arith, f.1.0.1);
-      room = sym (length-map t.rows (row.the_field).into) ∙ a.1.0.1;
+      room = a.1.0.1;
       rows = rows_fit t.rows a.0 a.1.1;
     }

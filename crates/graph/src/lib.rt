@@ -1,4 +1,6 @@
 // Graphs (document 01, map `LPM`): judged on their bytes, read into a typed form, and written from it.
+#![tactic(auto)]
+
 ghost use Rattle.std.specs.Prelude.{◌≡◌, map, ◌+◌, ◌*◌, ◌/◌, ◌%◌, ◌<◌, ◌≤◌, length, take, set};
 ghost use Rattle.std.proofs.lemmas.List.Edits.{sets};
 ghost use Rattle.wire.specs.Wire.{at16, Returned};
@@ -18,7 +20,7 @@ ghost use Rattle.graph.specs.Graph.{
 ghost use Rattle.graph.specs.Encode.{row_edge, edge_bytes, edges_bytes, head_bytes, table_bytes, write_reply};
 
 // An edge: "from, to, seconds, crate size".
-#[derive(Drop)]
+#[derive(Clone, Copy)]
 pub struct EdgeRow {
     pub from: u16,
     pub to: u16,
@@ -27,7 +29,7 @@ pub struct EdgeRow {
 }
 
 // The typed form of a graph: how many vertices it has, and its edges, the first `count` rows.
-#[derive(Drop)]
+#[derive(Clone, Copy)]
 pub struct EdgeTable {
     pub vertices: u16,
     pub count: u16,
@@ -35,7 +37,7 @@ pub struct EdgeTable {
 }
 
 // What was read: 0 and the graph, or the number of the first refusal and a table of nothing.
-#[derive(Drop)]
+#[derive(Clone, Copy)]
 pub struct Reading {
     pub code: u8,
     pub graph: EdgeTable,

@@ -1,4 +1,6 @@
 // The typed form of terms (document 01, "Layouts"): one after the other in written order, read from bytes and put into a draft.
+#![tactic(auto)]
+
 ghost use Rattle.std.specs.Prelude.{◌≡◌, ◌+◌, ◌*◌, ◌≤◌, ◌<◌, length, take, ◌∷◌};
 ghost use Rattle.wire.specs.Wire.{le32};
 ghost use Rattle.nodes.specs.Steps.{behind_set, entry_tagged, reduction_tag, term_at, next_at, nodes_read};
@@ -9,7 +11,7 @@ use packed_path::PackedPath;
 
 // A term without those that it contains, or the reduction byte before an entry of a plan. A path reduction with one source or from anywhere (0x10) and one with
 // a set of sources (0x13) are different terms.
-#[derive(Drop)]
+#[derive(Clone, Copy)]
 pub enum Term {
     Empty,
     Path(PackedPath),
@@ -26,7 +28,7 @@ pub enum Term {
 }
 
 // A term in a struct: a field of a struct can be an array of structs, and none of enums.
-#[derive(Drop)]
+#[derive(Clone, Copy)]
 pub struct Node {
     pub term: Term,
 }

@@ -1,6 +1,8 @@
 // A path reduction's figures at a vertex as one 64-bit word, of which less is better: each figure in bits of its own, the first key's highest,
 // complemented where the greatest is kept, a repeated key dropped. So the better of two is the lesser word, and one more edge is an addition and
 // a bound on the low 16 bits.
+#![tactic(auto)]
+
 ghost use Rattle.std.specs.Prelude.{◌≡◌, cond, [], ◌∷◌, ◌+◌, ◌*◌, ◌^◌, ◌<◌, ◌≤◌, min, max, eqb};
 ghost use Rattle.walks.specs.Keys.{measure, kept};
 ghost use Rattle.packed_figures.specs.Packed.{Extends, Sound, Starts, along, base_word, constants, figure_of, flip_of, width};
@@ -9,7 +11,7 @@ ghost use Rattle.packed_figures.specs.Steps.{SmallUnits, key_or_before, last_shi
 // What is fixed for a path reduction: what one more edge adds to a word and whether a weight counts, the last key, by which an edge bounds the low 16 bits,
 // what
 // the empty walk has, where the value stands.
-#[derive(Drop)]
+#[derive(Clone, Copy)]
 pub struct PathConstants {
     pub edges: u64,
     pub weight: u64,
@@ -24,7 +26,7 @@ pub struct PathConstants {
 }
 
 // The units of three keys: what one more of a figure adds to a word.
-#[derive(Drop)]
+#[derive(Clone, Copy)]
 struct Units {
     pub first: u64,
     pub second: u64,

@@ -1,11 +1,13 @@
 // A path reduction (document 01: chain) as a small struct of numbers, one for questions, worksheets and runs, compared field by field.
+#![tactic(auto)]
+
 ghost use Rattle.std.specs.Prelude.{◌≡◌, ◌<◌, ◌≤◌};
 ghost use Rattle.packed_path.specs.Packed.{no_path, same_packed, sources_of, with_first};
 ghost use Rattle.packed_path.specs.Steps.{begins, first_of, rest_of};
 
 // `keys` is the key count and three keys, a byte each, the count lowest and unused ones 0; `count` is how many sources there are, 0 for anywhere; the sources
 // are a byte each, the first lowest: eight in `low`, eight in `high`.
-#[derive(Drop)]
+#[derive(Clone, Copy)]
 pub struct PackedPath {
     pub keys: u32,
     pub count: u8,

@@ -1,5 +1,7 @@
 // The fields of a path reduction (document 01, "Layouts": key count, keys, start; document 02, b: a set of starts), judged in turn, and the path reduction read
 // from them.
+#![tactic(auto)]
+
 ghost use Rattle.std.specs.Prelude.{◌≡◌, ◌+◌, ◌*◌, ◌<◌, ◌≤◌, length, get_or};
 ghost use Rattle.packed_path.specs.Packed.{keys_number};
 ghost use Rattle.path_fields.specs.Paths.{counted_sources, key_fields_code, keys_at, keys_code, one_source, path_at, path_code};

@@ -1,4 +1,6 @@
 // Plans (document 01, worksheet `LPW`): judged and read.
+#![tactic(auto)]
+
 ghost use Rattle.std.specs.Prelude.{◌≡◌, ◌+◌, ◌≤◌, ◌<◌, length, get_or};
 ghost use Rattle.progress.specs.Progress.{ended, started};
 ghost use Rattle.terms.specs.Steps.{Keeps};

@@ -1,4 +1,6 @@
 // Plans in their typed form (document 01, worksheet `LPW`): read from bytes as a run needs them, and written to a lent buffer.
+#![tactic(auto)]
+
 ghost use Rattle.std.specs.Prelude.{◌≡◌, ◌≤◌, length, take};
 ghost use Rattle.draft.specs.Steps.{draft, put_list};
 ghost use Rattle.wire.specs.Wire.{Returned};
@@ -9,7 +11,7 @@ use packed_path::PackedPath;
 
 // A plan: its version and its kind; the first `paths` of its path reductions; how many entries it has; and the first `count` of its nodes: for each entry its
 // reduction byte, the terms of its condition where that byte has 128 added, and those of its value; then the terms of the final expression.
-#[derive(Drop)]
+#[derive(Clone, Copy)]
 pub struct Form {
     pub version: u8,
     pub kind: u8,
@@ -21,7 +23,7 @@ pub struct Form {
 }
 
 // What was read: 0 and the plan; or the refusal and nothing.
-#[derive(Drop)]
+#[derive(Clone, Copy)]
 pub struct Reading {
     pub code: u8,
     pub form: Form,

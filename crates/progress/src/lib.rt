@@ -1,5 +1,7 @@
 // How far a reading of a question or worksheet has come (document 01, "Layouts": "judged left to right"): before the first term, after a
 // refusal, after the last term.
+#![tactic(auto)]
+
 ghost use Rattle.std.specs.Prelude.{◌≡◌};
 ghost use Rattle.progress.specs.Progress.{blank, started, ended};
 
@@ -7,7 +9,7 @@ use packed_path::PackedPath;
 
 // How far a reading has come: `code` is 0, or the number of the refusal; `at` is the next byte, `terms` how many terms have been read so far;
 // `paths` is how many path reductions `table` holds so far; `reductions` is how many vertex reductions (in a worksheet: entries) have been met so far.
-#[derive(Drop)]
+#[derive(Clone, Copy)]
 pub struct Progress {
     pub code: u8,
     pub at: usize,

@@ -1,4 +1,6 @@
 // Queries (document 01, question `LPQ`): judged and read.
+#![tactic(auto)]
+
 ghost use Rattle.std.specs.Prelude.{◌≡◌};
 ghost use Rattle.query.specs.Query.{term_kind, query_scan, query_code};
 

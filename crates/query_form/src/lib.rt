@@ -1,4 +1,6 @@
 // Queries in their typed form (document 01, question `LPQ`): read from bytes, and written to a lent buffer.
+#![tactic(auto)]
+
 ghost use Rattle.std.specs.Prelude.{◌≡◌, ◌≤◌, length, take};
 ghost use Rattle.wire.specs.Wire.{Returned};
 ghost use Rattle.query_form.specs.Form.{form_bytes, write_reply, blank_reading, query_reading};
@@ -7,7 +9,7 @@ use nodes::{Node, Term};
 use packed_path::PackedPath;
 
 // A query: its kind and the first `count` of its terms in written order.
-#[derive(Drop)]
+#[derive(Clone, Copy)]
 pub struct Form {
     pub kind: u8,
     pub count: usize,
@@ -15,7 +17,7 @@ pub struct Form {
 }
 
 // What was read: 0 and the query, the table of its different path reductions and how many reductions it has; or the refusal and nothing.
-#[derive(Drop)]
+#[derive(Clone, Copy)]
 pub struct Reading {
     pub code: u8,
     pub form: Form,

@@ -3,6 +3,8 @@
 // rounds. Path reductions come from a small pool, so that queries share them and some boards have nine. Some boards are damaged. By which
 // number a board is refused is worked out on its bytes: only the judges of one query and of the graph are the library's, and two path
 // reductions are the same where their bytes are. Prints what the boards were like, and how many calls differ.
+#![tactic(auto)]
+
 ghost use Rattle.std.specs.Prelude.{◌≤◌};
 
 use engine::Limit;
@@ -39,7 +41,7 @@ type File = [u8; 1024];
 // A board as far as it is written: the next random number, the one that the pool is drawn from, how many path reductions the pool has, how
 // many vertices; the terms that are due, 256 for a result term and 1 for a vertex term, which come first, and how many may still be written;
 // where the next byte goes.
-#[derive(Drop)]
+#[derive(Clone, Copy)]
 struct Draft {
     seed: u64,
     pool: u64,
@@ -54,7 +56,7 @@ struct Draft {
 // 3 left-over bytes, 4 a ninth path reduction, 5 the graph, 6 a source, 7 the length lent, 8 not; where the next query starts; how many bytes the
 // answers have; how many different path reductions there are, up to nine, and where each is first written; whether one stands in two queries; the
 // greatest source.
-#[derive(Drop)]
+#[derive(Clone, Copy)]
 struct Reading {
     number: u8,
     cause: usize,
@@ -67,7 +69,7 @@ struct Reading {
 }
 
 // What the buffer should hold, and the least and the greatest of the separate rounds.
-#[derive(Drop)]
+#[derive(Clone, Copy)]
 struct Wanted {
     out: File,
     least: u64,
@@ -75,7 +77,7 @@ struct Wanted {
 }
 
 // The rounds at which a run is stopped, the length lent, and what a call should return.
-#[derive(Drop)]
+#[derive(Clone, Copy)]
 struct Given {
     stop: u16,
     lent: usize,
@@ -84,7 +86,7 @@ struct Given {
 
 // The boards by why they were refused; how many of those that were answered have a path reduction in two queries, eight of them, separate rounds
 // that differ.
-#[derive(Drop)]
+#[derive(Clone, Copy)]
 struct Score {
     seed: u64,
     causes: [u64; 9],

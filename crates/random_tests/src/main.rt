@@ -4,6 +4,8 @@
 // values of its two terms, a vertex reduction goes over all vertices, with a condition over those where it is a number other than 0. So
 // a query is compared UNFUSED, as document 01 has it: "each chain where it is written". Some files are damaged instead: they are
 // refused, or the reader of plans takes what is run or written. Prints what the cases were like, and how many calls differ.
+#![tactic(auto)]
+
 ghost use Rattle.std.specs.Prelude.{◌<◌, ◌≤◌};
 
 use engine::Limit;
@@ -52,7 +54,7 @@ type File = [u8; 560];
 // a byte each and the least lowest: one more than the source. With none, which is anywhere, they are 0.
 type Table = [u64; 8];
 
-#[derive(Drop)]
+#[derive(Clone, Copy)]
 struct Paths {
     count: usize,
     list: Table,
@@ -67,7 +69,7 @@ type Rows = [u16; 24];
 // byte goes, how many terms may still be added to those that are due, how many terms, path reductions and vertex reductions are written,
 // the least depth left that was met, the last term's tag or the byte of an entry just begun, where the last expression starts, and the
 // last condition (0 for none).
-#[derive(Drop)]
+#[derive(Clone, Copy)]
 struct Case {
     seed: u64,
     query: bool,
@@ -93,7 +95,7 @@ struct Case {
 
 // What a call should return for the lengths of its files and the length lent, and the rounds: of the run to the end, and those at which
 // it is stopped.
-#[derive(Drop)]
+#[derive(Clone, Copy)]
 struct Expected {
     code: u32,
     file: usize,
@@ -103,7 +105,7 @@ struct Expected {
     stop: u16,
 }
 
-#[derive(Drop)]
+#[derive(Clone, Copy)]
 struct Score {
     seed: u64,
     cases: u64,
@@ -1099,7 +1101,7 @@ fn run(call: u8, rounds: u16, file: &[u8], graph: &[u8], out: &mut [u8]) -> u32 
 }
 
 // What a call returned, and the buffer after it.
-#[derive(Drop)]
+#[derive(Clone, Copy)]
 struct Ran {
     code: u32,
     out: File,

@@ -1,5 +1,7 @@
 // Rounds of all path reductions of a plan on one table (document 01: pull run, push run; crate table). Rounds are outside, path reductions inside: after each
 // round all have their figures. `work` is room for one path reduction's round at a time, lent once: what is left in it is free, and it is as long as it was.
+#![tactic(auto)]
+
 ghost use Rattle.std.specs.Prelude.{◌≡◌, not, suc, ◌+◌, ◌*◌, ◌<◌, ◌≤◌, T, length};
 ghost use Rattle.walks.specs.Keys.{legal_keys};
 ghost use Rattle.walks.specs.Lists.{All};

@@ -1,4 +1,6 @@
 // The answer of a run (document 01, "an answer row holds one"), from the bytes of an accepted plan and the table of figures that the run has left.
+#![tactic(auto)]
+
 ghost use Rattle.std.specs.Prelude.{◌≡◌, ◌+◌, ◌*◌, ◌%◌, ◌≤◌, ◌<◌, min, length, get_or};
 ghost use Rattle.value.specs.Value.{reduce, values};
 ghost use Rattle.wire.specs.Wire.{Returned};

@@ -1,5 +1,7 @@
 // The calls of the C service (document 02): document 01's `fuse` and `run`, and every other call by its own name. "a result under 65,536 is the bytes
 // written and 65,536 plus a number is a refusal". The tally of a counted call is an array of three: asked, answered, refused.
+#![tactic(auto)]
+
 ghost use Rattle.std.specs.Prelude.{length};
 ghost use Rattle.board.specs.Reply.{board_reply};
 ghost use Rattle.counted.specs.Counted.{asked_reply};

@@ -5,6 +5,8 @@
 // these a vertex has one word more, which it lends to the edges from it in a round: its word of the round before with one more edge, or ABSENT where its edges
 // do not count. So no edge needs a test, and the table can be changed while former words are read. Between rounds all of these are ABSENT.
 // `work` has two sets, 0 the vertices that a round walks, 1 those that it changes.
+#![tactic(auto)]
+
 ghost use Rattle.std.specs.Prelude.{◌≡◌, false, ℕ, ◌+◌, ◌*◌, ◌<◌, ◌≤◌, ltb, length};
 ghost use Rattle.wire.specs.Wire.{at16};
 ghost use Rattle.vertex_set.specs.Sets.{emptied, joined, member, next_member};

@@ -1,5 +1,7 @@
 // The reader of terms, of questions and worksheets alike (document 01, "Layouts"): bytes judged left to right, each term by the
 // numbers 1, 12, 11, 9 and then its fields. The result is how far the reading has come, or one blank state with the refusal.
+#![tactic(auto)]
+
 ghost use Rattle.std.specs.Prelude.{◌≡◌, ◌+◌, ◌≤◌, ◌<◌, max, cond, eqb, length};
 ghost use Rattle.terms.specs.Steps.{blank_front, expression, forwarded, Holds, HoldsAll, Keeps, refused_front};
 ghost use Rattle.terms.specs.Terms.{alone, refused_step, slot_of, kept_path, advanced, path_step, reduce_step, index_step, set_step};
@@ -9,7 +11,7 @@ use packed_path::PackedPath;
 use progress::Progress;
 
 // The four kinds of terms: place terms and result terms of a question, entries' expressions and final expressions of a worksheet.
-#[derive(Drop)]
+#[derive(Clone, Copy)]
 pub enum TermKind {
     OfVertex,
     OfResult,
@@ -18,7 +20,7 @@ pub enum TermKind {
 }
 
 // A term read without those that it contains, how many of them follow and of what kind they are.
-#[derive(Drop)]
+#[derive(Clone, Copy)]
 pub struct Step {
     pub progress: Progress,
     pub follow: u8,
@@ -309,7 +311,7 @@ pub fn read_term(s: &[u8], w: Progress, kind: TermKind, left: usize) -> Progress
 // ---- expressions of worksheets
 
 // How far the reading of a worksheet has come, without its table: no expression changes that, and it is long to hand on at each term.
-#[derive(Drop)]
+#[derive(Clone, Copy)]
 pub struct Front {
     pub code: u8,
     pub at: usize,
@@ -319,7 +321,7 @@ pub struct Front {
 }
 
 // A term of an expression read without those that it contains; after an operator two follow.
-#[derive(Drop)]
+#[derive(Clone, Copy)]
 pub struct FrontStep {
     pub front: Front,
     pub applies: bool,

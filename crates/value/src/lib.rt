@@ -1,24 +1,26 @@
 // Values, the operators and reductions on them, and rows of values (document 01, "Meaning").
+#![tactic(auto)]
+
 ghost use Rattle.std.specs.Prelude.{◌≡◌, ◌+◌, ◌-◌, ◌*◌, ◌/◌, min, max, leb, eqb, take, cond};
 ghost use Rattle.value.specs.Value.{number, truth, both, either, beside_absent, compute, operate, reduce, values, counts};
 ghost use Rattle.value.specs.Steps.{start, so_far, joining, step, finish, where_counts};
 
 // "A value is a number or is absent."
-#[derive(Drop)]
+#[derive(Clone, Copy)]
 pub enum Value {
     Absent,
     Number(u64),
 }
 
 // "an answer row holds one"
-#[derive(Drop)]
+#[derive(Clone, Copy)]
 pub struct Row {
     pub value: Value,
 }
 
 // What a reduction has met so far: no number yet, or the value of those met. A sum too large is Reached(Absent), and stays so by its own rule (`step_of`),
 // whatever operators give beside an absent operand.
-#[derive(Drop)]
+#[derive(Clone, Copy)]
 pub enum Partial {
     Empty,
     Reached(Value),

@@ -7,19 +7,19 @@ use mathlib.Core.List.{List, [], ◌∷◌}
 use native.Mathlib.Omega.{arith}
 use native.Mathlib.Nat.{div-le_self, div-one, lt_of_le_of_lt}
 use native.Mathlib.Decide.{ℕ_discrete, dec_lt}
-use borrow.Author.Tests.{eqb-true, eqb-false, eq-eqb, ne_eqb, lt-ltb, le-ltb}
+use borrow.Author.Tests.{eq-eqb, ne_eqb, lt-ltb, le-ltb}
 use lib.Bits.{bit_or}
 use lib.Count.{count_trailing_zeros}
 use lib.Pow.{shr-shr}
 use lib.Dec.{eqb, ltb}
 use lib.ListN.{length, get_or, set, replicate, length-set}
-use lib.Seq.{sets, length-sets, get_or-set_same, get_or-set_other, ext_get_or}
+use lib.Seq.{sets, length-sets, get_or-set_same, get_or-set_other}
 use Rattle.vertex_set.specs.Least.{some_below}
 use Rattle.vertex_set.specs.Sets.{Met, above, digit, emptied, filled, inserted, joined, joined_chosen, member, next_member, ones, replaced}
 use Rattle.vertex_set.specs.declared.Member.{Member}
-use Rattle.vertex_set.proofs.Digits.{digit_high, digit_none, digit_ones, digit_or, digit_power, digit_shifted, same_digits, trailing_low, trailing_lt}
+use Rattle.vertex_set.proofs.Digits.{digit_high, digit_none, digit_ones, digit_or, digit_power, digit_shifted, trailing_low, trailing_lt}
 use Rattle.vertex_set.proofs.Digits.{trailing_set}
-use Rattle.vertex_set.proofs.Least.{Least, least_end, least_found, least_passed, least_same, least_unique}
+use Rattle.vertex_set.proofs.Least.{Least, least_end, least_found, least_passed, least_unique}
 
 or_false : (b : Bool) → b ≡ (b || false)
 or_false true = refl

@@ -1,12 +1,14 @@
 // Sets of vertices below 256, four words of 64 bits each. A lent table of words holds sets in turn: set f is the four words from 4 f on. A lone set is set 0 of
 // four words. Members come in rising order by `first` and `after`.
+#![tactic(auto)]
+
 ghost use Rattle.std.specs.Prelude.{◌≡◌, ◌+◌, ◌*◌, ◌-◌, ◌/◌, ◌^◌, ◌≤◌, ◌<◌, [], ◌∷◌, cond, length, get_or};
 ghost use Rattle.std.specs.Int.Count.{count_trailing_zeros};
 ghost use Rattle.std.proofs.lemmas.List.Edits.{sets};
 ghost use Rattle.vertex_set.specs.Sets.{Met, above, emptied, filled, four, inserted, joined, ones, replaced};
 
 // A member, and the digits above it in its word: so the next one in the word is found without reading it again. No member is 256.
-#[derive(Drop)]
+#[derive(Clone, Copy)]
 pub struct Member {
     pub vertex: usize,
     pub above: u64,
@@ -107,7 +109,7 @@ pub fn join(words: &mut [u64], f: usize, others: &[u64], g: usize)
 // ---- a set by itself
 
 // Its four words: a loop that joins sets keeps them at hand.
-#[derive(Drop)]
+#[derive(Clone, Copy)]
 pub struct Four {
     pub a: u64,
     pub b: u64,

@@ -1,6 +1,8 @@
 // The value of a path reduction by walking outright, for tests: all walks to a vertex, of at most so many edges, are walked from
 // their end backwards, once for each key. Written from document 01, "Meaning", and document 02, b, alone; it has no rounds and no table
 // of figures.
+#![tactic(auto)]
+
 ghost use Rattle.std.specs.Prelude.{◌≡◌, ◌+◌, ◌*◌, ◌≤◌, ◌<◌, min, get_or};
 ghost use Rattle.walked.specs.Walked as spec;
 ghost use Rattle.walked.specs.Steps as steps;
@@ -9,7 +11,7 @@ use value::Value;
 
 // A path reduction (document 01: chain): the first `count` of the keys, and the first `starts` of the sources, "a set count (0 for
 // anywhere) and its starts" (document 02, b).
-#[derive(Drop)]
+#[derive(Clone, Copy)]
 pub struct PathReduction {
     pub keys: [u8; 3],
     pub count: usize,
@@ -18,14 +20,14 @@ pub struct PathReduction {
 }
 
 // The figures of the keys (0 for a key that is not there), where there is a walk.
-#[derive(Drop)]
+#[derive(Clone, Copy)]
 pub struct Figures {
     pub present: bool,
     pub figures: [u64; 3],
 }
 
 // "A walk is a run of passages": where it starts, how many they are, their seconds added up, and the smallest crate size.
-#[derive(Drop)]
+#[derive(Clone, Copy)]
 pub struct Walk {
     pub source: u16,
     pub edges: u64,
@@ -34,7 +36,7 @@ pub struct Walk {
 }
 
 // The walks kept so far: those with the figures `best` in the first `passed` keys. The next key is to be judged.
-#[derive(Drop)]
+#[derive(Clone, Copy)]
 pub struct Kept {
     pub path: PathReduction,
     pub best: [u64; 3],

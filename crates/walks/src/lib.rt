@@ -1,9 +1,11 @@
 // The table of keys (document 01, "Layouts"). The theory of walks and rounds stands in specs/ and proofs/.
+#![tactic(auto)]
+
 ghost use Rattle.std.specs.Prelude.{◌≡◌};
 ghost use Rattle.walks.specs.Keys.{key_row, known};
 
 // The value of a walk that a key looks at.
-#[derive(Drop)]
+#[derive(Clone, Copy)]
 pub enum Measure {
     // "passages walked"
     Edges,
@@ -16,14 +18,14 @@ pub enum Measure {
 }
 
 // Which value of a walk is kept.
-#[derive(Drop)]
+#[derive(Clone, Copy)]
 pub enum Extreme {
     Least,
     Greatest,
 }
 
 // A key: the figure used, which is kept, and whether it may stand before the last key.
-#[derive(Drop)]
+#[derive(Clone, Copy)]
 pub struct KeyRow {
     pub measure: Measure,
     pub kept: Extreme,

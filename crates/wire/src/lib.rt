@@ -1,5 +1,7 @@
 // What every format shares: the first five bytes, the reply to a call, and bytes laid into a lent buffer (document 01, "Layouts" and
 // "Numbers at the desk").
+#![tactic(auto)]
+
 ghost use Rattle.std.specs.Prelude.{◌≡◌, ◌≤◌, min, length, get_or, take};
 ghost use Rattle.wire.specs.Header.{header_code, version_code};
 ghost use Rattle.wire.specs.Wire.{at16, at32, fitted, Returned};
@@ -88,6 +90,6 @@ pub fn lay(src: &[u8], n: u16, out: &mut [u8]) -> u32
     if out.len() < count {
         return 65551;
     }
-    bytes::copy(&src[..count], out);
+    out[..count].copy_from_slice(&src[..count]);
     count as u32
 }

@@ -17,6 +17,7 @@ use types.Kit.{‵, ◌$◌, ◌∵◌, !, qed, move, keep, fsplit, fjoin, done}
 use denote.RattleType.{RattleType, owns}
 use denote.Builtin.{u8}
 use denote.Ref.{Bor}
+use denote.MutBor.{MutBor}
 use denote.Slice.{slice_val, ShrSlice, MutSlice}
 use denote.Steps.{nothing}
 use denote.Struct.Laws as LL
@@ -31,7 +32,7 @@ use Rattle.counted.specs.declared.Way.{Way}
 use Rattle.counted.specs.contracts.Way as D
 use Rattle.counted.proofs.Way.TheLaws as D'
 
--- the machine values of counters, of a way, of a limit and of a slice
+-- the machine values of counters, of a way, of a limit and of a slice, lent by `&` and by `&mut`
 abbrev pub val_of : Counters → Val
 val_of = LL.val T.the_type T'.the_laws
 
@@ -44,28 +45,31 @@ limit_val = EL.val L.the_type L'.the_laws
 abbrev pub slice : Bor (List ℕ) → Val
 slice s = slice_val s.ref_ptr (length s.now)
 
+abbrev pub mut_slice : MutBor (List ℕ) → Val
+mut_slice s = slice_val s.ref_ptr (length s.now)
+
 abbrev pub Args : Type 0 → Type 0
-Args X = Way × (Bor (List ℕ) × (Bor (List ℕ) × (Limit × (Bor (List ℕ) × (X × Unit {0})))))
+Args X = Way × (Bor (List ℕ) × (Bor (List ℕ) × (Limit × (MutBor (List ℕ) × (X × Unit {0})))))
 
 abbrev pub Vals : Type 0
 Vals = List Val × (List Val × (List Val × (List Val × (List Val × (List Val × Unit {0})))))
 
-module _ (way : Way) (asked graph : Bor (List ℕ)) (limit : Limit) (out : Bor (List ℕ)) where
+module _ (way : Way) (asked graph : Bor (List ℕ)) (limit : Limit) (out : MutBor (List ℕ)) where
   abbrev pub args : {X : Type 0} → X → Args X
   args x = (way, (asked, (graph, (limit, (out, (x, tt))))))
 
   abbrev pub vals : Val → Vals
-  vals v = (way_val way ∷ [], (slice asked ∷ [], (slice graph ∷ [], (limit_val limit ∷ [], (slice out ∷ [], (v ∷ [], tt))))))
+  vals v = (way_val way ∷ [], (slice asked ∷ [], (slice graph ∷ [], (limit_val limit ∷ [], (mut_slice out ∷ [], (v ∷ [], tt))))))
 
   abbrev pub passed : Val → List Val
-  passed v = way_val way ∷ slice asked ∷ slice graph ∷ limit_val limit ∷ slice out ∷ v ∷ []
+  passed v = way_val way ∷ slice asked ∷ slice graph ∷ limit_val limit ∷ mut_slice out ∷ v ∷ []
 
   module _ (κ₁ κ₂ κ₃ : Lft) where
     abbrev pub Handed : Fml
     Handed = fsep ((D.the_row).own_val way (way_val way ∷ []))
         (fsep ((ShrSlice (named 0) κ₁ u8).own_val asked (slice asked ∷ []))
         (fsep ((ShrSlice (named 1) κ₂ u8).own_val graph (slice graph ∷ []))
-        (fsep ((L.the_row).own_val limit (limit_val limit ∷ [])) ((MutSlice (named 2) κ₃ u8).own_val out (slice out ∷ [])))))
+        (fsep ((L.the_row).own_val limit (limit_val limit ∷ [])) ((MutSlice (named 2) κ₃ u8).own_val out (mut_slice out ∷ [])))))
 
     module _ (R : RattleType) (x : R.Denot) (v : Val) where
       -- what all own

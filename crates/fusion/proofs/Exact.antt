@@ -25,14 +25,14 @@ use Rattle.plan.proofs.Exact as reader
 use Rattle.plan.proofs.Longest.{plan_short}
 use Rattle.plan_form.specs.declared.Form.{Form}
 use Rattle.plan_form.specs.Form.{any_set, body_nodes, entries_nodes, form_bytes, held_code, write_reply}
-use Rattle.plan_form.specs.Form as plan-form
+use Rattle.plan_form.specs.Form as plan_form
 use Rattle.plan_form.proofs.Exact.{body_size, few_entries, held_form, write_form}
 use Rattle.plan_form.proofs.Written.{version_is}
 use Rattle.query.specs.Query.{encode, query_code}
 use Rattle.query.specs.Tree.{query_of}
 use Rattle.query.proofs.Exact.{read_complete}
 use Rattle.query.proofs.Tree.{query_back, query_read}
-use Rattle.query_form.specs.declared.Form as query-form
+use Rattle.query_form.specs.declared.Form as query_form
 use Rattle.query_form.specs.declared.Reading.{Reading}
 use Rattle.query_form.specs.Form.{form_of, query_reading}
 use Rattle.query_form.proofs.Exact.{ReadAs, read_form}
@@ -167,7 +167,7 @@ fuse_steps s b room = go (eqb (query_code s) 0) refl
 -- THE REPLY TO A LEGAL QUERY IS THE ENCODING OF ITS FUSED TREE, or 15 where that does not fit
 pub fuse_encodes : (q : Query) → QueryLegal 256 q → (room : ℕ) → fuse_reply (encode q) room ≡ fitted (plan.encode (fuse q)) room
 unfolding fuse_reply
-fuse_encodes q h room = rw ((read_complete q h).accepted, query_back q h) refl
+fuse_encodes q h room = rw (read_complete q h).accepted (ap (λ (x : Query). fitted (plan.encode (fuse x)) room) (query_back q h))
 
 -- with room for 560 bytes nothing but the query is refused
 pub fuse_fits : (q : Query) → QueryLegal 256 q → (room : ℕ) → 560 ≤ room → fuse_reply (encode q) room ≡ done (plan.encode (fuse q))

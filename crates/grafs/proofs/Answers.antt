@@ -68,7 +68,7 @@ answers limit h s m bs bm graph_ok starts plan_before plan_after fused before af
     let there = legal_there (at16 m 5) p (fuse_legal 256 q r.0) fits in
     let is = ap (λ (t : List ℕ). run_reply limit t m (length before)) first
     ∙ run_answers p (fuse_legal 256 q r.0) m graph_ok fits limit (length before) in
-    let call = subst (λ (x : Reply). Returned x number before after) is c.run-call in
+    let call = subst (λ (x : Reply). Returned x number before after) is c.run_call in
     let kind = kind_fused q in
     let text = answer.encode (at16 m 5) (kind_of p.body) (outcome limit g p) in
     let size_is = encode_size g legal p there limit h in

@@ -10,9 +10,8 @@ use native.Mathlib.Decide.{dec_le}
 use native.Mathlib.Nat.{not-suc-le-zero, zero-add}
 use borrow.Author.Tests.{eq-eqb, ne_eqb}
 use denote.Laws.{Is}
-use denote.Struct.Field.{u8-field, u16-field}
 use lib.Dec.{eqb, ltb}
-use lib.ListN.{length, get_or, take, drop, set, length-map, length-take, drop_of_length-le}
+use lib.ListN.{length, get_or, take, drop, set, length-take, drop_of_length-le}
 use lib.Seq.{drop-cons, get_or-take, get_or-set_same, get_or-set_other, sets, sets-eq}
 use mir.Val.{Val}
 use Rattle.value.specs.declared.Value.{Value}
@@ -44,7 +43,7 @@ use Rattle.walked.specs.Walked.{
   with_edge,
 }
 use Rattle.walked.specs.Steps.{agrees, is_kept, judged}
-use Rattle.walked.specs.contracts.PathReduction as path-reduction
+use Rattle.walked.specs.contracts.PathReduction as path_reduction
 
 and_false : (b : Bool) → (b && false) ≡ false
 and_false true = refl
@@ -362,12 +361,12 @@ module _ (rows : List ℕ) (path : PathReduction) (before : ℕ) where
 pub keys_fit : (path : PathReduction) (vs : List Val) → Is path_reduction.the_row path vs → length path.keys ≡ 3
 keys_fit path vs g =
     let a = g.1.1.0 in
-    sym (length-map path.keys u8-field.into) ∙ a.1.0.1
+    a.1.0.1
 
 pub sources_fit : (path : PathReduction) (vs : List Val) → Is path_reduction.the_row path vs → length path.sources ≡ 16
 sources_fit path vs g =
     let a = g.1.1.1.1.0 in
-    sym (length-map path.sources u16-field.into) ∙ a.1.0.1
+    a.1.0.1
 
 -- the value of a path reduction, of what `figures_at` gives
 pub value_padded : (rows : List ℕ) (path : PathReduction) (vertex most n : ℕ) (f : Figures) → length path.keys ≡ 3 → n ≡ min path.count 3

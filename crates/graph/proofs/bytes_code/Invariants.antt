@@ -1,0 +1,14 @@
+use Prim.Native.Nat.{◌-◌, ◌≤◌}
+use mathlib.Core.Path.{◌≡◌, refl, ◌∙◌}
+use native.Mathlib.Omega.{arith}
+use borrow.Author.Rules.{rules}
+use lib.ListN.{drop}
+use Rattle.graph.specs.Graph.{edges_code, edges_in}
+use Rattle.graph.proofs.Rows.{edge_there, edges_count, row_passed, row_refused, rows_passed}
+use Rattle.graph.proofs.bytes_code.Given as goal
+
+abbrev pub invariant-loop-i : goal.invariant-loop-i
+invariant-loop-i l = (l.i ≤ l.m) × (edges_code l.n (drop l.i (edges_in l.s)) ≡ edges_code l.n (edges_in l.s))
+
+abbrev pub decreases-loop-i : goal.decreases-loop-i
+decreases-loop-i l = l.m - l.i

@@ -1,0 +1,20 @@
+use Prim.Native.Nat.{ℕ, ◌≤◌, ◌<◌, ◌-◌}
+use mathlib.Core.Path.{◌≡◌, refl, sym, ◌∙◌}
+use mathlib.Core.Bool.{false}
+use native.Mathlib.Omega.{arith}
+use lib.ListN.{length, get_or, length-set}
+use Rattle.vertex_set.specs.Sets.{member}
+use Rattle.incoming.proofs.Threads.{blank_head, blank_set}
+use Rattle.incoming.proofs.blank.Goals as goal
+
+pub loop-v-preserved : goal.loop-v-preserved
+loop-v-preserved c =
+    let l = c.loop-v in
+    let e = c.clear.ensures in
+    let m = c.args.m in (
+      omega arith,
+      length-set l.heads l.v m ∙ l.invariant.1,
+      c.clear.auto.0 ∙ l.invariant.2,
+      blank_head l.heads l.v m (omega arith) l.invariant.3,
+      rw e (blank_set l.successors l.v (omega arith) l.invariant.4),
+    )

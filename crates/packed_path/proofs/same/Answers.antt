@@ -1,0 +1,30 @@
+use mathlib.Core.Path.{refl}
+use borrow.Author.Tests.{eq-eqb, ne_eqb}
+use Rattle.packed_path.specs.Packed.{same_packed}
+use Rattle.packed_path.proofs.same.Goals as goal
+
+pub returns-then-a-b : goal.returns-then-a-b
+unfolding same_packed
+returns-then-a-b c = rw (ne_eqb _ _ c.if-a-b.true) refl
+
+pub returns-then-a-b-2 : goal.returns-then-a-b-2
+unfolding same_packed
+returns-then-a-b-2 c = rw (eq-eqb _ _ c.if-a-b.false, ne_eqb _ _ c.if-a-b-2.true) refl
+
+pub returns-then-a-b-3 : goal.returns-then-a-b-3
+unfolding same_packed
+returns-then-a-b-3 c =
+    rw (
+      eq-eqb _ _ c.if-a-b.false,
+      eq-eqb _ _ c.if-a-b-2.false,
+      ne_eqb _ _ c.if-a-b-3.true,
+    ) refl
+
+pub returns : goal.returns
+unfolding same_packed
+returns c =
+    rw (
+      eq-eqb _ _ c.if-a-b.false,
+      eq-eqb _ _ c.if-a-b-2.false,
+      eq-eqb _ _ c.if-a-b-3.false,
+    ) refl

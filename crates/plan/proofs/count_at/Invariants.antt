@@ -1,0 +1,14 @@
+use Prim.Native.Nat.{◌+◌, ◌*◌, ◌≤◌}
+use mathlib.Core.Path.{◌≡◌, refl, sym, ◌∙◌}
+use native.Mathlib.Omega.{arith}
+use borrow.Author.Rules.{rules}
+use lib.ListN.{get_or}
+use Rattle.plan.specs.Plan.{chains_end, count_at}
+use Rattle.plan.proofs.Laws.{chains_next, chains_none}
+use Rattle.plan.proofs.count_at.Given as goal
+
+abbrev pub invariant-loop-left : goal.invariant-loop-left
+invariant-loop-left l = (chains_end (get_or l.s 6 0) l.version l.s 7 ≡ chains_end l.left l.version l.s l.at) × (l.at + 515 * l.left ≤ 7 + 515 * 255)
+
+abbrev pub decreases-loop-left : goal.decreases-loop-left
+decreases-loop-left l = l.left

@@ -1,0 +1,16 @@
+use Prim.Native.Nat.{ℕ, ◌+◌, ◌*◌, ◌-◌, ◌≤◌, ◌<◌}
+use mathlib.Core.Path.{◌≡◌, refl, sym, ap, ◌∙◌}
+use mathlib.Core.List.{List}
+use native.Mathlib.Omega.{arith}
+use native.Mathlib.Decide.{ℕ_discrete}
+use lib.ListN.{length, set, length-set}
+use Rattle.packed_figures.specs.declared.PathConstants.{PathConstants}
+use Rattle.table.specs.Steps.{value_word, word_in}
+use Rattle.table.proofs.Cells.{stored_here, stored_slot, stored_vertex}
+use Rattle.table.proofs.read_values.Given as goal
+
+abbrev pub invariant-loop-v : goal.invariant-loop-v
+invariant-loop-v l = (l.v ≤ l.n) × Upto l.c l.j l.initial.figures l.figures l.v
+
+abbrev pub decreases-loop-v : goal.decreases-loop-v
+decreases-loop-v l = l.n - l.v

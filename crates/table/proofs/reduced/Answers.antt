@@ -1,0 +1,65 @@
+use Prim.Native.Nat.{ℕ, suc, ◌-◌, ◌≤◌, ◌<◌, min}
+use mathlib.Core.Path.{◌≡◌, refl, sym, ap, ◌∙◌}
+use mathlib.Core.Bool.{false}
+use mathlib.Core.List.{List}
+use native.Mathlib.Omega.{arith}
+use borrow.Author.Tests.{eq-eqb}
+use Rattle.wire.specs.Wire.{at16}
+use Rattle.graph.specs.Graph.{edge_in}
+use Rattle.incoming.specs.Incoming.{enters}
+use Rattle.incoming.proofs.Threads.{head_into, head_same, next_into, next_same}
+use Rattle.packed_figures.specs.declared.PathConstants.{PathConstants}
+use Rattle.table.specs.Steps.{brings, lent_in, reduced_upto}
+use Rattle.table.proofs.reduced.Goals as goal
+
+-- an edge that does not enter v, and one that does
+keep : (s : List ℕ) (c : PathConstants) (L : ℕ → ℕ) (word v i : ℕ) → i < at16 s 7 → enters s v i ≡ false
+    → reduced_upto s c L word v (suc i) ≡ reduced_upto s c L word v i
+unfolding reduced_upto
+keep s c L word v i h e = rw e
+
+take : (s : List ℕ) (c : PathConstants) (L : ℕ → ℕ) (word v i : ℕ) → (edge_in s i).to ≡ v
+    → min (brings s c L i) (reduced_upto s c L word v i) ≡ reduced_upto s c L word v (suc i)
+unfolding reduced_upto
+take s c L word v i e = rw (eq-eqb (edge_in s i).to v e)
+
+none : (s : List ℕ) (c : PathConstants) (L : ℕ → ℕ) (word v : ℕ) → word ≡ reduced_upto s c L word v 0
+unfolding reduced_upto
+none s c L word v = refl
+
+pub loop-i-init : goal.loop-i-init
+loop-i-init c =
+    let s = c in
+    let a = s.args in
+    let t = s.requires.0.threaded in
+    let g = a.graph.now in
+    let h = head_into g a.heads.now a.nexts.now t a.v s.requires.1 in
+    let e = head_same g a.heads.now a.nexts.now t a.v (reduced_upto g a.c (lent_in g a.figures.now) a.word a.v)
+    (keep g a.c (lent_in g a.figures.now) a.word a.v) s.requires.1 in
+    rw c.row_number-i.ensures (h.most, h.enters_it, none g a.c (lent_in g a.figures.now) a.word a.v ∙ sym e)
+
+pub loop-i-smaller : goal.loop-i-smaller
+loop-i-smaller c =
+    let s = c in
+    let a = s.args in
+    let l = c.loop-i in
+    let there : l.i < at16 a.graph.now 7 = omega (arith, c.rows-m.ensures.0) in
+    let h = next_into a.graph.now a.heads.now a.nexts.now s.requires.0.threaded a.v l.i there (l.invariant.1 there) in
+    omega (arith, c.row_number-i-in-loop-i.ensures, h.from)
+
+pub loop-i-preserved : goal.loop-i-preserved
+loop-i-preserved c =
+    let s = c in
+    let a = s.args in
+    let t = s.requires.0.threaded in
+    let g = a.graph.now in
+    let l = c.loop-i in
+    let there : l.i < at16 g 7 = omega (arith, c.rows-m.ensures.0) in
+    let enter = l.invariant.1 there in
+    let h = next_into g a.heads.now a.nexts.now t a.v l.i there enter in
+    let e = next_same g a.heads.now a.nexts.now t a.v (reduced_upto g a.c (lent_in g a.figures.now) a.word a.v)
+    (keep g a.c (lent_in g a.figures.now) a.word a.v) l.i there enter in
+    let b : c.least-best.result ≡ reduced_upto g a.c (lent_in g a.figures.now) a.word a.v (suc l.i) =
+    c.least-best.ensures ∙ rw (l.invariant.2, c.brought.ensures)
+    (take g a.c (lent_in g a.figures.now) a.word a.v l.i enter) in
+    rw c.row_number-i-in-loop-i.ensures (h.most, h.enters_it, b ∙ sym e)

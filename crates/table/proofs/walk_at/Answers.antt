@@ -1,0 +1,18 @@
+use native.Mathlib.Omega.{arith}
+use mathlib.Core.Path.{◌≡◌, ap, ◌∙◌}
+use lib.ListN.{length, length-set}
+use Rattle.graph.proofs.Accepted.{accepted}
+use Rattle.table.specs.Steps.{walked_mark, walked_word}
+use borrow.Author.Rules.{rules}
+use Rattle.table.proofs.walk_at.Goals as goal
+
+pub returns : goal.returns
+unfolding walked_word walked_mark
+returns c = (
+  rw c.reduced-best.ensures,
+  c.insert_if.ensures
+      ∙ rw c.reduced-best.ensures,
+)
+
+pub insert_if-requires : goal.insert_if-requires
+insert_if-requires c = c.insert-if.auto.0

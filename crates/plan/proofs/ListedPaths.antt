@@ -193,7 +193,8 @@ module _ (s : List ℕ) (version : ℕ) where
     starts_accepted = go (eqb version 1) refl e
       where
         go : (b : Bool) → eqb version 1 ≡ b → drop j s ≡ cond b (le16 (start_of ss)) (length ss ∷ starts_bytes ss) ++ rest
-            → cond b (source_code (get_or s j 256) (get_or s (j + 1) 256)) (then (set_count_code (get_or s j 256)) (starts_code (get_or s j 256) 0 s (j + 1))) ≡ 0
+            → cond b (source_code (get_or s j 256) (get_or s (j + 1) 256))
+            (then (set_count_code (get_or s j 256)) (starts_code (get_or s j 256) 0 s (j + 1))) ≡ 0
         go true p d = rw (nth s j 0 j 256 (omega arith), nth s j 1 (j + 1) 256 refl, d) (start_zero ss (single p))
         go false p d =
             let count : get_or s j 256 ≡ length ss = rw (nth s j 0 j 256 (omega arith), d) refl in

@@ -140,7 +140,8 @@ module _ (rows : List ℕ) (k : Kept) (w : Walk) (left : ℕ) (found : Value) wh
 
   -- the edge of row i ends where w starts
   pub over_next : (i : ℕ) → get_or rows (4 * i + 1) 0 ≡ w.source
-      → foldl (judged k) (over rows k w left found i) (walks rows left (longer w (get_or rows (4 * i) 0) (get_or rows (4 * i + 2) 0) (get_or rows (4 * i + 3) 0)))
+      → foldl (judged k) (over rows k w left found i)
+      (walks rows left (longer w (get_or rows (4 * i) 0) (get_or rows (4 * i + 2) 0) (get_or rows (4 * i + 3) 0)))
       ≡ over rows k w left found (i + 1)
   unfolding with_edge
   over_next i e =

@@ -14,7 +14,7 @@ loop-v-preserved c =
     let m = c.args.m in (
       omega arith,
       length-set l.heads l.v m ∙ l.invariant.1,
-      c.clear.auto.0 ∙ l.invariant.2,
+      c.clear.auto.words ∙ l.invariant.2,
       blank_head l.heads l.v m (omega arith) l.invariant.3,
       rw e (blank_set l.successors l.v (omega arith) l.invariant.4),
     )

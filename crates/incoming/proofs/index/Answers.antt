@@ -39,15 +39,15 @@ loop-i-preserved c =
     let x = ends g (λ j. omega (
       arith,
       c.shared_slice_known-1.given j,
-    )) s.pre.0 (l.i - 1) there in
-    let a = accepted g s.pre.0 in
-    let heads : (edge_in g (l.i - 1)).to < length l.heads = omega (arith, x.1, s.pre.1, l.invariant.1) in
-    let nexts : l.i - 1 < length l.nexts = omega (arith, s.pre.2, l.invariant.2) in
-    let sets : 4 * (edge_in g (l.i - 1)).from + 4 ≤ length l.successors = omega (arith, x.0, s.pre.3, l.invariant.3) in (
+    )) s.requires.0 (l.i - 1) there in
+    let a = accepted g s.requires.0 in
+    let heads : (edge_in g (l.i - 1)).to < length l.heads = omega (arith, x.1, s.requires.1, l.invariant.1) in
+    let nexts : l.i - 1 < length l.nexts = omega (arith, s.requires.2, l.invariant.2) in
+    let sets : 4 * (edge_in g (l.i - 1)).from + 4 ≤ length l.successors = omega (arith, x.0, s.requires.3, l.invariant.3) in (
       omega arith,
-      t.auto.1.1.0 ∙ l.invariant.1,
-      t.auto.1.1.1.0 ∙ l.invariant.2,
-      t.auto.1.1.1.1.0 ∙ l.invariant.3,
+      t.auto.heads ∙ l.invariant.1,
+      t.auto.nexts ∙ l.invariant.2,
+      t.auto.successors ∙ l.invariant.3,
       rw (t.ensures.0, t.ensures.1)
           (threaded_more g (l.i - 1) there l.heads l.nexts heads x.1 nexts (subst (λ (y : ℕ). Threaded g y l.heads l.nexts) e l.invariant.4)),
       rw t.ensures.2

@@ -1,0 +1,17 @@
+use mathlib.Core.Path.{refl}
+use native.Mathlib.Omega.{arith}
+use borrow.Author.Rules.{rules}
+use Rattle.fusion.specs.Steps.{reduces}
+use Rattle.fusion.proofs.Arms.{reduces_others}
+use Rattle.fusion.proofs.reduces_of.Goals as goal
+
+pub returns-in-Reduce : goal.returns-in-Reduce
+unfolding reduces
+returns-in-Reduce c = (rw c.in-Reduce.is refl, omega arith)
+
+pub returns-in-ReduceWhere : goal.returns-in-ReduceWhere
+unfolding reduces
+returns-in-ReduceWhere c = (rw c.in-ReduceWhere.is refl, omega arith)
+
+pub returns-in_default : goal.returns-in_default
+returns-in_default c = (rw (reduces_others _ c.in_default.in_default-own.keys3) refl, omega arith)

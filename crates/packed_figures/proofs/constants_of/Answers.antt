@@ -1,0 +1,29 @@
+use Rattle.packed_figures.specs.Packed.{constants}
+use Rattle.packed_figures.proofs.Three.{three_shift, three_unit}
+use borrow.Author.Rules.{rules}
+use Rattle.packed_figures.proofs.constants_of.Goals as goal
+
+pub returns : goal.returns
+unfolding constants
+returns c =
+    let a = c.args.a in
+    let b = c.args.b in
+    let k = c.args.c in
+    rw (
+      c.flip_for.ensures,
+      c.shift_of_third.ensures,
+      c.if_same.ensures.0,
+      c.unit_of-3.ensures,
+      c.unit_of-2.ensures,
+      c.weighs_of.ensures,
+      c.unit_of.ensures,
+      c.power-top.ensures.0,
+      c.bits_of.ensures.0,
+      c.unit_of-weight.ensures,
+      c.units_of-u.ensures.0,
+      three_unit a b k 1,
+      three_unit a b k 2,
+      three_unit a b k 3,
+      three_unit a b k 4,
+      three_shift a b k,
+    )

@@ -1,0 +1,8 @@
+use mathlib.Core.Path.{refl}
+use borrow.Author.Rules.{rules}
+use Rattle.progress.specs.Progress.{blank}
+use Rattle.progress.proofs.blank_of.Goals as goal
+
+pub returns : goal.returns
+unfolding blank
+returns c = rw c.none-none.ensures refl

@@ -1,0 +1,11 @@
+use mathlib.Core.Path.{◌≡◌, sym, ◌∙◌}
+use native.Mathlib.Omega.{arith}
+use borrow.Author.Rules.{rules}
+use Rattle.graph.proofs.Accepted.{accepted}
+use Rattle.rounds.proofs.Tables.{small_sizes}
+use Rattle.rounds.proofs.run.Goals as goal
+
+pub run_in-requires-2 : goal.run_in-requires-2
+run_in-requires-2 c =
+    let h = (accepted c.args.graph.now c.requires.0).sizes in
+    (c.requires.0, c.requires.1, c.requires.2, h.few_vertices, h.few_edges, omega (arith, h.few_vertices), c.requires.3, omega arith)

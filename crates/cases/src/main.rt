@@ -7,8 +7,9 @@ ghost use Rattle.io.specs.Counts.{IsPrefixLen};
 ghost use Rattle.std.specs.Prelude.{◌<◌, ◌≤◌, length};
 
 use engine::Limit;
-
-const OUT: i32 = 1;
+use std::fs::File;
+use std::io::Read;
+use std::rt::Files;
 
 // Found where what was written is wrong, and of a case that is cut or of no kind. No case expects it.
 const WRONG: u8 = 255;
@@ -38,16 +39,30 @@ struct Score {
     kinds: [u64; 18],
 }
 
-fn load(path: &[u8], buf: &mut [u8]) -> usize
+// Reads until the buffer is full, the file ends or a read fails. Returns how many bytes it put at the buffer's start.
+fn read_full(file: &mut impl Read, buf: &mut [u8]) -> usize
     ensures { IsPrefixLen result buf.new }
 {
-    let fd = os::open_read(path);
-    if fd < 0 {
-        return io::count(0, buf);
+    let mut done = 0;
+    while done < buf.len() {
+        let Ok(n) = file.read(&mut buf[done..]) else {
+            break;
+        };
+        if n == 0 {
+            break;
+        }
+        done += n;
     }
-    let n = io::read_full(fd, buf);
-    libc::close(fd);
-    n
+    done
+}
+
+fn load(rt: &impl Files, path: &str, buf: &mut [u8]) -> usize
+    ensures { IsPrefixLen result buf.new }
+{
+    let Ok(mut file) = File::open(rt, path) else {
+        return io::count(0, buf);
+    };
+    read_full(&mut file, buf)
 }
 
 fn wide(b: u8) -> u16
@@ -308,20 +323,30 @@ fn found(kind: u8, s: &[u8]) -> u8 {
     }
 }
 
-fn field(name: &[u8], value: u64) {
-    io::write_all(OUT, name);
-    io::print_decimal(OUT, value);
+// Writes bytes to the standard output. What cannot be written is passed over.
+fn write_all(rt: &impl Print, bytes: &[u8]) {
+    let _ = rt.write_all(bytes);
 }
 
-fn line(name: &[u8], value: u64) {
-    field(name, value);
-    io::write_all(OUT, b"\n");
+// Likewise a number, in decimal.
+fn print_decimal(rt: &impl Print, x: u64) {
+    let _ = rt.print(x);
 }
 
-fn report(index: u64, expected: u8, number: u8) {
-    field(b"case ", index);
-    field(b" expected ", expected as u64);
-    line(b" found ", number as u64);
+fn field(rt: &impl Print, name: &[u8], value: u64) {
+    write_all(rt, name);
+    print_decimal(rt, value);
+}
+
+fn line(rt: &impl Print, name: &[u8], value: u64) {
+    field(rt, name, value);
+    write_all(rt, b"\n");
+}
+
+fn report(rt: &impl Print, index: u64, expected: u8, number: u8) {
+    field(rt, b"case ", index);
+    field(rt, b" expected ", expected as u64);
+    line(rt, b" found ", number as u64);
 }
 
 fn more(x: u64) -> u64 {
@@ -340,19 +365,19 @@ fn counted(score: Score, kind: u8) -> Score {
 }
 
 // The first ten that differ are named.
-fn scored(score: Score, c: Case, number: u8) -> Score {
+fn scored(rt: &impl Print, score: Score, c: Case, number: u8) -> Score {
     let mut r = counted(score, c.kind);
     if c.expected == number {
         return r;
     }
     if score.differences < 10 {
-        report(score.cases, c.expected, number);
+        report(rt, score.cases, c.expected, number);
     }
     r.differences = more(score.differences);
     r
 }
 
-fn run_all(s: &[u8]) -> Score {
+fn run_all(rt: &impl Print, s: &[u8]) -> Score {
     let kinds = [0u64; 18];
     let mut score = Score {
         cases: 0,
@@ -364,54 +389,54 @@ fn run_all(s: &[u8]) -> Score {
         let c = case_at(s, at);
         let body = c.body;
         let next = c.next;
-        score = scored(score, c, found(c.kind, &s[body..next]));
+        score = scored(rt, score, c, found(c.kind, &s[body..next]));
         at = next;
     }
     score
 }
 
-fn print_cases(score: Score) {
-    line(b"maps ", score.kinds[0]);
-    line(b"questions ", score.kinds[1]);
-    line(b"worksheets ", score.kinds[2]);
-    line(b"answers ", score.kinds[3]);
-    line(b"maps written ", score.kinds[4]);
-    line(b"questions written ", score.kinds[5]);
-    line(b"worksheets written ", score.kinds[6]);
-    line(b"questions fused ", score.kinds[7]);
-    line(b"differences ", score.differences);
+fn print_cases(rt: &impl Print, score: Score) {
+    line(rt, b"maps ", score.kinds[0]);
+    line(rt, b"questions ", score.kinds[1]);
+    line(rt, b"worksheets ", score.kinds[2]);
+    line(rt, b"answers ", score.kinds[3]);
+    line(rt, b"maps written ", score.kinds[4]);
+    line(rt, b"questions written ", score.kinds[5]);
+    line(rt, b"worksheets written ", score.kinds[6]);
+    line(rt, b"questions fused ", score.kinds[7]);
+    line(rt, b"differences ", score.differences);
 }
 
-fn print_runs(score: Score) {
-    line(b"trials run ", score.kinds[8]);
-    line(b"traps run ", score.kinds[9]);
-    line(b"worksheets run ", score.kinds[10]);
-    line(b"refusals ", score.kinds[11]);
-    line(b"lent lengths ", score.kinds[12]);
-    line(b"differences ", score.differences);
+fn print_runs(rt: &impl Print, score: Score) {
+    line(rt, b"trials run ", score.kinds[8]);
+    line(rt, b"traps run ", score.kinds[9]);
+    line(rt, b"worksheets run ", score.kinds[10]);
+    line(rt, b"refusals ", score.kinds[11]);
+    line(rt, b"lent lengths ", score.kinds[12]);
+    line(rt, b"differences ", score.differences);
 }
 
-fn print_boards(score: Score) {
-    line(b"boards answered ", score.kinds[13]);
-    line(b"boards refused ", score.kinds[14]);
-    line(b"lent lengths of boards ", score.kinds[15]);
-    line(b"differences ", score.differences);
+fn print_boards(rt: &impl Print, score: Score) {
+    line(rt, b"boards answered ", score.kinds[13]);
+    line(rt, b"boards refused ", score.kinds[14]);
+    line(rt, b"lent lengths of boards ", score.kinds[15]);
+    line(rt, b"differences ", score.differences);
 }
 
-fn print_sorts(score: Score) {
-    line(b"maps sorted ", score.kinds[16]);
-    line(b"maps sorted with other counts ", score.kinds[17]);
-    line(b"differences ", score.differences);
+fn print_sorts(rt: &impl Print, score: Score) {
+    line(rt, b"maps sorted ", score.kinds[16]);
+    line(rt, b"maps sorted with other counts ", score.kinds[17]);
+    line(rt, b"differences ", score.differences);
 }
 
-fn main() {
+fn main(rt: HostRuntime) {
     let mut buf = [0u8; 262144];
-    let n = load(b"cases.bin", &mut buf);
-    print_cases(run_all(&buf[..n]));
-    let m = load(b"runs.bin", &mut buf);
-    print_runs(run_all(&buf[..m]));
-    let k = load(b"boards.bin", &mut buf);
-    print_boards(run_all(&buf[..k]));
-    let j = load(b"sorts.bin", &mut buf);
-    print_sorts(run_all(&buf[..j]));
+    let n = load(&rt, "cases.bin", &mut buf);
+    print_cases(&rt, run_all(&rt, &buf[..n]));
+    let m = load(&rt, "runs.bin", &mut buf);
+    print_runs(&rt, run_all(&rt, &buf[..m]));
+    let k = load(&rt, "boards.bin", &mut buf);
+    print_boards(&rt, run_all(&rt, &buf[..k]));
+    let j = load(&rt, "sorts.bin", &mut buf);
+    print_sorts(&rt, run_all(&rt, &buf[..j]));
 }

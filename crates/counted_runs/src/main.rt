@@ -9,8 +9,6 @@ use counted::Way;
 use counters::Counters;
 use engine::Limit;
 
-const OUT: i32 = 1;
-
 // The greatest number of 64 bits.
 const MOST: u64 = 18446744073709551615;
 
@@ -213,22 +211,33 @@ fn more(x: u64) -> u64 {
     std::num::wrapping_add_u64(x, 1)
 }
 
+// Writes bytes to the standard output. What cannot be written is passed over.
+fn write_all(rt: &impl Print, bytes: &[u8]) {
+    let _ = rt.write_all(bytes);
+}
+
+// Likewise a number, in decimal.
+fn print_decimal(rt: &impl Print, x: u64) {
+    let _ = rt.print(x);
+}
+
 // One more case: what differs is named.
-fn scored(score: Score, same: bool, counters: Counters) -> Score {
+fn scored(rt: &impl Print, score: Score, same: bool, counters: Counters) -> Score {
     let mut r = from(score, counters);
     r.cases = more(score.cases);
     if same {
         return r;
     }
-    io::write_all(OUT, b"differs: case ");
-    io::print_decimal(OUT, score.cases);
-    io::write_all(OUT, b"\n");
+    write_all(rt, b"differs: case ");
+    print_decimal(rt, score.cases);
+    write_all(rt, b"\n");
     r.differences = more(score.differences);
     r
 }
 
 // A case: so many bytes of the buffer are lent, and the tally that the case before left.
 fn case(
+    rt: &impl Print,
     score: Score,
     files: u8,
     way: Way,
@@ -243,21 +252,30 @@ fn case(
     let before = score.counters;
     let left = run(files, way, limit, &mut out[..room], before);
     let after_it = left.counters;
-    scored(score, same(left, w, after, &out), after_it)
+    scored(rt, score, same(left, w, after, &out), after_it)
 }
 
 // A run that is answered, and the tally after it.
-fn answered(score: Score, way: Way, limit: Limit, rounds: u8, res: u8, after: Counters) -> Score {
+fn answered(
+    rt: &impl Print,
+    score: Score,
+    way: Way,
+    limit: Limit,
+    rounds: u8,
+    res: u8,
+    after: Counters,
+) -> Score {
     let w = Wanted {
         number: 19,
         rounds: rounds,
         result: res,
     };
-    case(score, MARKED, way, limit, 24, w, after)
+    case(rt, score, MARKED, way, limit, 24, w, after)
 }
 
 // A board that is answered: two answers.
 fn board_answered(
+    rt: &impl Print,
     score: Score,
     way: Way,
     limit: Limit,
@@ -270,11 +288,12 @@ fn board_answered(
         rounds: rounds,
         result: res,
     };
-    case(score, BOARD, way, limit, 40, w, after)
+    case(rt, score, BOARD, way, limit, 40, w, after)
 }
 
 // A run that is refused, and the tally after it; so many bytes are lent.
 fn refused_in(
+    rt: &impl Print,
     score: Score,
     files: u8,
     way: Way,
@@ -290,18 +309,12 @@ fn refused_in(
         rounds: 0,
         result: 0,
     };
-    case(score, files, way, limit, room, w, after)
+    case(rt, score, files, way, limit, room, w, after)
 }
 
 // A byte less than a worksheet's answer takes.
-fn refused(score: Score, files: u8, way: Way, limit: Limit, number: u32, after: Counters) -> Score
-    requires { number ≤ 16 }
-{
-    refused_in(score, files, way, limit, 18, number, after)
-}
-
-// A byte less than a board's two answers take.
-fn board_refused(
+fn refused(
+    rt: &impl Print,
     score: Score,
     files: u8,
     way: Way,
@@ -311,104 +324,175 @@ fn board_refused(
 ) -> Score
     requires { number ≤ 16 }
 {
-    refused_in(score, files, way, limit, 37, number, after)
+    refused_in(rt, score, files, way, limit, 18, number, after)
+}
+
+// A byte less than a board's two answers take.
+fn board_refused(
+    rt: &impl Print,
+    score: Score,
+    files: u8,
+    way: Way,
+    limit: Limit,
+    number: u32,
+    after: Counters,
+) -> Score
+    requires { number ≤ 16 }
+{
+    refused_in(rt, score, files, way, limit, 37, number, after)
 }
 
 // Answers by pull and by push, quiet and stopped: the tally goes on from run to run.
-fn answers(score: Score) -> Score {
+fn answers(rt: &impl Print, score: Score) -> Score {
     let mut s = from(score, counts(5, 3, 2));
-    s = answered(s, Way::Pull, Limit::Quiet, 3, 2, counts(6, 4, 2));
-    s = answered(s, Way::Push, Limit::Quiet, 3, 2, counts(7, 5, 2));
-    s = answered(s, Way::Pull, Limit::Rounds(0), 0, 0, counts(8, 6, 2));
-    s = answered(s, Way::Push, Limit::Rounds(0), 0, 0, counts(9, 7, 2));
-    s = answered(s, Way::Pull, Limit::Rounds(1), 1, 1, counts(10, 8, 2));
-    s = answered(s, Way::Push, Limit::Rounds(1), 1, 1, counts(11, 9, 2));
-    s = answered(s, Way::Pull, Limit::Rounds(5), 5, 2, counts(12, 10, 2));
-    answered(s, Way::Push, Limit::Rounds(5), 5, 2, counts(13, 11, 2))
+    s = answered(rt, s, Way::Pull, Limit::Quiet, 3, 2, counts(6, 4, 2));
+    s = answered(rt, s, Way::Push, Limit::Quiet, 3, 2, counts(7, 5, 2));
+    s = answered(rt, s, Way::Pull, Limit::Rounds(0), 0, 0, counts(8, 6, 2));
+    s = answered(rt, s, Way::Push, Limit::Rounds(0), 0, 0, counts(9, 7, 2));
+    s = answered(rt, s, Way::Pull, Limit::Rounds(1), 1, 1, counts(10, 8, 2));
+    s = answered(rt, s, Way::Push, Limit::Rounds(1), 1, 1, counts(11, 9, 2));
+    s = answered(rt, s, Way::Pull, Limit::Rounds(5), 5, 2, counts(12, 10, 2));
+    answered(rt, s, Way::Push, Limit::Rounds(5), 5, 2, counts(13, 11, 2))
 }
 
 // Refusals for the worksheet (2), the map (2 and 6), a start (13) and the buffer (15).
-fn refusals(score: Score) -> Score {
+fn refusals(rt: &impl Print, score: Score) -> Score {
     let mut s = from(score, counts(0, 0, 0));
-    s = refused(s, NO_PLAN, Way::Pull, Limit::Quiet, 2, counts(1, 0, 1));
-    s = refused(s, NO_PLAN, Way::Push, Limit::Rounds(1), 2, counts(2, 0, 2));
-    s = refused(s, NO_GRAPH, Way::Push, Limit::Quiet, 2, counts(3, 0, 3));
-    s = refused(s, CUT, Way::Pull, Limit::Rounds(0), 6, counts(4, 0, 4));
-    s = refused(s, SOURCE_9, Way::Push, Limit::Quiet, 13, counts(5, 0, 5));
-    s = refused(s, MARKED, Way::Pull, Limit::Quiet, 15, counts(6, 0, 6));
-    s = refused(s, MARKED, Way::Push, Limit::Rounds(0), 15, counts(7, 0, 7));
-    answered(s, Way::Pull, Limit::Quiet, 3, 2, counts(8, 1, 7))
+    s = refused(rt, s, NO_PLAN, Way::Pull, Limit::Quiet, 2, counts(1, 0, 1));
+    s = refused(
+        rt,
+        s,
+        NO_PLAN,
+        Way::Push,
+        Limit::Rounds(1),
+        2,
+        counts(2, 0, 2),
+    );
+    s = refused(rt, s, NO_GRAPH, Way::Push, Limit::Quiet, 2, counts(3, 0, 3));
+    s = refused(rt, s, CUT, Way::Pull, Limit::Rounds(0), 6, counts(4, 0, 4));
+    s = refused(
+        rt,
+        s,
+        SOURCE_9,
+        Way::Push,
+        Limit::Quiet,
+        13,
+        counts(5, 0, 5),
+    );
+    s = refused(rt, s, MARKED, Way::Pull, Limit::Quiet, 15, counts(6, 0, 6));
+    s = refused(
+        rt,
+        s,
+        MARKED,
+        Way::Push,
+        Limit::Rounds(0),
+        15,
+        counts(7, 0, 7),
+    );
+    answered(rt, s, Way::Pull, Limit::Quiet, 3, 2, counts(8, 1, 7))
 }
 
 // "if any of the three is at its greatest, none changes", whether the run is answered or refused.
-fn stays(score: Score, full: Counters) -> Score {
+fn stays(rt: &impl Print, score: Score, full: Counters) -> Score {
     let mut s = from(score, full);
-    s = answered(s, Way::Pull, Limit::Quiet, 3, 2, full);
-    s = refused(s, MARKED, Way::Push, Limit::Quiet, 15, full);
-    s = answered(s, Way::Push, Limit::Rounds(1), 1, 1, full);
-    refused(s, NO_PLAN, Way::Pull, Limit::Rounds(1), 2, full)
+    s = answered(rt, s, Way::Pull, Limit::Quiet, 3, 2, full);
+    s = refused(rt, s, MARKED, Way::Push, Limit::Quiet, 15, full);
+    s = answered(rt, s, Way::Push, Limit::Rounds(1), 1, 1, full);
+    refused(rt, s, NO_PLAN, Way::Pull, Limit::Rounds(1), 2, full)
 }
 
 // Each of the three reaches its greatest, and from then on none changes.
-fn reaches(score: Score) -> Score {
+fn reaches(rt: &impl Print, score: Score) -> Score {
     let mut s = from(score, counts(MOST - 1, 3, 2));
-    s = answered(s, Way::Pull, Limit::Quiet, 3, 2, counts(MOST, 4, 2));
-    s = answered(s, Way::Pull, Limit::Quiet, 3, 2, counts(MOST, 4, 2));
+    s = answered(rt, s, Way::Pull, Limit::Quiet, 3, 2, counts(MOST, 4, 2));
+    s = answered(rt, s, Way::Pull, Limit::Quiet, 3, 2, counts(MOST, 4, 2));
     s = from(s, counts(5, MOST - 1, 2));
-    s = refused(s, CUT, Way::Pull, Limit::Quiet, 6, counts(6, MOST - 1, 3));
-    s = answered(s, Way::Push, Limit::Quiet, 3, 2, counts(7, MOST, 3));
-    s = refused(s, SOURCE_9, Way::Push, Limit::Quiet, 13, counts(7, MOST, 3));
+    s = refused(
+        rt,
+        s,
+        CUT,
+        Way::Pull,
+        Limit::Quiet,
+        6,
+        counts(6, MOST - 1, 3),
+    );
+    s = answered(rt, s, Way::Push, Limit::Quiet, 3, 2, counts(7, MOST, 3));
+    s = refused(
+        rt,
+        s,
+        SOURCE_9,
+        Way::Push,
+        Limit::Quiet,
+        13,
+        counts(7, MOST, 3),
+    );
     s = from(s, counts(5, 3, MOST - 1));
-    s = refused(s, MARKED, Way::Pull, Limit::Quiet, 15, counts(6, 3, MOST));
-    answered(s, Way::Push, Limit::Quiet, 3, 2, counts(6, 3, MOST))
+    s = refused(
+        rt,
+        s,
+        MARKED,
+        Way::Pull,
+        Limit::Quiet,
+        15,
+        counts(6, 3, MOST),
+    );
+    answered(rt, s, Way::Push, Limit::Quiet, 3, 2, counts(6, 3, MOST))
 }
 
 // "A board is one counted run": answered; refused for the count (12), left-over bytes (6), the map (6), a start (13), the buffer (15); as a
 // worksheet (2), a worksheet as a board (12); and beside a worksheet.
-fn boards(score: Score) -> Score {
+fn boards(rt: &impl Print, score: Score) -> Score {
     let pull = Way::BoardPull;
     let push = Way::BoardPush;
     let quiet = Limit::Quiet;
     let mut s = from(score, counts(5, 3, 2));
-    s = board_answered(s, pull, quiet, 3, 2, counts(6, 4, 2));
-    s = board_answered(s, push, quiet, 3, 2, counts(7, 5, 2));
-    s = board_answered(s, pull, Limit::Rounds(1), 1, 1, counts(8, 6, 2));
-    s = board_answered(s, push, Limit::Rounds(0), 0, 0, counts(9, 7, 2));
-    s = board_refused(s, COUNT_9, pull, quiet, 12, counts(10, 7, 3));
-    s = board_refused(s, LEFT_OVER, push, quiet, 6, counts(11, 7, 4));
-    s = board_refused(s, BOARD_CUT, pull, Limit::Rounds(1), 6, counts(12, 7, 5));
-    s = board_refused(s, BOARD_9, push, quiet, 13, counts(13, 7, 6));
-    s = board_refused(s, BOARD, pull, quiet, 15, counts(14, 7, 7));
-    s = board_refused(s, BOARD, Way::Pull, quiet, 2, counts(15, 7, 8));
-    s = refused(s, MARKED, push, quiet, 12, counts(16, 7, 9));
-    answered(s, Way::Pull, quiet, 3, 2, counts(17, 8, 9))
+    s = board_answered(rt, s, pull, quiet, 3, 2, counts(6, 4, 2));
+    s = board_answered(rt, s, push, quiet, 3, 2, counts(7, 5, 2));
+    s = board_answered(rt, s, pull, Limit::Rounds(1), 1, 1, counts(8, 6, 2));
+    s = board_answered(rt, s, push, Limit::Rounds(0), 0, 0, counts(9, 7, 2));
+    s = board_refused(rt, s, COUNT_9, pull, quiet, 12, counts(10, 7, 3));
+    s = board_refused(rt, s, LEFT_OVER, push, quiet, 6, counts(11, 7, 4));
+    s = board_refused(
+        rt,
+        s,
+        BOARD_CUT,
+        pull,
+        Limit::Rounds(1),
+        6,
+        counts(12, 7, 5),
+    );
+    s = board_refused(rt, s, BOARD_9, push, quiet, 13, counts(13, 7, 6));
+    s = board_refused(rt, s, BOARD, pull, quiet, 15, counts(14, 7, 7));
+    s = board_refused(rt, s, BOARD, Way::Pull, quiet, 2, counts(15, 7, 8));
+    s = refused(rt, s, MARKED, push, quiet, 12, counts(16, 7, 9));
+    answered(rt, s, Way::Pull, quiet, 3, 2, counts(17, 8, 9))
 }
 
 // At the greatest none changes.
-fn boards_stay(score: Score, full: Counters) -> Score {
+fn boards_stay(rt: &impl Print, score: Score, full: Counters) -> Score {
     let s = from(score, full);
-    let t = board_answered(s, Way::BoardPull, Limit::Quiet, 3, 2, full);
-    board_refused(t, BOARD, Way::BoardPush, Limit::Quiet, 15, full)
+    let t = board_answered(rt, s, Way::BoardPull, Limit::Quiet, 3, 2, full);
+    board_refused(rt, t, BOARD, Way::BoardPush, Limit::Quiet, 15, full)
 }
 
-fn main() {
+fn main(rt: HostRuntime) {
     let mut s = Score {
         cases: 0,
         differences: 0,
         counters: counts(0, 0, 0),
     };
-    s = refusals(answers(s));
-    s = stays(s, counts(MOST, 3, 2));
-    s = stays(s, counts(5, MOST, 2));
-    s = stays(s, counts(5, 3, MOST));
-    s = reaches(s);
-    s = boards(s);
-    s = boards_stay(s, counts(MOST, 3, 2));
-    s = boards_stay(s, counts(5, MOST, 2));
-    s = boards_stay(s, counts(5, 3, MOST));
-    io::write_all(OUT, b"counted runs ");
-    io::print_decimal(OUT, s.cases);
-    io::write_all(OUT, b" cases ");
-    io::print_decimal(OUT, s.differences);
-    io::write_all(OUT, b" differences\n");
+    s = refusals(&rt, answers(&rt, s));
+    s = stays(&rt, s, counts(MOST, 3, 2));
+    s = stays(&rt, s, counts(5, MOST, 2));
+    s = stays(&rt, s, counts(5, 3, MOST));
+    s = reaches(&rt, s);
+    s = boards(&rt, s);
+    s = boards_stay(&rt, s, counts(MOST, 3, 2));
+    s = boards_stay(&rt, s, counts(5, MOST, 2));
+    s = boards_stay(&rt, s, counts(5, 3, MOST));
+    write_all(&rt, b"counted runs ");
+    print_decimal(&rt, s.cases);
+    write_all(&rt, b" cases ");
+    print_decimal(&rt, s.differences);
+    write_all(&rt, b" differences\n");
 }

@@ -9,8 +9,6 @@ ghost use Rattle.std.specs.Prelude.{◌≤◌};
 
 use engine::Limit;
 
-const OUT: i32 = 1;
-
 const BOARDS: u64 = 20000;
 
 const SEED: u64 = 20261117;
@@ -653,30 +651,43 @@ fn try_all() -> Score {
     score
 }
 
-fn line(name: &[u8], counts: &[u64]) {
-    io::write_all(OUT, name);
-    let mut i: usize = 0;
-    while i < counts.len() {
-        io::write_all(OUT, b" ");
-        io::print_decimal(OUT, counts[i]);
-        i += 1;
-    }
-    io::write_all(OUT, b"\n");
+// Writes bytes to the standard output. What cannot be written is passed over.
+fn write_all(rt: &impl Print, bytes: &[u8]) {
+    let _ = rt.write_all(bytes);
 }
 
-fn main() {
+// Likewise a number, in decimal.
+fn print_decimal(rt: &impl Print, x: u64) {
+    let _ = rt.print(x);
+}
+
+fn line(rt: &impl Print, name: &[u8], counts: &[u64]) {
+    write_all(rt, name);
+    let mut i: usize = 0;
+    while i < counts.len() {
+        write_all(rt, b" ");
+        print_decimal(rt, counts[i]);
+        i += 1;
+    }
+    write_all(rt, b"\n");
+}
+
+fn main(rt: HostRuntime) {
     let score = try_all();
     let causes = score.causes;
     let others = [score.shared, score.eight, score.apart, score.differences];
     line(
+        &rt,
         b"boards of 1, of 2, .. of 8 questions, each:",
         &[BOARDS / 8],
     );
     line(
+        &rt,
         b"refused for the count, a length, a question, left-over bytes, a ninth chain, the map, a start, the length lent; answered:",
         &causes,
     );
     line(
+        &rt,
         b"answered with a chain in two questions, with eight chains, with separate rounds that differ; calls that differ:",
         &others,
     );

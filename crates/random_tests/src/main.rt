@@ -12,8 +12,6 @@ use engine::Limit;
 use value::{Row, Value};
 use walked::PathReduction;
 
-const OUT: i32 = 1;
-
 const CASES: u64 = 50000;
 
 const SEED: u64 = 20261115;
@@ -1243,13 +1241,14 @@ fn damaged_differ(e: Expected, query: bool, ran: Ran, file: File, graph: File) -
 // ---- counts
 
 // The first cases that differ are named.
-fn with_differences(score: Score, differences: u64) -> Score {
+fn with_differences(rt: &impl Print, score: Score, differences: u64) -> Score {
     let mut r = score;
     if differences == 0 {
         return r;
     }
     if score.differences < 10 {
         line(
+            rt,
             b"\ndiffers in case, by so many calls, after so many, seed",
             [score.cases, differences, score.differences, score.seed],
         );
@@ -1303,7 +1302,15 @@ fn with_sets(score: Score, c: Case, e: Expected, version: u8, sets: bool) -> Sco
     r
 }
 
-fn try_file(score: Score, c: Case, rows: &Rows, p: Paths, file: File, graph: File) -> Score {
+fn try_file(
+    rt: &impl Print,
+    score: Score,
+    c: Case,
+    rows: &Rows,
+    p: Paths,
+    file: File,
+    graph: File,
+) -> Score {
     let e = expect(c, &graph, rows, p);
     let whole = wanted(e.code, c, e.rounds, c.most, &file, rows);
     let stopped = wanted(e.code, c, e.stop, e.stop, &file, rows);
@@ -1320,13 +1327,20 @@ fn try_file(score: Score, c: Case, rows: &Rows, p: Paths, file: File, graph: Fil
         rows,
     );
     if c.query {
-        return with_differences(r, fused_differ(e, file, head, graph, whole, stopped));
+        return with_differences(rt, r, fused_differ(e, file, head, graph, whole, stopped));
     }
-    with_differences(r, both_differ(e, file, graph, whole, stopped))
+    with_differences(rt, r, both_differ(e, file, graph, whole, stopped))
 }
 
 // A damaged file, of so many bytes.
-fn try_damaged(score: Score, query: bool, len: usize, file: File, graph: File) -> Score {
+fn try_damaged(
+    rt: &impl Print,
+    score: Score,
+    query: bool,
+    len: usize,
+    file: File,
+    graph: File,
+) -> Score {
     let e = Expected {
         code: 0,
         file: len,
@@ -1340,11 +1354,11 @@ fn try_damaged(score: Score, query: bool, len: usize, file: File, graph: File) -
     r.damaged = count(score.damaged, true);
     r.refused = count(score.refused, 65536 <= ran.code);
     r.read = count(score.read, ran.code < 65536);
-    with_differences(r, damaged_differ(e, query, ran, file, graph))
+    with_differences(rt, r, damaged_differ(e, query, ran, file, graph))
 }
 
 // An eighth of the files are damaged.
-fn try_case(score: Score, query: bool) -> Score {
+fn try_case(rt: &impl Print, score: Score, query: bool) -> Score {
     let mut graph = [0u8; 560];
     let mut rows = [65535u16; 24];
     let mut table = [0u64; 8];
@@ -1359,12 +1373,20 @@ fn try_case(score: Score, query: bool) -> Score {
     r.cases = count(score.cases, true);
     if r.seed / 8 % 8 == 0 {
         let len = damage(&mut file, c.at, r.seed);
-        return try_damaged(r, query, len, file, graph);
+        return try_damaged(rt, r, query, len, file, graph);
     }
-    try_file(r, c, &rows, gathered(&table, c, &file, &rows), file, graph)
+    try_file(
+        rt,
+        r,
+        c,
+        &rows,
+        gathered(&table, c, &file, &rows),
+        file,
+        graph,
+    )
 }
 
-fn try_all(query: bool) -> Score {
+fn try_all(rt: &impl Print, query: bool) -> Score {
     let mut score = Score {
         seed: SEED,
         cases: 0,
@@ -1390,54 +1412,69 @@ fn try_all(query: bool) -> Score {
     };
     let mut i: u64 = 0;
     while i < CASES {
-        score = try_case(score, query);
+        score = try_case(rt, score, query);
         i += 1;
     }
     score
 }
 
-fn number(x: u64) {
-    io::write_all(OUT, b" ");
-    io::print_decimal(OUT, x);
+// Writes bytes to the standard output. What cannot be written is passed over.
+fn write_all(rt: &impl Print, bytes: &[u8]) {
+    let _ = rt.write_all(bytes);
+}
+
+// Likewise a number, in decimal.
+fn print_decimal(rt: &impl Print, x: u64) {
+    let _ = rt.print(x);
+}
+
+fn number(rt: &impl Print, x: u64) {
+    write_all(rt, b" ");
+    print_decimal(rt, x);
 }
 
 // A name, which starts a line, and four numbers.
-fn line(name: &[u8], counts: [u64; 4]) {
-    io::write_all(OUT, name);
+fn line(rt: &impl Print, name: &[u8], counts: [u64; 4]) {
+    write_all(rt, name);
     let mut i: usize = 0;
     while i < 4 {
-        number(counts[i]);
+        number(rt, counts[i]);
         i += 1;
     }
 }
 
-fn print(score: Score) {
+fn print(rt: &impl Print, score: Score) {
     line(
+        rt,
         b"\ncases, refused, damaged, damaged and read:",
         [score.cases, score.refused, score.damaged, score.read],
     );
     line(
+        rt,
         b"\na number in the first row, more rounds than places, more chain terms than chains, eight chains:",
         [score.numbers, score.long, score.shared, score.eight],
     );
     line(
+        rt,
         b"\na condition, the last one absent at place 0, 0 there, above 1:",
         [score.conditions, score.absent, score.zero, score.above],
     );
     line(
+        rt,
         b"\na worksheet of version 2, a chain from two starts or more, more rounds than places with one, 13 with one:",
         [score.second, score.sets, score.long_sets, score.outside],
     );
     line(
+        rt,
         b"\ntwo reductions or more, 64 terms, depth 16, calls that differ:",
         [score.several, score.full, score.deep, score.differences],
     );
 }
 
-fn main() {
-    io::write_all(OUT, b"worksheets");
-    print(try_all(false));
-    io::write_all(OUT, b"\nquestions");
-    print(try_all(true));
-    io::write_all(OUT, b"\n");
+fn main(rt: HostRuntime) {
+    write_all(&rt, b"worksheets");
+    print(&rt, try_all(&rt, false));
+    write_all(&rt, b"\nquestions");
+    print(&rt, try_all(&rt, true));
+    write_all(&rt, b"\n");
 }

@@ -16,10 +16,10 @@ returns-then-s-at-ge128 c = rw (lt-leb _ _ c.if-s-at.false, le-leb _ _ c.if-s-at
 pub returns-then-k-lt8 : goal.returns-then-k-lt8
 unfolding lone_in
 returns-then-k-lt8 c =
-    let named = c in rw (
-      lt-leb _ _ named.if-s-at.false,
-      lt-leb _ _ named.if-s-at-ge128.false,
-      sym named.is_named.ensures.0 ∙ named.if-is_named.true,
+    rw (
+      lt-leb _ _ c.if-s-at.false,
+      lt-leb _ _ c.if-s-at-ge128.false,
+      sym c.is_named.ensures.0 ∙ c.if-is_named.true,
       ← c.byte-k.ensures,
       lt-ltb _ _ c.if-k-lt8.true,
     )
@@ -27,10 +27,10 @@ returns-then-k-lt8 c =
 pub returns-else-k-lt8 : goal.returns-else-k-lt8
 unfolding lone_in
 returns-else-k-lt8 c =
-    let named = c in rw (
-      lt-leb _ _ named.if-s-at.false,
-      lt-leb _ _ named.if-s-at-ge128.false,
-      sym named.is_named.ensures.0 ∙ named.if-is_named.true,
+    rw (
+      lt-leb _ _ c.if-s-at.false,
+      lt-leb _ _ c.if-s-at-ge128.false,
+      sym c.is_named.ensures.0 ∙ c.if-is_named.true,
       ← c.byte-k.ensures,
       le-ltb _ _ c.if-k-lt8.false,
     )

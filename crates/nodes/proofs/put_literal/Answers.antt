@@ -6,5 +6,4 @@ use Rattle.nodes.proofs.put_literal.Goals as goal
 pub returns : goal.returns
 unfolding put_list
 returns c =
-    let low = c in
-    c.put16.ensures ∙ rw (low.put16-high.ensures, low.put-low.ensures) refl
+    c.put16.ensures ∙ rw (c.put16-high.ensures, c.put-low.ensures) refl

@@ -8,8 +8,6 @@ use Rattle.nodes.proofs.put_path.Goals as goal
 
 pub returns : goal.returns
 returns c =
-    let last = c in
-    let keys = last in
-    let a = keys.args in
-    last.put_start.ensures
-    ∙ rw keys.put_keys-start.ensures (sym (put_append (0x10 ∷ keys_text a.p.keys) (start_text a.p) (draft a.d.now a.at)))
+    let a = c.args in
+    c.put_start.ensures
+    ∙ rw c.put_keys-start.ensures (sym (put_append (0x10 ∷ keys_text a.p.keys) (start_text a.p) (draft a.d.now a.at)))

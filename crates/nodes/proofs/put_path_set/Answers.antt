@@ -8,8 +8,6 @@ use Rattle.nodes.proofs.put_path_set.Goals as goal
 
 pub returns : goal.returns
 returns c =
-    let last = c in
-    let keys = last in
-    let a = keys.args in
-    last.put_set.ensures
-    ∙ rw keys.put_keys-set.ensures (sym (put_append (0x13 ∷ keys_text a.p.keys) (set_text a.p) (draft a.d.now a.at)))
+    let a = c.args in
+    c.put_set.ensures
+    ∙ rw c.put_keys-set.ensures (sym (put_append (0x13 ∷ keys_text a.p.keys) (set_text a.p) (draft a.d.now a.at)))

@@ -48,12 +48,11 @@ less p k h l = omega arith
 
 pub loop-left-preserved : goal.loop-left-preserved
 loop-left-preserved c =
-    let put = c in
-    let more = put.loop-left-test.true in
-    let l = put.loop-left in (
+    let more = c.loop-left-test.true in
+    let l = c.loop-left in (
       rw c.rest-rest.ensures (less l.rest l.left more l.invariant.0),
       omega (arith, l.invariant.1),
-      rw (c.rest-rest.ensures, put.put16-next.ensures, put.first.ensures.0)
+      rw (c.rest-rest.ensures, c.put16-next.ensures, c.first.ensures.0)
           (sym (put_next (draft l.d l.next) l.rest l.left more l.invariant.0) ∙ l.invariant.2),
     )
 
@@ -62,8 +61,7 @@ unfolding put_list
 returns c =
     let l = c.loop-left in
     let least = c.lesser-left in
-    let count = c in
-    let a = count.args in
-    put_done (draft l.d l.next) (draft count.put-next.new.0 count.put-next.result) a.p l.rest l.left least.result (omega arith)
+    let a = c.args in
+    put_done (draft l.d l.next) (draft c.put-next.new.d c.put-next.result) a.p l.rest l.left least.result (omega arith)
     least.ensures.0 l.invariant.2
-    ∙ rw count.put-next.ensures refl
+    ∙ rw c.put-next.ensures refl

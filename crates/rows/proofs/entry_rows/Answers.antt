@@ -15,13 +15,12 @@ use Rattle.rows.proofs.entry_rows.Goals as goal
 
 pub loop-v-preserved : goal.loop-v-preserved
 loop-v-preserved c =
-    let s = c in
-    let a = s.args in
+    let a = c.args in
     let l = c.loop-v in
     let F : ℕ → List Row = rows_at a.figures.now a.slots.now 8 in (
       omega arith,
       ap₂ (λ (rows : List Row) (value : Value). set rows l.v (row value)) l.invariant.1 c.entry_at-found.ensures.0
-          ∙ fill_next 256 (entry_row a.plan.now F a.at) (row Absent) l.v (omega (arith, s.requires)),
+          ∙ fill_next 256 (entry_row a.plan.now F a.at) (row Absent) l.v (omega (arith, c.requires)),
     )
 
 pub returns : goal.returns

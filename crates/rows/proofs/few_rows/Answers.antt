@@ -15,13 +15,12 @@ use Rattle.rows.proofs.few_rows.Goals as goal
 
 pub loop-w-preserved : goal.loop-w-preserved
 loop-w-preserved c =
-    let s = c in
-    let a = s.args in
+    let a = c.args in
     let l = c.loop-w in
     let F : ℕ → List Row = rows_at a.figures.now a.slots.now 8 in (
       omega arith,
       ap₂ (λ (rows : List Row) (value : Value). set rows l.w (row value)) l.invariant.1 c.entry_at-found.ensures.0
-          ∙ fill_next 16 (entry_row a.plan.now F a.at) (row Absent) l.w (omega (arith, s.requires)),
+          ∙ fill_next 16 (entry_row a.plan.now F a.at) (row Absent) l.w (omega (arith, c.requires)),
     )
 
 pub returns : goal.returns

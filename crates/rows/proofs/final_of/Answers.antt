@@ -26,8 +26,7 @@ loop-k-init c =
 
 pub loop-k-preserved : goal.loop-k-preserved
 loop-k-preserved c =
-    let s = c in
-    let a = s.args in
+    let a = c.args in
     let l = c.loop-k in
     let plan : List ℕ = a.plan.now in
     let F : ℕ → List Row = rows_at a.figures.now a.slots.now 8 in
@@ -38,22 +37,21 @@ loop-k-preserved c =
       omega arith,
       next,
       ap₂ (λ (words : List ℕ) (x : ℕ). set words l.k x) l.invariant.2 (c.word.ensures ∙ ap word_of one)
-          ∙ fill_next 8 (result_word plan F a.n a.at) 0 l.k (omega (arith, s.requires.2)),
+          ∙ fill_next 8 (result_word plan F a.n a.at) 0 l.k (omega (arith, c.requires.2)),
       ap₂ (λ (places : List ℕ) (x : ℕ). set places l.k x) l.invariant.3 (c.slot.ensures ∙ ap (λ (v : Value). slot_of v l.k) one)
-          ∙ fill_next 8 (result_slot plan F a.n a.at) 8 l.k (omega (arith, s.requires.2)),
+          ∙ fill_next 8 (result_slot plan F a.n a.at) 8 l.k (omega (arith, c.requires.2)),
     )
 
 pub returns : goal.returns
 unfolding final_found
 returns c =
-    let s = c in
-    let a = s.args in
+    let a = c.args in
     let l = c.loop-k in
     let plan : List ℕ = a.plan.now in
     let F : ℕ → List Row = rows_at a.figures.now a.slots.now 8 in
     let e : l.k ≡ a.e = omega arith in
     let leaves = ap₂ (λ (words places : List ℕ). rows_in words places 0) l.invariant.2 l.invariant.3
     ∙ ap (λ (k : ℕ). rows_in (filled 8 (result_word plan F a.n a.at) 0 k) (filled 8 (result_slot plan F a.n a.at) 8 k) 0) e
-    ∙ results_leaves plan F a.n a.at a.e s.requires.2 in
+    ∙ results_leaves plan F a.n a.at a.e c.requires.2 in
     ap (λ (f : Found). f.value)
     (c.evaluate-found.ensures ∙ ap₂ (evaluated 16 plan) leaves (l.invariant.1 ∙ ap (λ (k : ℕ). entries_end k plan a.at) e))

@@ -30,8 +30,7 @@ loop-u-preserved c =
 
 pub returns : goal.returns
 returns c =
-    let s = c in
-    let a = s.args in
+    let a = c.args in
     let l = c.loop-u in
     let plan : List ℕ = a.plan.now in
     let F : ℕ → List Row = rows_at a.figures.now a.slots.now 8 in
@@ -39,5 +38,5 @@ returns c =
     let e : l.u ≡ a.n = omega arith in (
       c.finish_of.ensures ∙ ap finish (l.invariant.1 ∙ ap (reached plan F a.n r a.at) e) ∙ reached_all plan F a.n r a.at
           ∙ ap (λ (b : ℕ). reduce (b % 128) (values (entry_rows plan a.at F a.n))) c.byte-reduction.ensures,
-      l.invariant.2 (omega (arith, s.requires.0)),
+      l.invariant.2 (omega (arith, c.requires.0)),
     )

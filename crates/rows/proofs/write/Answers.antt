@@ -30,29 +30,25 @@ returns-then-code-ne0 c =
 
 pub write_rows-requires : goal.write_rows-requires
 write_rows-requires c =
-    let judged = c in
-    let a = judged.args in
-    let z = sym judged.judge-code.ensures ∙ judged.if-code-ne0.false in
-    (judged_right a.n judged.byte-kind.result (length a.out.now) z).0.few_vertices
+    let a = c.args in
+    let z = sym c.judge-code.ensures ∙ c.if-code-ne0.false in
+    (judged_right a.n c.byte-kind.result (length a.out.now) z).0.few_vertices
 
 pub returns-then-kind-eq0 : goal.returns-then-kind-eq0
 returns-then-kind-eq0 c =
-    let chosen = c in
-    let counted = chosen in
-    let judged = counted in
-    let a = judged.args in
-    let read = judged.byte-kind in
+    let a = c.args in
+    let read = c.byte-kind in
     let plan : List ℕ = a.plan.now in
     let figures : List ℕ = a.figures.now in
-    let F : ℕ → List Row = rows_at figures counted.slots_used-used.result 8 in
+    let F : ℕ → List Row = rows_at figures c.slots_used-used.result 8 in
     let room = length a.out.now in
-    let z = sym judged.judge-code.ensures ∙ judged.if-code-ne0.false in
+    let z = sym c.judge-code.ensures ∙ c.if-code-ne0.false in
     let few = (judged_right a.n read.result room z).0.few_vertices in
-    let kind = sym read.ensures ∙ chosen.if-kind-eq0.true in
-    let rows = ap₂ (λ (i : ℕ) (used : List ℕ). entry_rows plan (i + 1) (rows_at figures used 8) a.n) counted.count_at-at.ensures.0
-    counted.slots_used-used.ensures
+    let kind = sym read.ensures ∙ c.if-kind-eq0.true in
+    let rows = ap₂ (λ (i : ℕ) (used : List ℕ). entry_rows plan (i + 1) (rows_at figures used 8) a.n) c.count_at-at.ensures.0
+    c.slots_used-used.ensures
     ∙ body_each plan figures a.slots a.paths a.n few kind in
-    let at = counted.count_at-at.result + 1 in
+    let at = c.count_at-at.result + 1 in
     let rest = replicate (256 - length (entry_rows plan at F a.n)) (row Absent) in
     let reply = sym (entry_written plan F a.n at a.rounds rest room)
     ∙ ap₂ (λ (k : ℕ) (rows : List Row). answer_reply a.n a.rounds k (values (many rows)) room) (sym kind) rows in
@@ -61,37 +57,32 @@ returns-then-kind-eq0 c =
 
 pub final_of-value-requires : goal.final_of-value-requires
 final_of-value-requires c =
-    let judged = c in
-    let a = judged.args in
-    let z = sym judged.judge-code.ensures ∙ judged.if-code-ne0.false in
-    let fields = (judged_right a.n judged.byte-kind.result (length a.out.now) z).0 in
+    let a = c.args in
+    let z = sym c.judge-code.ensures ∙ c.if-code-ne0.false in
+    let fields = (judged_right a.n c.byte-kind.result (length a.out.now) z).0 in
     (fields.some_vertex, fields.few_vertices, c.lesser-e.ensures.1)
 
 pub returns : goal.returns
 returns c =
-    let made = c in
-    let fewer = made in
-    let counted = fewer in
-    let judged = counted in
-    let a = judged.args in
+    let a = c.args in
     let plan : List ℕ = a.plan.now in
     let figures : List ℕ = a.figures.now in
     let room = length a.out.now in
-    let read = judged.byte-kind in
-    let z = sym judged.judge-code.ensures ∙ judged.if-code-ne0.false in
+    let read = c.byte-kind in
+    let z = sym c.judge-code.ensures ∙ c.if-code-ne0.false in
     let fields = (judged_right a.n read.result room z).0 in
-    let other : get_or plan 5 0 ≡ 0 → ⊥ = λ z. fewer.if-kind-eq0.false (read.ensures ∙ z) in
+    let other : get_or plan 5 0 ≡ 0 → ⊥ = λ z. c.if-kind-eq0.false (read.ensures ∙ z) in
     let kind : 1 ≡ get_or plan 5 0 = omega (arith, fields.known_kind, other, read.ensures) in
-    let at = counted.count_at-at.ensures.0 in
-    let byte = fewer.wide.ensures.0 ∙ fewer.byte.ensures ∙ ap (λ (i : ℕ). get_or plan i 0) at in
-    let count = fewer.lesser-e.ensures.0 ∙ ap (λ (k : ℕ). min k 8) byte in
-    let used = counted.slots_used-used in
-    let value = made.final_of-value.ensures
-    ∙ ap (λ (k : ℕ). final_found k plan (counted.count_at-at.result + 1) (rows_at figures used.result 8) a.n) count
+    let at = c.count_at-at.ensures.0 in
+    let byte = c.wide.ensures.0 ∙ c.byte.ensures ∙ ap (λ (i : ℕ). get_or plan i 0) at in
+    let count = c.lesser-e.ensures.0 ∙ ap (λ (k : ℕ). min k 8) byte in
+    let used = c.slots_used-used in
+    let value = c.final_of-value.ensures
+    ∙ ap (λ (k : ℕ). final_found k plan (c.count_at-at.result + 1) (rows_at figures used.result 8) a.n) count
     ∙ ap₂ (λ (i : ℕ) (used : List ℕ). final_found (min (get_or plan (count_at plan) 0) 8) plan (i + 1) (rows_at figures used 8) a.n) at
     used.ensures in
     let rows = ap (λ (v : Value). row v ∷ []) value ∙ body_one plan figures a.slots a.paths a.n fields.few_vertices other in
-    let reply = sym (reply_one a.n a.rounds made.final_of-value.result (values (replicate 255 (row Absent))) room)
+    let reply = sym (reply_one a.n a.rounds c.final_of-value.result (values (replicate 255 (row Absent))) room)
     ∙ ap₂ (λ (k : ℕ) (rows : List Row). answer_reply a.n a.rounds k (values (many rows)) room) kind rows in
     let written = c.write_one.ensures in
     (written.0 ∙ ap reply_number reply, written.1 ∙ ap (λ (r : Reply). reply_buffer r a.out.now) reply)

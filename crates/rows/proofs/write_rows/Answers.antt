@@ -15,16 +15,14 @@ use Rattle.rows.proofs.write_rows.Goals as goal
 
 pub returns-then-n-le16 : goal.returns-then-n-le16
 returns-then-n-le16 c =
-    let made = c in
-    let a = made.args in
-    let reply = as_rows a.plan.now a.figures.now a.slots.now a.at a.n a.rounds (length a.out.now) 16 _ made.few_rows-rows.ensures in
+    let a = c.args in
+    let reply = as_rows a.plan.now a.figures.now a.slots.now a.at a.n a.rounds (length a.out.now) 16 _ c.few_rows-rows.ensures in
     let written = c.write_few.ensures in
     (written.0 ∙ ap reply_number reply, written.1 ∙ ap (λ (r : Reply). reply_buffer r a.out.now) reply)
 
 pub returns : goal.returns
 returns c =
-    let made = c in
-    let a = made.args in
-    let reply = as_rows a.plan.now a.figures.now a.slots.now a.at a.n a.rounds (length a.out.now) 256 _ made.entry_rows-rows.ensures in
+    let a = c.args in
+    let reply = as_rows a.plan.now a.figures.now a.slots.now a.at a.n a.rounds (length a.out.now) 256 _ c.entry_rows-rows.ensures in
     let written = c.write.ensures in
     (written.0 ∙ ap reply_number reply, written.1 ∙ ap (λ (r : Reply). reply_buffer r a.out.now) reply)

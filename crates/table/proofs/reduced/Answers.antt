@@ -29,29 +29,26 @@ none s c L word v = refl
 
 pub loop-i-init : goal.loop-i-init
 loop-i-init c =
-    let s = c in
-    let a = s.args in
-    let t = s.requires.0.threaded in
+    let a = c.args in
+    let t = c.requires.0.threaded in
     let g = a.graph.now in
-    let h = head_into g a.heads.now a.nexts.now t a.v s.requires.1 in
+    let h = head_into g a.heads.now a.nexts.now t a.v c.requires.1 in
     let e = head_same g a.heads.now a.nexts.now t a.v (reduced_upto g a.c (lent_in g a.figures.now) a.word a.v)
-    (keep g a.c (lent_in g a.figures.now) a.word a.v) s.requires.1 in
+    (keep g a.c (lent_in g a.figures.now) a.word a.v) c.requires.1 in
     rw c.row_number-i.ensures (h.most, h.enters_it, none g a.c (lent_in g a.figures.now) a.word a.v ∙ sym e)
 
 pub loop-i-smaller : goal.loop-i-smaller
 loop-i-smaller c =
-    let s = c in
-    let a = s.args in
+    let a = c.args in
     let l = c.loop-i in
     let there : l.i < at16 a.graph.now 7 = omega (arith, c.rows-m.ensures.0) in
-    let h = next_into a.graph.now a.heads.now a.nexts.now s.requires.0.threaded a.v l.i there (l.invariant.1 there) in
+    let h = next_into a.graph.now a.heads.now a.nexts.now c.requires.0.threaded a.v l.i there (l.invariant.1 there) in
     omega (arith, c.row_number-i-in-loop-i.ensures, h.from)
 
 pub loop-i-preserved : goal.loop-i-preserved
 loop-i-preserved c =
-    let s = c in
-    let a = s.args in
-    let t = s.requires.0.threaded in
+    let a = c.args in
+    let t = c.requires.0.threaded in
     let g = a.graph.now in
     let l = c.loop-i in
     let there : l.i < at16 g 7 = omega (arith, c.rows-m.ensures.0) in

@@ -10,41 +10,38 @@ use Rattle.table.proofs.step.Goals as goal
 
 pub walk-requires : goal.walk-requires
 walk-requires c =
-    let s = c in
-    let a = s.args in
+    let a = c.args in
     let t = rw c.vertices-n.ensures.0 at
     c.touch.ensures in
     rw c.clear.ensures (
-      walk_ready a.graph.now a.c a.j a.heads.now a.nexts.now a.successors.now a.figures.now a.work.now s.pre _ _ t,
-      walk_blank a.graph.now a.c a.j a.heads.now a.nexts.now a.successors.now a.figures.now a.work.now s.pre _ _ t,
+      walk_ready a.graph.now a.c a.j a.heads.now a.nexts.now a.successors.now a.figures.now a.work.now c.requires _ _ t,
+      walk_blank a.graph.now a.c a.j a.heads.now a.nexts.now a.successors.now a.figures.now a.work.now c.requires _ _ t,
     )
 
 pub unlend-requires : goal.unlend-requires
 unlend-requires c =
-    let s = c in
-    let a = s.args in
+    let a = c.args in
     let v = c.vertices-n.ensures in
     let t = rw v.0 at c.touch.ensures in
     let p = rw c.clear.ensures at
     c.walk.ensures in (
-      s.pre.slot,
+      c.requires.slot,
       v.1,
-      omega (arith, v.0, s.pre.table_fits, t.relent.size, p.size),
+      omega (arith, v.0, c.requires.table_fits, t.relent.size, p.size),
       rw v.0
-          (lends_not a.graph.now a.c a.j a.heads.now a.nexts.now a.successors.now a.figures.now a.work.now s.pre _ _ t _ _ p),
+          (lends_not a.graph.now a.c a.j a.heads.now a.nexts.now a.successors.now a.figures.now a.work.now c.requires _ _ t _ _ p),
     )
 
 pub returns : goal.returns
 returns c =
-    let s = c in
-    let a = s.args in
+    let a = c.args in
     let e = c.vertices-n.ensures.0 in
     let t = rw e at c.touch.ensures in
     let p = rw c.clear.ensures at c.walk.ensures
     in
     let z = rw e at c.unlend.ensures in (
       rw (c.mark.ensures.0, c.mark.ensures.1)
-          (stepped a.graph.now a.c a.j a.heads.now a.nexts.now a.successors.now a.figures.now a.work.now s.pre _ _ t _ _ p _
+          (stepped a.graph.now a.c a.j a.heads.now a.nexts.now a.successors.now a.figures.now a.work.now c.requires _ _ t _ _ p _
           z),
       c.walk.auto.work ∙
           c.clear.auto.words ∙ c.touch.auto.work,

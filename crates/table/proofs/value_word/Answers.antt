@@ -9,5 +9,4 @@ use Rattle.table.proofs.value_word.Goals as goal
 
 pub overflow_add-result : goal.overflow_add-result
 overflow_add-result c =
-    let s = c in
-    omega (arith, c.value_of.ensures, figure_small s.args.c s.requires s.args.x)
+    omega (arith, c.value_of.ensures, figure_small c.args.c c.requires c.args.x)

@@ -21,27 +21,25 @@ above_kept s c j l work v h = marked_above (moves s c j (lent_in s l) l v) work 
 
 pub loop-m-init : goal.loop-m-init
 loop-m-init c =
-    let s = c in
-    let a = s.args in
-    let slot = s.requires.0.slot in
+    let a = c.args in
+    let slot = c.requires.0.slot in
     let f = c.first-m.ensures in
     let h = met_least a.work.now 0 0 (omega arith) _ f in (
       h.most,
       h.passes,
       passed a.graph.now a.c a.j slot a.figures.now a.work.now a.figures.now a.work.now 0 _
-          (λ u k l. h.none_before u k l) h.from (walked_none a.graph.now a.c a.j slot a.figures.now a.work.now s.requires.1),
+          (λ u k l. h.none_before u k l) h.from (walked_none a.graph.now a.c a.j slot a.figures.now a.work.now c.requires.1),
       f.above_is,
     )
 
 pub after-m-requires : goal.after-m-requires
 after-m-requires c =
-    let s = c in
     let l = c.loop-m in
     let t = c.walk_at in
     let small : l.m.vertex < 256 = omega (arith, c.loop-m-test.true) in (
       small,
-      rw t.ensures.1 (l.invariant.3 small ∙ sym (above_kept s.args.graph.now s.args.c s.args.j l.figures l.work l.m.vertex small)),
-      omega (arith, t.auto.work, l.invariant.2.room, s.requires.0.work_fits),
+      rw t.ensures.1 (l.invariant.3 small ∙ sym (above_kept c.args.graph.now c.args.c c.args.j l.figures l.work l.m.vertex small)),
+      omega (arith, t.auto.work, l.invariant.2.room, c.requires.0.work_fits),
     )
 
 pub loop-m-smaller : goal.loop-m-smaller
@@ -54,9 +52,8 @@ loop-m-smaller c =
 
 pub loop-m-preserved : goal.loop-m-preserved
 loop-m-preserved c =
-    let s = c in
-    let a = s.args in
-    let slot = s.pre.0.slot in
+    let a = c.args in
+    let slot = c.requires.0.slot in
     let l = c.loop-m in
     let v = l.m.vertex in
     let t = c.walk_at in
@@ -65,11 +62,11 @@ loop-m-preserved c =
     let p = l.invariant.2 in
     let small : v < 256 = omega (arith, c.loop-m-test.true) in
     let m = l.invariant.1 small in
-    let vertex = s.pre.0.walked_fit v small (sym (p.chosen v small) ∙ m) in
+    let vertex = c.requires.0.walked_fit v small (sym (p.chosen v small) ∙ m) in
     let walked : Walked a.graph.now a.c a.j a.figures.now a.work.now figures work (v + 1) =
     rw (t.ensures.0, t.ensures.1)
     (walked_more a.graph.now a.c a.j slot a.figures.now a.work.now l.figures l.work v p
-    (omega (arith, slot, vertex, s.pre.0.edges.lends.table_fits)) s.pre.0.work_fits small vertex m) in
+    (omega (arith, slot, vertex, c.requires.0.edges.lends.table_fits)) c.requires.0.work_fits small vertex m) in
     let f = c.after-m.ensures in
     let h = met_least work 0 (v + 1) (omega (arith, small)) _ f in (
       h.most,

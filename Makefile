@@ -1,8 +1,8 @@
-# make            the library and the program, in build/; everything that they stand on is proved first: minutes, a line for each crate
+# make            the library and the program, in build/; everything that they stand on is proved first: minutes, but for what is proved already
 # make try        the program at once, in seconds: proves nothing
 # make test       the gate, .ci/run
 # make install    headers, archives and pkg-config files, under PREFIX (and DESTDIR, where a package is made)
-# make clean      removes build/ and target/
+# make clean      removes build/ and target/, where tests/wrong has its logs; what rt made and kept lies in crates/NAME/out
 PREFIX ?= /usr/local
 OBJCOPY ?= objcopy
 VERSION = 1.0
@@ -12,27 +12,29 @@ LIBRARIES = build/libgrafs.a build/libgrafs_prefixed.a build/libservice.a
 .PHONY: all lib program try test install clean
 all: lib program
 
-# Proves crates: rt knows what has changed. Its lines of progress are shown, and all that it says where it fails.
-PROVE = prove() { { rt check "$$@"; echo $$? >build/status; } 2>&1 | tee build/log | sed -un '/^rt: /{/unchanged/!p}'; \
-	test "$$(cat build/status)" = 0 || { cat build/log; false; }; }; prove
+# Builds a crate in its folder, by `rt lib` or `rt run`: rt proves first what has changed of it and below it. Its lines of progress are shown, and all that it
+# says where it fails.
+BUILD = built() { { (cd crates/$$1 && rt $$2 </dev/null); echo $$? >build/status; } 2>&1 | tee build/log | sed -un '/^rt: /p'; \
+	test "$$(cat build/status)" = 0 || { cat build/log; false; }; }; built
 
-# The archive, the same with names that a program with a `run` of its own can link, and the one of all calls. Copies: .ci/run removes target/.
+# The archive, the same with names that a program with a `run` of its own can link, and the one of all calls.
 lib:
 	@mkdir -p build
-	@$(PROVE) grafs service
-	@for crate in grafs service; do rt staticlib $$crate >build/log 2>&1 || { cat build/log; exit 1; }; done
-	cp target/staticlib/libgrafs.a target/staticlib/libservice.a build
+	@$(BUILD) grafs lib
+	@$(BUILD) service lib
+	cp crates/grafs/out/libgrafs.a crates/service/out/libservice.a build
 	$(OBJCOPY) --redefine-sym fuse=grafs_fuse --redefine-sym run=grafs_run build/libgrafs.a build/libgrafs_prefixed.a
 
+# `rt run` also runs the program, in its crate's folder, where neither a question nor a map lies.
 program:
 	@mkdir -p build
-	@$(PROVE) grafs_main
-	cp target/bin/grafs_main build/grafs_main
+	@$(BUILD) grafs_main run
+	cp crates/grafs_main/out/grafs_main build/grafs_main
 
 try:
-	rt try grafs_main
-	@echo 'Nothing was proved. On the question and the map in crates/grafs_main/data the program printed:'
-	@cat crates/grafs_main/stdout
+	@mkdir -p build
+	@echo 'Nothing is proved. On the question and the map in crates/grafs_main/data the program prints:'
+	@cd crates/grafs_main && rt try --data question.lpq=data/question.lpq --data map.lpm=data/map.lpm 2>../../build/log || { cat ../../build/log; false; }
 
 test:
 	.ci/run

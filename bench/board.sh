@@ -10,7 +10,7 @@ if [ $# = 0 ]; then
     make -s lib
     lib=build/libservice.a
 fi
-dir=target/bench
+dir=build/bench
 mkdir -p "$dir"
 # Bound at the start of the program: else the first call of memset would count the search for it.
 gcc -std=gnu11 -O3 -Wall -Wextra -Werror -Iinclude bench/board.c bench/samples.c tests/differential/plain.c "$lib" -lm -Wl,-z,now -o "$dir/board"

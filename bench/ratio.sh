@@ -5,7 +5,7 @@ set -eu
 old=$(realpath "${1:?old archive}")
 new=$(realpath "${2:?new archive}")
 cd "$(dirname "$0")/.."
-dir=target/bench
+dir=build/bench
 mkdir -p "$dir"
 objcopy --redefine-sym run=old_run --redefine-sym fuse=old_fuse "$old" "$dir/old.a"
 gcc -std=gnu11 -O3 -Wall -Wextra -Werror -Iinclude bench/bench.c bench/by_hand.c bench/desk.c bench/samples.c tests/differential/plain.c "$new" \

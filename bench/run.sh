@@ -1,7 +1,7 @@
 #!/bin/sh
 # bench/run.sh [LIB.a [BATCHES]]: the library beside plain C on six questions and four maps: that all give the same bytes, then instructions, then times.
 # Without LIB.a it makes build/libgrafs.a, which proves first all that it stands on: minutes, but for what is proved already.
-# Needs gcc and, for the instructions, valgrind. The program stays in target/bench. Not part of the gate; docs/BENCHMARKS.md says what the columns are.
+# Needs gcc and, for the instructions, valgrind. The program stays in build/bench. Not part of the gate; docs/BENCHMARKS.md says what the columns are.
 set -eu
 [ $# = 0 ] || lib=$(realpath "$1")
 batches=${2:-101}
@@ -10,7 +10,7 @@ if [ $# = 0 ]; then
     make -s lib
     lib=build/libgrafs.a
 fi
-dir=target/bench
+dir=build/bench
 mkdir -p "$dir"
 # Bound at the start of the program: else the first call of memset would count the search for it.
 gcc -std=gnu11 -O3 -Wall -Wextra -Werror -Iinclude bench/bench.c bench/by_hand.c bench/desk.c bench/samples.c tests/differential/plain.c "$lib" \

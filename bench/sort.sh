@@ -10,7 +10,7 @@ if [ $# = 0 ]; then
     make -s lib
     lib=build/libservice.a
 fi
-dir=target/bench
+dir=build/bench
 mkdir -p "$dir"
 gcc -std=gnu11 -O3 -Wall -Wextra -Werror -Iinclude bench/sort.c "$lib" -lm -o "$dir/sort"
 

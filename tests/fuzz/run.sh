@@ -1,13 +1,13 @@
 #!/bin/sh
 # tests/fuzz/run.sh SECONDS [SEED]: fuzzes the exported calls for so long, from the seeds of seeds.py; the last line is a count of calls.
-# An input at which a check fails is left in target/fuzz/found, and the status is not 0. Not part of the gate.
+# An input at which a check fails is left in build/fuzz/found, and the status is not 0. Not part of the gate.
 set -eu
 cd "$(dirname "$0")/../.."
 seconds=${1:?seconds}
 seed=${2:-1}
 tests/fuzz/install.sh
 make -s lib
-work=target/fuzz
+work=build/fuzz
 mkdir -p "$work/corpus" "$work/found"
 python3 tests/fuzz/seeds.py "$work/seeds"
 clang-14 -std=c11 -O2 -g -Wall -Wextra -Werror -fsanitize=fuzzer,address,undefined -fno-sanitize-recover=all -Iinclude \

@@ -3,8 +3,8 @@
 # Bytes are written in hexadecimal; what is expected is written by hand from documents 01 and 02. The last line is 'N passed, M failed'.
 set -eu
 cd "$(dirname "$0")/../.."
-rt check grafs_main >/dev/null
-program=$PWD/target/bin/grafs_main
+make -s program
+program=$PWD/build/grafs_main
 dir=$(mktemp -d)
 trap 'rm -rf "$dir"' EXIT
 cases=0

@@ -5,21 +5,24 @@
 #   tests/wrong/run.sh [CRATE | CRATE/LABEL]..      all, or those of some crates, or some
 #
 # CRATE.edits has a paragraph for each: a comment (what is wrong), 'edit: LABEL', and a must-fail edit's lines; these may also mend the text of a proof whose
-# law stays true, so that the check comes to one that does not. Each is applied to a copy of the repository. The crate itself is checked ('rt dev', whose
-# incremental folder is kept), and while all is proved the crates that stand on it ('rt check'), up the layers, to the first that refuses. Crates that the
-# edit does not reach are not proved again: their libraries are taken from target/ ('rt check' first). RT is the command in place of 'rt'. Copies and logs
-# stand in target/wrong/CRATE.
+# law stays true, so that the check comes to one that does not. Each is applied to a copy of the repository. The crate itself is checked ('rt check', which
+# begins with what was kept of the crate as it is), and while all is proved the crates that stand on it, up the layers, to the first that refuses. A variant
+# that the check cannot read counts for nothing, by the rules of 'rt must-fail': BAD EDIT. RT is the command in place of 'rt'. Logs stand in
+# target/wrong/CRATE; the copy stands in TMPDIR and is removed at the end, since 'rt ci' takes no crates.txt below the top.
 set -u
 here=$(cd "$(dirname "$0")" && pwd -P)
 root=$(cd "$here/../.." && pwd -P)
 rt=${RT:-rt}
+work=$(mktemp -d) || exit 2
+trap 'rm -rf "$work"' EXIT
+trap 'exit 2' HUP INT TERM
 # their contracts cite no definition of the project
 tests='cases random_tests'
 
 # crates in the order of crates.txt, each behind what it stands on: "NAME DEP DEP .."
 layers=$(awk '
     { sub(/#.*/, "") } /^[ \t]*$/ { next }
-    { i = index($0, ":"); n = substr($0, 1, i - 1); deps[n] = substr($0, i + 1); list[++count] = n }
+    { i = index($0, ":"); n = substr($0, 1, i - 1); sub(/[ \t].*/, "", n); deps[n] = substr($0, i + 1); list[++count] = n }
     function visit(n,    a, k, m) {
         if (n in seen) return
         seen[n] = 1; m = split(deps[n], a, " ")
@@ -59,9 +62,9 @@ apply() { # CRATE-FOLDER
                     rest = substr(text, at + length(old))
                     if (index(rest, old)) exit 4
                     printf "%s%s%s", substr(text, 1, at - 1), new, rest
-                }' "$1/$f" >"$1/.edited"
+                }' "$1/$f" >"$work/edited"
             case $? in
-            0) mv "$1/.edited" "$1/$f" ;;
+            0) mv "$work/edited" "$1/$f" ;;
             3) echo "'$old' is not in $f"; return ;;
             *) echo "'$old' is in $f more than once"; return ;;
             esac
@@ -71,43 +74,68 @@ apply() { # CRATE-FOLDER
     [ "$pairs" -gt 0 ] || echo "no 'old:' and 'new:'"
 }
 
-# a copy of the repository for a crate's edits, with the libraries that they do not reach; the crate as it is must be proved
-prepare() { # CRATE
-    work=$root/target/wrong/$1/work
-    mkdir -p "$work"
-    rm -rf "$work/crates" "$work/target/rlib" "$work/target/stamp"
-    mkdir -p "$work/target/rlib" "$work/target/stamp" "$work/target/log"
-    cp -R "$root/crates" "$root/crates.txt" "$work/"
-    to_try=$(reached "$1")
+# the sources of all crates as they are; what was kept of them stays
+restore() {
+    cp "$root/crates.txt" "$work/"
     for d in $(printf '%s\n' "$layers" | cut -d' ' -f1); do
-        case " $(echo $to_try) " in *" $d "*) continue ;; esac
-        [ -d "$root/target/rlib/$d.rlib" ] && [ -f "$root/target/stamp/$d" ] || continue
-        ln -s "$root/target/rlib/$d.rlib" "$work/target/rlib/$d.rlib"
-        cp "$root/target/stamp/$d" "$work/target/stamp/$d"
+        mkdir -p "$work/crates/$d"
+        for part in src specs proofs; do
+            rm -rf "$work/crates/$d/$part"
+            [ ! -d "$root/crates/$d/$part" ] || cp -R "$root/crates/$d/$part" "$work/crates/$d/$part"
+        done
     done
-    [ -d "$work/target/inc/$1" ] || (cd "$work" && RT_JOBS=1 $rt dev "$1") >"$work/.log" 2>&1 ||
-        { echo "$1 is not proved as it is: see $work/.log" >&2; exit 2; }
+}
+
+check() { (cd "$work/crates/$1" && $rt check --jobs 1) >"$2" 2>&1; } # CRATE LOG
+
+# the crate as it is must be proved
+prepare() { # CRATE
+    restore
+    to_try=$(reached "$1")
+    mkdir -p "$root/target/wrong/$1"
+    log=$root/target/wrong/$1/as_it_is.log
+    check "$1" "$log" || { echo "$1 is not proved as it is: see $log" >&2; exit 2; }
+}
+
+# from a log, 'unread PLACE' where a text of the sources, the definitions or an edited file does not read, 'name PLACE' where only a name is gone that a proof
+# file cites, 'at PLACE' where a fact fails, or nothing
+judge() { # LOG EDITED-FILES
+    awk -v edited="$2" '
+        BEGIN { m = split(edited, e, " "); for (k = 1; k <= m; k++) changed[e[k]] = 1 }
+        {
+            note = sub(/^note: /, ""); sub(/^\.\//, "")
+            if (!match($0, /^[^ :]+:[0-9]+:[0-9]+:/)) next
+            place = substr($0, 1, RLENGTH - 1); said = substr($0, RLENGTH + 1); file = place; sub(/:.*/, "", file)
+            fails = sub(/^ error(\[[a-z-]*\])?: /, "", said)
+            if (!fails && !(note && said ~ /not proved/)) next
+            named = said ~ /^`[^`]*`: /
+            lost = file ~ /^proofs\// && said ~ /has no field|is not in scope|has no `|was not admitted/
+            gsub(/`[^`]*`/, "", said)
+            if (fails && !unread && (file ~ /^(src|specs)\// || file in changed) &&
+                (!named || said ~ /is not in scope|has no field|is no name|operand is missing|expected the end|cannot continue/)) unread = place
+            if (lost) { if (!name) name = place } else if (!at) at = place
+        }
+        END { if (unread) print "unread " unread; else if (at) print "at " at; else if (name) print "name " name }' "$1"
 }
 
 try() { # CRATE LABEL
     crate=$1 label=$2
     log=$root/target/wrong/$crate/$label.log
-    rm -rf "$work/crates"
-    cp -R "$root/crates" "$work/crates"
+    restore
     wrong=$(paragraph "$here/$crate.edits" "$label" | apply "$work/crates/$crate")
     [ -z "$wrong" ] || { echo "$crate/$label: BAD EDIT: $wrong"; return; }
     for d in $to_try; do
-        verb=check
-        [ "$d" != "$crate" ] || verb=dev
-        (cd "$work" && RT_JOBS=1 RT_CUT=0 $rt $verb "$d") >"$log" 2>&1
+        check "$d" "$log"
         status=$?
         [ "$status" -ne 0 ] || continue
-        first=$(sed -n 's/^\([^ ]*\): error.*/\1/p; s/^note: \([^ ]*:[0-9]*:[0-9]*\):.*/\1/p' "$log" | head -n 1)
-        first=${first#"$work"/crates/}
-        case $first in
-        */specs/*) echo "$crate/$label: BAD EDIT: it does not reach a proof ($first)" ;;
-        '') echo "$crate/$label: BAD EDIT: $d ends with status $status and no place" ;;
-        *) echo "$crate/$label: refused by $d ($first)" ;;
+        files=''
+        [ "$d" != "$crate" ] || files=$(paragraph "$here/$crate.edits" "$label" | sed -n 's/^file: //p' | tr '\n' ' ')
+        found=$(judge "$log" "$files")
+        case $status:$found in
+        1:'at '*) echo "$crate/$label: refused by $d (${found#at })" ;;
+        1:'name '*) echo "$crate/$label: refused by $d (${found#name }, only because a name is gone that a proof file cites)" ;;
+        1:'unread '*) echo "$crate/$label: BAD EDIT: it does not read (${found#unread } of $d)" ;;
+        *) echo "$crate/$label: BAD EDIT: $d ends with status $status${found:+ (${found#* })}" ;;
         esac
         return
     done

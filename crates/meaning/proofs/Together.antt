@@ -1,7 +1,7 @@
 -- Path reductions of several queries run together: their rounds are the greatest of the separate counts, equal ones put together or not; and after them each
 -- has the figures that it has after rounds of its own. Assumes nothing.
 use Prim.Native.Nat.{ℕ, ◌≤◌, ◌<◌, max}
-use mathlib.Core.Path.{◌≡◌, refl, sym, ap, ◌∙◌}
+use mathlib.Core.Path.{◌≡◌, ap}
 use mathlib.Core.List.{List, [], ◌∷◌, ◌++◌, map}
 use native.Mathlib.Omega.{arith}
 use lib.Dec.{T}
@@ -9,7 +9,7 @@ use Rattle.walks.specs.Lists.{All}
 use Rattle.walks.specs.Rounds.{State, rounds}
 use Rattle.walks.specs.Walks.{AllTo, Graph}
 use Rattle.walks.specs.Meaning.{Figures}
-use Rattle.walks.proofs.Joint.{Settles, greatest_rounds, rounds_greatest}
+use Rattle.walks.proofs.Joint.{greatest_rounds, rounds_greatest}
 use Rattle.walks.proofs.Optimal.{figures_unique}
 use Rattle.meaning.specs.Limits.{GraphFits, PathFits}
 use Rattle.meaning.specs.Meaning.{Same, Smallest}

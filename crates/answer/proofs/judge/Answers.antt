@@ -1,5 +1,4 @@
 use borrow.Author.Tests.{lt-ltb, le-ltb, eq-eqb, ne_eqb}
-use borrow.Author.Rules.{rules}
 use Rattle.answer.specs.Answer.{answer_code}
 use Rattle.answer.proofs.judge.Goals as goal
 

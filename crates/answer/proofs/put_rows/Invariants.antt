@@ -1,13 +1,9 @@
 use Prim.Native.Nat.{◌-◌, ◌≤◌}
-use mathlib.Core.Path.{◌≡◌, refl, ◌∙◌}
-use native.Mathlib.Omega.{arith}
+use mathlib.Core.Path.{◌≡◌}
 use lib.ListN.{length, take}
 use lib.Seq.{sets}
-use Rattle.value.specs.declared.Row.{Row}
-use Rattle.value.specs.declared.Value.TheVariants.{Absent}
 use Rattle.value.specs.Value.{values}
 use Rattle.answer.specs.Answer.{rows_bytes}
-use Rattle.answer.proofs.Bytes.{row_more}
 use Rattle.answer.proofs.put_rows.Given as goal
 
 abbrev pub invariant-loop-i : goal.invariant-loop-i

@@ -29,4 +29,6 @@ unfolding entry_term
 returns-in-ReduceWhere c = rw c.in-ReduceWhere.is refl
 
 pub returns-in_default : goal.returns-in_default
-returns-in_default c = rw (entry_others _ _ c.in_default.in_default-own.keys7) refl
+returns-in_default c =
+    let n = c.in_default in
+    rw (entry_others c.args.table c.args.t n.not-Path n.not-PathSet n.not-Literal n.not-Apply n.not-Reduce n.not-ReduceWhere) refl

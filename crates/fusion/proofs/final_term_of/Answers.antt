@@ -21,4 +21,6 @@ unfolding final_term
 returns-in-ResultApply c = rw c.in-ResultApply.is refl
 
 pub returns-in_default : goal.returns-in_default
-returns-in_default c = rw (final_others _ _ c.in_default.in_default-own.keys5) refl
+returns-in_default c =
+    let n = c.in_default in
+    rw (final_others c.args.k c.args.t n.not-Reduce n.not-ReduceWhere n.not-ResultLiteral n.not-ResultApply) refl

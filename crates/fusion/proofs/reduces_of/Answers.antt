@@ -14,4 +14,4 @@ unfolding reduces
 returns-in-ReduceWhere c = (rw c.in-ReduceWhere.is refl, omega arith)
 
 pub returns-in_default : goal.returns-in_default
-returns-in_default c = (rw (reduces_others _ c.in_default.in_default-own.keys3) refl, omega arith)
+returns-in_default c = (rw (reduces_others c.args.t c.in_default.not-Reduce c.in_default.not-ReduceWhere) refl, omega arith)

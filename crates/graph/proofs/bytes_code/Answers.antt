@@ -1,9 +1,6 @@
-use Prim.Native.Nat.{◌-◌, ◌≤◌}
-use mathlib.Core.Path.{◌≡◌, refl, ◌∙◌}
+use mathlib.Core.Path.{◌∙◌}
 use native.Mathlib.Omega.{arith}
-use borrow.Author.Rules.{rules}
-use lib.ListN.{drop}
-use Rattle.graph.specs.Graph.{edges_code, edges_in}
+use Rattle.graph.specs.Graph.{edges_in}
 use Rattle.graph.proofs.Rows.{edge_there, edges_count, row_passed, row_refused, rows_passed}
 use Rattle.graph.proofs.bytes_code.Goals as goal
 

@@ -1,10 +1,7 @@
 use Prim.Native.Nat.{◌-◌, ◌≤◌}
-use mathlib.Core.Path.{◌≡◌, refl, ◌∙◌}
-use native.Mathlib.Omega.{arith}
-use borrow.Author.Rules.{rules}
+use mathlib.Core.Path.{◌≡◌}
 use lib.ListN.{drop}
 use Rattle.graph.specs.Graph.{edges_code, edges_in}
-use Rattle.graph.proofs.Rows.{edge_there, edges_count, row_passed, row_refused, rows_passed}
 use Rattle.graph.proofs.bytes_code.Given as goal
 
 abbrev pub invariant-loop-i : goal.invariant-loop-i

@@ -1,6 +1,5 @@
 use mathlib.Core.Path.{sym, ◌∙◌}
 use borrow.Author.Tests.{eq-eqb, ne_eqb}
-use borrow.Author.Rules.{rules}
 use Rattle.graph.specs.Steps.{table_code}
 use Rattle.graph.proofs.Accepted.{counts}
 use Rattle.graph.proofs.Fits.{table_fits}

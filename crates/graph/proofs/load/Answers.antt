@@ -1,7 +1,5 @@
-use Prim.Native.Nat.{zero, ◌-◌, ◌≤◌}
 use mathlib.Core.Path.{◌≡◌, refl}
 use native.Mathlib.Omega.{arith}
-use Rattle.meaning.specs.Run.{tabulate}
 use Rattle.graph.specs.Graph.{edge_in, edges_in, filled, table_of}
 use Rattle.graph.proofs.Accepted.{accepted}
 use Rattle.graph.proofs.Rows.{edges_count, filled_more}

@@ -1,10 +1,7 @@
 use Prim.Native.Nat.{zero, ◌-◌, ◌≤◌}
-use mathlib.Core.Path.{◌≡◌, refl}
-use native.Mathlib.Omega.{arith}
+use mathlib.Core.Path.{◌≡◌}
 use Rattle.meaning.specs.Run.{tabulate}
-use Rattle.graph.specs.Graph.{edge_in, edges_in, filled, table_of}
-use Rattle.graph.proofs.Accepted.{accepted}
-use Rattle.graph.proofs.Rows.{edges_count, filled_more}
+use Rattle.graph.specs.Graph.{edge_in, filled}
 use Rattle.graph.proofs.load.Given as goal
 
 abbrev pub invariant-loop-i : goal.invariant-loop-i

@@ -1,10 +1,6 @@
-use Prim.Native.Nat.{◌-◌, ◌≤◌}
-use mathlib.Core.Path.{◌≡◌, refl, ◌∙◌}
-use mathlib.Core.List.{map}
+use mathlib.Core.Path.{refl, ◌∙◌}
 use native.Mathlib.Omega.{arith}
-use lib.ListN.{length, take}
-use lib.Seq.{sets}
-use Rattle.graph.specs.Encode.{edges_bytes, row_edge}
+use Rattle.graph.specs.Encode.{edges_bytes}
 use Rattle.graph.proofs.Bytes.{row_more}
 use Rattle.graph.proofs.put_rows.Goals as goal
 

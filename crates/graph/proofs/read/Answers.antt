@@ -1,5 +1,4 @@
 use borrow.Author.Tests.{eq-eqb, ne_eqb}
-use borrow.Author.Rules.{rules}
 use Rattle.graph.specs.Graph.{graph_reading}
 use Rattle.graph.proofs.read.Goals as goal
 

@@ -1,11 +1,8 @@
-use Prim.Native.Nat.{◌-◌, ◌≤◌}
-use mathlib.Core.Path.{◌≡◌, refl, ◌∙◌}
+use mathlib.Core.Path.{◌∙◌}
 use mathlib.Core.List.{map}
 use native.Mathlib.Omega.{arith}
-use borrow.Author.Rules.{rules}
-use lib.ListN.{take, drop}
+use lib.ListN.{take}
 use Rattle.graph.specs.Encode.{row_edge}
-use Rattle.graph.specs.Graph.{edges_code}
 use Rattle.graph.proofs.Rows.{row_passed, row_refused, rows_passed}
 use Rattle.graph.proofs.Table.{table_count, table_there}
 use Rattle.graph.proofs.rows_code.Goals as goal

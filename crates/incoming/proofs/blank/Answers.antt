@@ -1,9 +1,6 @@
-use Prim.Native.Nat.{ℕ, ◌≤◌, ◌<◌, ◌-◌}
-use mathlib.Core.Path.{◌≡◌, refl, sym, ◌∙◌}
-use mathlib.Core.Bool.{false}
+use mathlib.Core.Path.{◌∙◌}
 use native.Mathlib.Omega.{arith}
-use lib.ListN.{length, get_or, length-set}
-use Rattle.vertex_set.specs.Sets.{member}
+use lib.ListN.{length-set}
 use Rattle.incoming.proofs.Threads.{blank_head, blank_set}
 use Rattle.incoming.proofs.blank.Goals as goal
 

@@ -1,6 +1,5 @@
 use native.Mathlib.Omega.{arith}
 use Rattle.graph.proofs.Accepted.{accepted}
-use borrow.Author.Rules.{rules}
 use Rattle.incoming.proofs.field_at.Goals as goal
 
 pub read16-requires : goal.read16-requires

@@ -1,7 +1,6 @@
 use Prim.Native.Nat.{◌+◌, ◌*◌}
 use mathlib.Core.Path.{◌≡◌}
 use native.Mathlib.Omega.{arith}
-use borrow.Author.Rules.{rules}
 use Rattle.graph.proofs.Accepted.{accepted}
 use Rattle.incoming.proofs.Ends.{ends}
 use Rattle.incoming.proofs.from_at.Goals as goal

@@ -1,5 +1,4 @@
 use native.Mathlib.Omega.{arith}
-use borrow.Author.Rules.{rules}
 use Rattle.graph.proofs.Accepted.{accepted}
 use Rattle.incoming.proofs.Ends.{ends}
 use Rattle.incoming.proofs.to_at.Goals as goal

@@ -1,6 +1,5 @@
 use Rattle.packed_figures.specs.Packed.{constants}
 use Rattle.packed_figures.proofs.Three.{three_shift, three_unit}
-use borrow.Author.Rules.{rules}
 use Rattle.packed_figures.proofs.constants_of.Goals as goal
 
 pub returns : goal.returns

@@ -1,5 +1,4 @@
 use Rattle.packed_figures.specs.Steps.{last_shift}
-use borrow.Author.Rules.{rules}
 use Rattle.packed_figures.proofs.shift_of_third.Goals as goal
 
 pub returns : goal.returns

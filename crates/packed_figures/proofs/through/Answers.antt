@@ -1,11 +1,7 @@
-use Prim.Native.Nat.{ℕ, ◌+◌, ◌*◌, ◌-◌, ◌%◌, ◌≤◌, min, max}
-use mathlib.Core.Path.{◌≡◌, refl, sym, ◌∙◌}
+use mathlib.Core.Path.{◌∙◌}
 use native.Mathlib.Omega.{arith}
-use borrow.Author.Rules.{rules}
 use borrow.Author.Tests.{ne_eqb}
-use Rattle.packed_figures.specs.Packed.{Extends, along}
-use Rattle.packed_figures.specs.declared.PathConstants.{PathConstants}
-use Rattle.packed_figures.proofs.Options.{grows}
+use Rattle.packed_figures.specs.Packed.{along}
 use Rattle.packed_figures.proofs.through.Goals as goal
 
 pub returns-then-c-eq5 : goal.returns-then-c-eq5

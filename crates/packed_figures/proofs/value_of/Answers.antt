@@ -1,8 +1,4 @@
-use Prim.Native.Nat.{◌/◌, ◌^◌}
-use native.Mathlib.Omega.{arith}
-use borrow.Author.Rules.{rules}
 use borrow.Author.Tests.{eq-eqb, ne_eqb}
-use lib.Bits.{and_le_r}
 use Rattle.packed_figures.specs.Packed.{figure_of}
 use Rattle.packed_figures.proofs.value_of.Goals as goal
 

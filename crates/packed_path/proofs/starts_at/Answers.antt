@@ -1,10 +1,7 @@
 use Prim.Native.Nat.{◌<◌}
 use mathlib.Core.Path.{◌≡◌, refl, sym, ◌∙◌}
 use native.Mathlib.Omega.{arith}
-use borrow.Author.Rules.{rules}
-use Rattle.meaning.specs.Query.{member}
 use Rattle.packed_path.specs.declared.PackedPath.{PackedPath}
-use Rattle.packed_path.specs.Packed.{sources_of}
 use Rattle.packed_path.specs.Steps.{rest_of}
 use Rattle.packed_path.proofs.Sources.{begins_member, member_first, member_last, member_rest, sources_none}
 use Rattle.packed_path.proofs.starts_at.Goals as goal

@@ -1,4 +1,3 @@
-use borrow.Author.Rules.{rules}
 use Rattle.path_fields.specs.Paths.{counted_sources}
 use Rattle.path_fields.proofs.counted_sources.Goals as goal
 

@@ -1,4 +1,3 @@
-use borrow.Author.Rules.{rules}
 use Rattle.path_fields.specs.Paths.{keys_at}
 use Rattle.path_fields.proofs.keys_at.Goals as goal
 

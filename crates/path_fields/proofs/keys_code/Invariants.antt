@@ -1,12 +1,6 @@
-use Prim.Native.Nat.{ℕ, ◌+◌}
-use mathlib.Core.Path.{◌≡◌, refl, ap, ◌∙◌}
-use native.Mathlib.Omega.{arith}
-use borrow.Author.Rules.{rules}
-use borrow.Author.Tests.{eq-eqb, ne_eqb}
-use lib.Dec.{eqb}
-use Rattle.fields.specs.Fields.{key_code}
+use Prim.Native.Nat.{◌+◌}
+use mathlib.Core.Path.{◌≡◌}
 use Rattle.path_fields.specs.Paths.{keys_code}
-use Rattle.path_fields.proofs.Laws.{keys_next}
 use Rattle.path_fields.proofs.keys_code.Given as goal
 
 abbrev pub invariant-loop-left : goal.invariant-loop-left

@@ -1,4 +1,3 @@
-use borrow.Author.Rules.{rules}
 use Rattle.path_fields.specs.Paths.{path_at}
 use Rattle.path_fields.proofs.path_at.Goals as goal
 

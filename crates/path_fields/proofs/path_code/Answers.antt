@@ -1,4 +1,3 @@
-use borrow.Author.Rules.{rules}
 use borrow.Author.Tests.{eq-eqb, ne_eqb}
 use Rattle.path_fields.specs.Paths.{path_code}
 use Rattle.path_fields.proofs.path_code.Goals as goal

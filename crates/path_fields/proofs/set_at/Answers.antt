@@ -1,4 +1,3 @@
-use borrow.Author.Rules.{rules}
 use Rattle.path_fields.specs.Paths.{set_at}
 use Rattle.path_fields.proofs.set_at.Goals as goal
 

@@ -1,5 +1,3 @@
-use borrow.Author.Rules.{rules}
-use native.Mathlib.Omega.{arith}
 use borrow.Author.Tests.{eq-eqb, ne_eqb}
 use Rattle.path_fields.specs.Paths.{set_code}
 use Rattle.path_fields.proofs.set_code.Goals as goal

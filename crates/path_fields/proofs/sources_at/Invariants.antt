@@ -1,9 +1,6 @@
 use Prim.Native.Nat.{◌+◌, ◌-◌, ◌*◌, ◌≤◌}
-use mathlib.Core.Path.{◌≡◌, refl, ap}
-use native.Mathlib.Omega.{arith}
-use borrow.Author.Rules.{rules}
+use mathlib.Core.Path.{◌≡◌}
 use Rattle.path_fields.specs.Paths.{sources_at}
-use Rattle.path_fields.proofs.Laws.{sources_count, sources_next}
 use Rattle.path_fields.proofs.sources_at.Given as goal
 
 abbrev pub invariant-loop-left : goal.invariant-loop-left

@@ -1,11 +1,6 @@
 use Prim.Native.Nat.{◌+◌, ◌*◌}
-use mathlib.Core.Path.{◌≡◌, refl, ap₂, ◌∙◌}
-use native.Mathlib.Omega.{arith}
-use borrow.Author.Rules.{rules}
-use borrow.Author.Tests.{eq-eqb, ne_eqb}
-use lib.ListN.{get_or}
-use Rattle.path_fields.specs.Paths.{start_code, starts_code}
-use Rattle.path_fields.proofs.Laws.{starts_next}
+use mathlib.Core.Path.{◌≡◌}
+use Rattle.path_fields.specs.Paths.{starts_code}
 use Rattle.path_fields.proofs.starts_code.Given as goal
 
 abbrev pub invariant-loop-left : goal.invariant-loop-left

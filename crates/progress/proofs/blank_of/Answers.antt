@@ -1,5 +1,4 @@
 use mathlib.Core.Path.{refl}
-use borrow.Author.Rules.{rules}
 use Rattle.progress.specs.Progress.{blank}
 use Rattle.progress.proofs.blank_of.Goals as goal
 

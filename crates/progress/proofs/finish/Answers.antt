@@ -1,4 +1,3 @@
-use borrow.Author.Rules.{rules}
 use borrow.Author.Tests.{eq-eqb, le-ltb, lt-ltb, ne_eqb}
 use Rattle.progress.specs.Progress.{ended}
 use Rattle.progress.proofs.finish.Goals as goal

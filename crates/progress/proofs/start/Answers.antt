@@ -1,5 +1,4 @@
 use mathlib.Core.Path.{refl}
-use borrow.Author.Rules.{rules}
 use Rattle.progress.specs.Progress.{started}
 use Rattle.progress.proofs.start.Goals as goal
 

@@ -25,7 +25,7 @@ returns-then-vertices-m c =
       c.vertices.ensures.0,
       c.if-vertices-m.true,
     ) in (
-      rests a.graph.now a.path (given) a.j a.r a.figures.now c.requires.4
+      rests a.graph.now a.path given a.j a.r a.figures.now c.requires.4
           (λ v h. cell_mark a.figures.now a.j v ∙ l.none_before v (omega arith) (omega (arith, end))),
       refl,
     )
@@ -34,28 +34,24 @@ pub push_round-requires : goal.push_round-requires
 unfolding changed_in
 push_round-requires c =
     let given : Given c.args.graph.now c.args.path = record { bytes = λ i. omega (arith, c.shared_slice_known-1.given i); accepted = c.requires.0.threads.accepted; fits = c.requires.2 } in
-    let early : c.args.r < 1023 = let known = c in
-    let s = known in
-    let a = s.args in
+    let early : c.args.r < 1023 = let a = c.args in
     let v = c.first-m.result.vertex in
     let l = met_least a.figures.now a.j 0 (omega arith) _ c.first-m.ensures in
     let h : v < at16 a.graph.now 5 = omega (arith, c.vertices.ensures.0, c.if-vertices-m.false) in
-    awake_early a.graph.now a.path (given known) a.j a.r a.figures.now s.requires.4 v h
-    (cell_mark a.figures.now a.j v ∙ l.passes (omega (arith, h, (graph_legal a.graph.now a.path (given known)).few_vertices))) in
+    awake_early a.graph.now a.path given a.j a.r a.figures.now c.requires.4 v h
+    (cell_mark a.figures.now a.j v ∙ l.passes (omega (arith, h, (graph_legal a.graph.now a.path given).few_vertices))) in
     (c.requires.0, c.requires.1, c.requires.2, c.requires.3, early, c.requires.4.sound, c.requires.5)
 
 pub pull_round-requires : goal.pull_round-requires
 unfolding changed_in
 pull_round-requires c =
     let given : Given c.args.graph.now c.args.path = record { bytes = λ i. omega (arith, c.shared_slice_known-1.given i); accepted = c.requires.0.threads.accepted; fits = c.requires.2 } in
-    let early : c.args.r < 1023 = let known = c in
-    let s = known in
-    let a = s.args in
+    let early : c.args.r < 1023 = let a = c.args in
     let v = c.first-m.result.vertex in
     let l = met_least a.figures.now a.j 0 (omega arith) _ c.first-m.ensures in
     let h : v < at16 a.graph.now 5 = omega (arith, c.vertices.ensures.0, c.if-vertices-m.false) in
-    awake_early a.graph.now a.path (given known) a.j a.r a.figures.now s.requires.4 v h
-    (cell_mark a.figures.now a.j v ∙ l.passes (omega (arith, h, (graph_legal a.graph.now a.path (given known)).few_vertices))) in
+    awake_early a.graph.now a.path given a.j a.r a.figures.now c.requires.4 v h
+    (cell_mark a.figures.now a.j v ∙ l.passes (omega (arith, h, (graph_legal a.graph.now a.path given).few_vertices))) in
     (c.requires.0, c.requires.1, c.requires.2, c.requires.3, early, c.requires.4.sound, c.requires.5)
 
 pub returns-then-push : goal.returns-then-push
@@ -63,9 +59,7 @@ returns-then-push c =
     let given : Given c.args.graph.now c.args.path = record { bytes = λ i. omega (arith, c.shared_slice_known-1.given i); accepted = c.requires.0.threads.accepted; fits = c.requires.2 } in
     let a = c.args in
     let t = c.push_round in (
-      push_stands a.graph.now a.path (given
-          c)
-          a.j a.r a.figures.now c.requires.4 _ _ t.ensures.0,
+      push_stands a.graph.now a.path given a.j a.r a.figures.now c.requires.4 _ _ t.ensures.0,
       t.ensures.1,
     )
 
@@ -74,8 +68,6 @@ returns c =
     let given : Given c.args.graph.now c.args.path = record { bytes = λ i. omega (arith, c.shared_slice_known-1.given i); accepted = c.requires.0.threads.accepted; fits = c.requires.2 } in
     let a = c.args in
     let t = c.pull_round in (
-      pull_stands a.graph.now a.path (given
-          c)
-          a.j a.r a.figures.now c.requires.4 _ _ t.ensures.0,
+      pull_stands a.graph.now a.path given a.j a.r a.figures.now c.requires.4 _ _ t.ensures.0,
       t.ensures.1,
     )

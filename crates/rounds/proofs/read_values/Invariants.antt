@@ -16,6 +16,12 @@ use Rattle.rounds.proofs.Tables.{legal_at}
 use Rattle.rounds.proofs.Values.{value_read}
 use Rattle.rounds.proofs.read_values.Given as goal
 
+-- the first j have their values, the others their words
+pub record Upto (n : ℕ) (all : List PathConstants) (old new : List ℕ) (j : ℕ) : Type 0 where
+  pub done : (i : ℕ) → i < j → (v : ℕ) → v < n → word_in new i v ≡ value_word (get_or all i no_constants) (word_in old i v)
+  pub left : (i : ℕ) → j ≤ i → i < 8 → (v : ℕ) → v < 256 → word_in new i v ≡ word_in old i v
+  pub size : length new ≡ length old
+
 abbrev pub invariant-loop-j : goal.invariant-loop-j
 invariant-loop-j l = (l.j ≤ l.paths) × Upto l.n l.all l.initial.figures l.figures l.j
 

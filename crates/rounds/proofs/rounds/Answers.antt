@@ -17,7 +17,7 @@ returns-then-not-changed c =
     let t = c.round-changed in (
       rw (add-one l.r)
           (ran_quiet (graph_of a.graph.now) a.paths a.table l.invariant.0 a.limit l.r _ (omega arith) t.ensures.0 l.invariant.3
-          (sym (not-true t.result c.if-not-changed.true) ∙ t.ensures.1)),
+          (sym c.if-not-changed.true ∙ t.ensures.1)),
       t.ensures.2 ∙ l.invariant.5,
     )
 

@@ -13,6 +13,17 @@ use Rattle.rows.specs.Steps.{rows_at}
 use Rattle.rows.proofs.Laws.{entry_written}
 use Rattle.rows.proofs.write_rows.Goals as goal
 
+-- what is written of an array of so many rows
+module _ (plan figures slots : List ℕ) (at n rounds room size : ℕ) (array : List Row) where
+  abbrev rows : List Row
+  rows = entry_rows plan at (rows_at figures slots 8) n
+
+  as_rows : array ≡ rows ++ replicate (size - length rows) (row Absent)
+      → answer_reply n rounds 0 (values array) room ≡ answer_reply n rounds 0 (values rows) room
+  as_rows e =
+      ap (λ (l : List Row). answer_reply n rounds 0 (values l) room) e
+      ∙ entry_written plan (rows_at figures slots 8) n at rounds (replicate (size - length rows) (row Absent)) room
+
 pub returns-then-n-le16 : goal.returns-then-n-le16
 returns-then-n-le16 c =
     let a = c.args in

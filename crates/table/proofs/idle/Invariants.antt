@@ -6,7 +6,7 @@ use Rattle.table.proofs.Lent.{Upto, upto_all, upto_more, upto_none}
 use Rattle.table.proofs.idle.Given as goal
 
 abbrev pub invariant-loop-u : goal.invariant-loop-u
-invariant-loop-u l = (l.u ≤ l.n) × Upto l.n (λ l.u. absent) l.initial.figures l.figures l.u
+invariant-loop-u l = (l.u ≤ l.n) × Upto l.n (λ u'. absent) l.initial.figures l.figures l.u
 
 abbrev pub decreases-loop-u : goal.decreases-loop-u
 decreases-loop-u l = l.n - l.u

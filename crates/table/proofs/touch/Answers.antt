@@ -14,11 +14,24 @@ use Rattle.packed_figures.specs.Packed.{absent}
 use Rattle.table.specs.Table.{lent}
 use Rattle.table.specs.Steps.{lends, word_in}
 use Rattle.table.proofs.Lent.{Upto, above_stored, marks_stored, upto_all, upto_more, upto_none, upto_passed, words_stay}
+use Rattle.table.proofs.touch.Invariants.{zeros}
 use Rattle.table.proofs.touch.Goals as goal
 
--- no one yet
-abbrev zeros : List ℕ
-zeros = 0 ∷ 0 ∷ 0 ∷ 0 ∷ []
+-- vertices that are not in set j lead nowhere
+module _ (words l : List ℕ) (j : ℕ) (others : List ℕ) (v : ℕ) where
+  abbrev upto : ℕ → List ℕ
+  upto w = joined_chosen words 0 l j others w
+
+  some_passed : (d : ℕ) → v + d ≤ 256 → ((u : ℕ) → v ≤ u → u < v + d → member l j u ≡ false) → upto (v + d) ≡ upto v
+  some_passed zero most none = ap upto (let e : v + zero ≡ v = omega arith in e)
+  some_passed (suc d) most none =
+      ap upto (let e : v + suc d ≡ suc (v + d) = omega arith in e)
+      ∙ chosen_kept words 0 l j others (v + d) (omega arith) (none (v + d) (omega arith) (omega arith))
+      ∙ some_passed d (omega arith) (λ u h k. none u h (omega arith))
+
+  all_passed : (w : ℕ) → v ≤ w → w ≤ 256 → ((u : ℕ) → v ≤ u → u < w → member l j u ≡ false) → upto w ≡ upto v
+  all_passed w up most none =
+      ap upto (let e : w ≡ v + (w - v) = omega arith in e) ∙ some_passed (w - v) (omega arith) (λ u h k. none u h (omega arith))
 
 -- who is not in set j lends ABSENT
 lends_not : (c : PathConstants) (n j : ℕ) (l : List ℕ) (u : ℕ) → lent n l u ≡ absent → member l j u ≡ false → lent n l u ≡ lends c j l u

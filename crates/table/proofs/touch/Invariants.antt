@@ -17,7 +17,7 @@ use Rattle.table.proofs.Lent.{Upto, above_stored, marks_stored, upto_all, upto_m
 use Rattle.table.proofs.touch.Given as goal
 
 -- no one yet
-abbrev zeros : List ℕ
+abbrev pub zeros : List ℕ
 zeros = 0 ∷ 0 ∷ 0 ∷ 0 ∷ []
 
 abbrev pub invariant-loop-m : goal.invariant-loop-m

@@ -15,4 +15,7 @@ returns c = (
 )
 
 pub insert_if-requires : goal.insert_if-requires
-insert_if-requires c = c.insert-if.auto.0
+insert_if-requires c = (
+  omega (arith, c.requires.1, (accepted c.args.graph.now c.requires.0.edges.lends.accepted).sizes.few_vertices),
+  omega (arith, c.requires.0.work_fits),
+)

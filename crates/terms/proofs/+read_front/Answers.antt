@@ -1,6 +1,4 @@
-use Prim.Native.Nat.{ℕ, ◌<◌}
 use mathlib.Core.Path.{refl, sym, ◌∙◌}
-use borrow.Author.Rules.{rules}
 use borrow.Author.Tests.{eq-eqb}
 use Rattle.terms.specs.Steps.{expression, held_step}
 use Rattle.terms.proofs.Fronts.{held_accepted, held_code, held_progress}

@@ -1,6 +1,4 @@
-use Prim.Native.Nat.{ℕ, ◌<◌}
 use mathlib.Core.Path.{sym}
-use borrow.Author.Rules.{rules}
 use borrow.Author.Tests.{eq-eqb, ne_eqb}
 use Rattle.terms.proofs.Laws.{handed_on, read_none, read_next}
 use Rattle.terms.proofs.+read_term.Goals as goal

@@ -1,4 +1,3 @@
-use borrow.Author.Rules.{rules}
 use mathlib.Core.Path.{refl}
 use Rattle.terms.specs.Terms.{advanced}
 use Rattle.terms.proofs.advance.Goals as goal

@@ -1,4 +1,3 @@
-use borrow.Author.Rules.{rules}
 use mathlib.Core.Path.{◌≡◌, refl}
 use borrow.Author.Tests.{eq-eqb, ne_eqb}
 use Rattle.fields.specs.Fields.{code_of}
@@ -16,8 +15,8 @@ unfolding apply_step
 returns c =
     let operator_is : c.code_of-c.result ≡ code_of c.byte.result 11 = c.code_of-c.ensures in
     rw (
-  ← c.byte.ensures.0,
-  ← operator_is,
-  eq-eqb _ _ c.if-c-ne0.false,
-  c.advance.ensures,
-) refl
+      ← c.byte.ensures.0,
+      ← operator_is,
+      eq-eqb _ _ c.if-c-ne0.false,
+      c.advance.ensures,
+    ) refl

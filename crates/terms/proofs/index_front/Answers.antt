@@ -1,4 +1,3 @@
-use borrow.Author.Rules.{rules}
 use borrow.Author.Tests.{eq-eqb, le-leb, le-ltb, lt-leb, lt-ltb}
 use mathlib.Core.Path.{refl}
 use Rattle.terms.specs.Steps.{held, held_step}

@@ -1,4 +1,3 @@
-use borrow.Author.Rules.{rules}
 use borrow.Author.Tests.{le-leb, le-ltb, lt-leb, lt-ltb}
 use Rattle.terms.specs.Terms.{index_step}
 use Rattle.terms.proofs.index_step_of.Goals as goal

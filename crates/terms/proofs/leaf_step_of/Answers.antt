@@ -1,4 +1,3 @@
-use borrow.Author.Rules.{rules}
 use Rattle.terms.specs.Terms.{leaf_step}
 use Rattle.terms.proofs.leaf_step_of.Goals as goal
 

@@ -1,4 +1,3 @@
-use borrow.Author.Rules.{rules}
 use borrow.Author.Tests.{le-ltb, lt-ltb}
 use Rattle.terms.specs.Terms.{literal_step}
 use Rattle.terms.proofs.literal_step_of.Goals as goal

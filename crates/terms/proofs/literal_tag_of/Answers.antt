@@ -1,5 +1,4 @@
 use native.Mathlib.Omega.{arith}
-use borrow.Author.Rules.{rules}
 use Rattle.terms.specs.Terms.{literal_tag}
 use Rattle.terms.proofs.literal_tag_of.Goals as goal
 

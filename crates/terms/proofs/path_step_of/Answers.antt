@@ -1,4 +1,3 @@
-use borrow.Author.Rules.{rules}
 use borrow.Author.Tests.{eq-eqb, ne_eqb}
 use Rattle.terms.specs.Terms.{path_step}
 use Rattle.terms.proofs.path_step_of.Goals as goal

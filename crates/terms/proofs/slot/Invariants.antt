@@ -1,10 +1,6 @@
-use Prim.Native.Nat.{◌+◌, ◌-◌, ◌≤◌}
-use mathlib.Core.Path.{◌≡◌, refl, sym, ◌∙◌}
-use native.Mathlib.Omega.{arith}
-use borrow.Author.Rules.{rules}
-use borrow.Author.Tests.{le-leb, lt-leb}
+use Prim.Native.Nat.{◌-◌, ◌≤◌}
+use mathlib.Core.Path.{◌≡◌}
 use Rattle.terms.specs.Terms.{slot_of}
-use Rattle.terms.proofs.Laws.{slot_next}
 use Rattle.terms.proofs.slot.Given as goal
 
 abbrev pub invariant-loop-i : goal.invariant-loop-i

@@ -1,4 +1,3 @@
-use borrow.Author.Rules.{rules}
 use borrow.Author.Tests.{eq-eqb, le-leb, lt-leb, ne_eqb}
 use Rattle.terms.specs.Terms.{term_step}
 use Rattle.terms.proofs.term_step_of.Goals as goal

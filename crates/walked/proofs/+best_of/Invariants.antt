@@ -1,14 +1,7 @@
-use Prim.Native.Nat.{ℕ, ◌+◌, ◌*◌, ◌-◌, ◌/◌, ◌<◌, ◌≤◌}
-use mathlib.Core.Path.{◌≡◌, sym, ap, ◌∙◌}
-use mathlib.Core.List.{foldl}
-use native.Mathlib.Omega.{arith}
-use borrow.Author.Rules.{rules}
-use lib.ListN.{length, get_or}
-use Rattle.value.specs.declared.Value.{Value}
-use Rattle.walked.specs.declared.Walk.{Walk}
-use Rattle.walked.specs.Steps.{judged}
-use Rattle.walked.specs.Walked.{longer, walks}
-use Rattle.walked.proofs.Laws.{over, over_none, over_next, over_skip, walks_none, walks_next}
+use Prim.Native.Nat.{◌-◌, ◌/◌, ◌≤◌}
+use mathlib.Core.Path.{◌≡◌}
+use lib.ListN.{length}
+use Rattle.walked.proofs.Laws.{over}
 use Rattle.walked.proofs.+best_of.Given as goal
 
 abbrev pub invariant-loop-i : goal.invariant-loop-i

@@ -1,4 +1,3 @@
-use borrow.Author.Rules.{rules}
 use Rattle.walked.specs.Walked.{better}
 use Rattle.walked.proofs.better.Goals as goal
 

@@ -1,4 +1,3 @@
-use borrow.Author.Rules.{rules}
 use borrow.Author.Tests.{ne_eqb}
 use Rattle.walked.specs.Walked.{figure_of}
 use Rattle.walked.proofs.figure_of.Goals as goal

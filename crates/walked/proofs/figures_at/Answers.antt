@@ -1,11 +1,10 @@
-use Prim.Native.Nat.{ℕ, ◌-◌, ◌≤◌}
-use mathlib.Core.Path.{◌≡◌, refl, sym, ap, ◌∙◌}
+use Prim.Native.Nat.{ℕ}
+use mathlib.Core.Path.{refl, sym, ap, ◌∙◌}
 use native.Mathlib.Omega.{arith}
 use borrow.Author.Rules.{rules}
-use lib.ListN.{length, take, length-set}
-use Rattle.walked.specs.declared.Walk.{Walk}
+use lib.ListN.{take, length-set}
 use Rattle.walked.specs.Walked.{figures, figures_at, sources_of, three_figures, walks_to}
-use Rattle.walked.proofs.Laws.{found_best, goes_first, goes_last, goes_next, goes_none, goes_on, keys_fit}
+use Rattle.walked.proofs.Laws.{found_best, goes_first, goes_last, goes_next, goes_none, keys_fit}
 use Rattle.walked.proofs.figures_at.Goals as goal
 
 pub loop-i-init : goal.loop-i-init

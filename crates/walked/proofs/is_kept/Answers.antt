@@ -1,9 +1,5 @@
-use Prim.Native.Nat.{◌≤◌, ◌-◌}
-use mathlib.Core.Path.{◌≡◌, sym, ◌∙◌}
-use mathlib.Core.Bool.{true}
+use mathlib.Core.Path.{sym, ◌∙◌}
 use native.Mathlib.Omega.{arith}
-use borrow.Author.Rules.{rules}
-use Rattle.walked.specs.Steps.{agrees}
 use Rattle.walked.proofs.Laws.{agrees_none, agrees_next, agrees_not}
 use Rattle.walked.proofs.is_kept.Goals as goal
 

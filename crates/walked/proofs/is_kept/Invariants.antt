@@ -1,10 +1,7 @@
 use Prim.Native.Nat.{◌≤◌, ◌-◌}
-use mathlib.Core.Path.{◌≡◌, sym, ◌∙◌}
+use mathlib.Core.Path.{◌≡◌}
 use mathlib.Core.Bool.{true}
-use native.Mathlib.Omega.{arith}
-use borrow.Author.Rules.{rules}
 use Rattle.walked.specs.Steps.{agrees}
-use Rattle.walked.proofs.Laws.{agrees_none, agrees_next, agrees_not}
 use Rattle.walked.proofs.is_kept.Given as goal
 
 abbrev pub invariant-loop-i : goal.invariant-loop-i

@@ -1,4 +1,3 @@
-use borrow.Author.Rules.{rules}
 use Rattle.walked.specs.Steps.{judged}
 use Rattle.walked.proofs.judged.Goals as goal
 

@@ -1,10 +1,7 @@
 use Prim.Native.Nat.{◌≤◌, ◌-◌}
-use mathlib.Core.Path.{◌≡◌, refl}
-use native.Mathlib.Omega.{arith}
-use borrow.Author.Rules.{rules}
+use mathlib.Core.Path.{◌≡◌}
 use lib.ListN.{take, drop}
 use Rattle.walked.specs.Walked.{among}
-use Rattle.walked.proofs.Laws.{from_here, from_next, from_none, sources_fit}
 use Rattle.walked.proofs.may_start.Given as goal
 
 abbrev pub invariant-loop-i : goal.invariant-loop-i

@@ -1,9 +1,6 @@
-use Prim.Native.Nat.{◌-◌, ◌≤◌}
-use mathlib.Core.Path.{◌≡◌, sym, ◌∙◌}
-use mathlib.Core.Bool.{true}
+use mathlib.Core.Path.{sym, ◌∙◌}
 use native.Mathlib.Omega.{arith}
 use borrow.Author.Rules.{rules}
-use Rattle.walked.specs.Walked.{unchanged}
 use Rattle.walked.proofs.Laws.{same_few, unchanged_next, unchanged_none, unchanged_not}
 use Rattle.walked.proofs.unchanged.Goals as goal
 

@@ -1,10 +1,7 @@
 use Prim.Native.Nat.{◌-◌, ◌≤◌}
-use mathlib.Core.Path.{◌≡◌, sym, ◌∙◌}
+use mathlib.Core.Path.{◌≡◌}
 use mathlib.Core.Bool.{true}
-use native.Mathlib.Omega.{arith}
-use borrow.Author.Rules.{rules}
 use Rattle.walked.specs.Walked.{unchanged}
-use Rattle.walked.proofs.Laws.{same_few, unchanged_next, unchanged_none, unchanged_not}
 use Rattle.walked.proofs.unchanged.Given as goal
 
 abbrev pub invariant-loop-v : goal.invariant-loop-v

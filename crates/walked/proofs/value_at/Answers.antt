@@ -1,4 +1,3 @@
-use borrow.Author.Rules.{rules}
 use borrow.Author.Tests.{lt-ltb, le-ltb}
 use Rattle.walked.proofs.Laws.{keys_fit, value_padded}
 use Rattle.walked.proofs.value_at.Goals as goal

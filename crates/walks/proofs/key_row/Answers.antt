@@ -1,5 +1,3 @@
-use native.Mathlib.Omega.{arith}
-use borrow.Author.Rules.{rules}
 use Rattle.walks.proofs.Keys.{row_low, row_high, row_at}
 use Rattle.walks.proofs.key_row.Goals as goal
 

@@ -1,0 +1,15 @@
+use mathlib.Core.Path.{refl, sym, ◌∙◌}
+use native.Mathlib.Omega.{arith}
+use borrow.Author.Rules.{rules}
+use lib.ListN.{length}
+use Rattle.wire.specs.Wire.{Bytes}
+use Rattle.board.proofs.Meant.{board_refused}
+use Rattle.board.proofs.run.Goals as goal
+
+pub returns-then-code-ne0 : goal.returns-then-code-ne0
+returns-then-code-ne0 c =
+    let a = c.args in
+    let bb : Bytes a.board.now = λ i. omega (arith, c.shared_slice_known-1.given i) in
+    let k = rw c.scan-w.ensures at c.judge-code.ensures in
+    let e = board_refused a.limit a.board.now a.graph.now bb (length a.out.now) _ k c.if-code-ne0.true in
+    (rw e refl, rw e refl)

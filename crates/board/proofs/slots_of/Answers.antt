@@ -1,0 +1,30 @@
+use Prim.Native.Nat.{ℕ, ◌≤◌, ◌-◌}
+use mathlib.Core.Path.{◌≡◌, sym, ap, ap₂, ◌∙◌}
+use mathlib.Core.List.{List}
+use native.Mathlib.Omega.{arith}
+use borrow.Author.Rules.{rules}
+use lib.ListN.{get_or, set}
+use Rattle.eval.proofs.Fill.{filled, fill_next, fill_none}
+use Rattle.fusion.specs.Steps.{index_of}
+use Rattle.packed_path.specs.declared.PackedPath.{PackedPath}
+use Rattle.packed_path.specs.Packed.{no_path}
+use Rattle.board.specs.Steps.{slots_in}
+use Rattle.board.proofs.slots_of.Invariants.{slot}
+use Rattle.board.proofs.slots_of.Goals as goal
+
+pub loop-j-preserved : goal.loop-j-preserved
+loop-j-preserved c =
+    let a = c.args in
+    let l = c.loop-j in (
+      omega arith,
+      ap₂ (λ (slots : List ℕ) (k : ℕ). set slots l.j k) l.invariant.1 c.position_of.ensures.0
+          ∙ fill_next 8 (slot a.own a.joint) 0 l.j (omega (arith, c.requires)),
+    )
+
+pub returns : goal.returns
+unfolding slots_in
+returns c =
+    let a = c.args in
+    let l = c.loop-j in
+    let e : l.j ≡ a.paths = omega arith in
+    l.invariant.1 ∙ ap (filled 8 (slot a.own a.joint) 0) e

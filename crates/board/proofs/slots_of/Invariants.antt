@@ -1,0 +1,22 @@
+use Prim.Native.Nat.{ℕ, ◌≤◌, ◌-◌}
+use mathlib.Core.Path.{◌≡◌, sym, ap, ap₂, ◌∙◌}
+use mathlib.Core.List.{List}
+use native.Mathlib.Omega.{arith}
+use borrow.Author.Rules.{rules}
+use lib.ListN.{get_or, set}
+use Rattle.eval.proofs.Fill.{filled, fill_next, fill_none}
+use Rattle.fusion.specs.Steps.{index_of}
+use Rattle.packed_path.specs.declared.PackedPath.{PackedPath}
+use Rattle.packed_path.specs.Packed.{no_path}
+use Rattle.board.specs.Steps.{slots_in}
+use Rattle.board.proofs.slots_of.Given as goal
+
+-- the slot of the i-th
+abbrev pub slot : List PackedPath → List PackedPath → ℕ → ℕ
+slot own joint i = index_of (get_or own i no_path) joint
+
+abbrev pub invariant-loop-j : goal.invariant-loop-j
+invariant-loop-j l = (l.j ≤ l.paths) × (l.slots ≡ filled 8 (slot l.own l.joint) 0 l.j)
+
+abbrev pub decreases-loop-j : goal.decreases-loop-j
+decreases-loop-j l = l.paths - l.j

@@ -85,7 +85,7 @@ answer_all-requires c =
     let short = finish_short a.board.now a.graph.now board_bytes graph_bytes passed a.limit r in (
       rw count ok.0,
       ok.1,
-      omega (arith, accepted.graph_legal.ranges.some_vertex, c.vertices-n.ensures),
+      omega (arith, accepted.graph_legal.fits.some_vertex, c.vertices-n.ensures),
       omega (arith, accepted.graph_legal.few_vertices, c.vertices-n.ensures),
       omega (arith, e, all, size, c.if-out-size_of.false),
       omega (arith, e, short),

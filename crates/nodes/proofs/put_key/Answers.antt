@@ -1,4 +1,3 @@
-use borrow.Author.Rules.{rules}
 use borrow.Author.Tests.{le-ltb, lt-ltb}
 use Rattle.draft.specs.Steps.{put_list}
 use Rattle.nodes.proofs.put_key.Goals as goal

@@ -1,7 +1,6 @@
 use Prim.Native.Nat.{◌/◌, ◌%◌}
 use mathlib.Core.Path.{sym, ◌∙◌}
 use mathlib.Core.List.{◌++◌}
-use borrow.Author.Rules.{rules}
 use Rattle.draft.specs.Steps.{draft, put_byte, put_list}
 use Rattle.draft.proofs.Drafts.{put_append}
 use Rattle.nodes.specs.Text.{key_text, keys_text}

@@ -1,5 +1,4 @@
 use mathlib.Core.Path.{refl, ◌∙◌}
-use borrow.Author.Rules.{rules}
 use Rattle.draft.specs.Steps.{put_list}
 use Rattle.nodes.proofs.put_literal.Goals as goal
 

@@ -1,14 +1,10 @@
-use Prim.Native.Nat.{◌-◌, ◌≤◌}
-use mathlib.Core.Path.{◌≡◌, refl, sym, ◌∙◌}
+use mathlib.Core.Path.{sym, ◌∙◌}
 use native.Mathlib.Omega.{arith}
-use native.Mathlib.Nat.{sub-zero}
-use borrow.Author.Rules.{rules}
-use lib.ListN.{length, take}
-use Rattle.draft.specs.Steps.{draft, put_list}
-use Rattle.draft.proofs.Texts.{left, put_more, put_done}
+use Rattle.draft.specs.Steps.{draft}
+use Rattle.draft.proofs.Texts.{put_more, put_done}
 use Rattle.nodes.specs.declared.Term.TheVariants.{Empty}
 use Rattle.nodes.specs.Nodes.{node}
-use Rattle.nodes.specs.Text.{node_text, nodes_text}
+use Rattle.nodes.specs.Text.{node_text}
 use Rattle.nodes.proofs.Text.{nodes_short}
 use Rattle.nodes.proofs.put_nodes.Goals as goal
 

@@ -1,6 +1,5 @@
 use mathlib.Core.Path.{sym, ◌∙◌}
 use mathlib.Core.List.{◌∷◌}
-use borrow.Author.Rules.{rules}
 use Rattle.draft.specs.Steps.{draft}
 use Rattle.draft.proofs.Drafts.{put_append}
 use Rattle.nodes.specs.Text.{keys_text, set_text}

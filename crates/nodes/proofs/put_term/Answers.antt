@@ -1,4 +1,3 @@
-use borrow.Author.Rules.{rules}
 use Rattle.draft.specs.Steps.{put_list}
 use Rattle.nodes.specs.Text.{term_text}
 use Rattle.nodes.proofs.put_term.Goals as goal

@@ -1,8 +1,5 @@
-use Prim.Native.Nat.{◌-◌}
-use native.Mathlib.Omega.{arith}
-use borrow.Author.Rules.{rules}
 use Rattle.nodes.specs.Steps.{nodes_read}
-use Rattle.nodes.proofs.Held.{Held, held_none, held_more, held_all}
+use Rattle.nodes.proofs.Held.{held_more, held_all}
 use Rattle.nodes.proofs.read_nodes.Goals as goal
 
 pub loop-i-preserved : goal.loop-i-preserved

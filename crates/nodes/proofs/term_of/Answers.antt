@@ -1,5 +1,4 @@
 use mathlib.Core.Path.{ap}
-use borrow.Author.Rules.{rules}
 use borrow.Author.Tests.{le-leb, lt-leb, ne_eqb}
 use Rattle.nodes.specs.Steps.{term_at}
 use Rattle.nodes.specs.declared.Term.TheVariants.{Path, PathSet, Literal, Apply, Reduce, ReduceWhere, ResultLiteral, ResultApply}

@@ -1,9 +1,6 @@
-use Prim.Native.Nat.{◌+◌, ◌*◌, ◌≤◌}
-use mathlib.Core.Path.{◌≡◌, refl, sym, ◌∙◌}
+use mathlib.Core.Path.{refl, sym, ◌∙◌}
 use native.Mathlib.Omega.{arith}
-use borrow.Author.Rules.{rules}
-use lib.ListN.{get_or}
-use Rattle.plan.specs.Plan.{chains_end, count_at}
+use Rattle.plan.specs.Plan.{count_at}
 use Rattle.plan.proofs.Laws.{chains_next, chains_none}
 use Rattle.plan.proofs.count_at.Goals as goal
 

@@ -1,10 +1,7 @@
 use Prim.Native.Nat.{◌+◌, ◌*◌, ◌≤◌}
-use mathlib.Core.Path.{◌≡◌, refl, sym, ◌∙◌}
-use native.Mathlib.Omega.{arith}
-use borrow.Author.Rules.{rules}
+use mathlib.Core.Path.{◌≡◌}
 use lib.ListN.{get_or}
-use Rattle.plan.specs.Plan.{chains_end, count_at}
-use Rattle.plan.proofs.Laws.{chains_next, chains_none}
+use Rattle.plan.specs.Plan.{chains_end}
 use Rattle.plan.proofs.count_at.Given as goal
 
 abbrev pub invariant-loop-left : goal.invariant-loop-left

@@ -1,9 +1,6 @@
-use mathlib.Core.Path.{◌≡◌, refl, sym, ap, ◌∙◌}
-use mathlib.Core.List.{List}
+use mathlib.Core.Path.{◌≡◌, sym, ap, ◌∙◌}
 use Prim.Native.Nat.{◌-◌}
 use native.Mathlib.Omega.{arith}
-use borrow.Author.Rules.{rules}
-use Rattle.packed_path.specs.declared.PackedPath.{PackedPath}
 use Rattle.terms.specs.Steps.{held}
 use Rattle.terms.proofs.Fronts.{held_code}
 use Rattle.plan.specs.Plan.{entries_scan}

@@ -1,6 +1,5 @@
 use mathlib.Core.Path.{refl, ap, ◌∙◌}
 use native.Mathlib.Omega.{arith}
-use borrow.Author.Rules.{rules}
 use borrow.Author.Tests.{eq-eqb, le-leb, lt-leb, ne_eqb}
 use Rattle.terms.proofs.Fronts.{held_accepted, held_refused}
 use Rattle.plan.specs.Plan.{entry_scan, expressions_scan, moved}

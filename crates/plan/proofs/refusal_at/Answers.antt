@@ -1,5 +1,4 @@
 use mathlib.Core.Path.{refl}
-use borrow.Author.Rules.{rules}
 use borrow.Author.Tests.{eq-eqb, le-leb, lt-leb, ne_eqb}
 use Rattle.plan.specs.Steps.{listed_refusal}
 use Rattle.plan.proofs.refusal_at.Goals as goal

@@ -1,4 +1,3 @@
-use borrow.Author.Rules.{rules}
 use borrow.Author.Tests.{eq-eqb, le-ltb, lt-ltb, ne_eqb}
 use Rattle.plan.specs.Plan.{plan_scan}
 use Rattle.plan.proofs.scan.Goals as goal

@@ -12,9 +12,9 @@ LIBRARIES = build/libgrafs.a build/libgrafs_prefixed.a build/libservice.a
 .PHONY: all lib program try test install clean
 all: lib program
 
-# Builds a crate in its folder, by `rt lib` or `rt run`: rt proves first what has changed of it and below it. Its lines of progress are shown, and all that it
+# Builds a crate in its folder, by `rt lib` or `rt run`: rt proves first what has changed of it and below it. A line for each crate is shown, and all that rt
 # says where it fails.
-BUILD = built() { { (cd crates/$$1 && rt $$2 </dev/null); echo $$? >build/status; } 2>&1 | tee build/log | sed -un '/^rt: /p'; \
+BUILD = built() { { (cd crates/$$1 && rt $$2 </dev/null); echo $$? >build/status; } 2>&1 | tee build/log | sed -un '/^rt: chose/p'; \
 	test "$$(cat build/status)" = 0 || { cat build/log; false; }; }; built
 
 # The archive, the same with names that a program with a `run` of its own can link, and the one of all calls.

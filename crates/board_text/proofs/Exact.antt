@@ -1,11 +1,11 @@
 -- THE READER OF BOARDS ACCEPTS WHAT DOCUMENT 02, d) LAYS DOWN, AND THAT ONLY: the accepted bytes are exactly the encodings of legal boards, and their queries
 -- are seen from them. Assumes nothing.
 use Prim.Native.Nat.{ℕ, zero, suc, ◌+◌, ◌*◌, ◌/◌, ◌%◌, ◌≤◌, ◌<◌}
-use mathlib.Core.Path.{◌≡◌, refl, sym, ap, ap₂, ◌∙◌, subst}
+use mathlib.Core.Path.{◌≡◌, refl, sym, ap, ap₂, ◌∙◌}
 use mathlib.Core.Bool.{Bool, true, false, cond}
 use mathlib.Core.List.{List, [], ◌∷◌, ◌++◌}
 use native.Mathlib.Omega.{arith}
-use borrow.Author.Tests.{eqb-true, eqb-false, eq-eqb, le-ltb, ltb-false, ne_eqb}
+use borrow.Author.Tests.{eqb-true, le-ltb, ltb-false, ne_eqb}
 use lib.Dec.{ltb, eqb}
 use lib.ListN.{length, get_or, take, drop, length-append, length-drop, length-take, take-append-drop}
 use lib.Seq.{drop_at, drop-cons, drop-drop, take_at}
@@ -17,25 +17,11 @@ use Rattle.query.specs.Query as query
 use Rattle.query.specs.Tree.{query_of}
 use Rattle.query.proofs.Longest.{query_short}
 use Rattle.query.proofs.Tree.{query_accepted, query_back, query_read}
-use Rattle.term_text.proofs.Tree.{given, seen}
+use Rattle.term_text.proofs.Tree.{seen}
 use Rattle.walks.specs.Lists.{All}
 use Rattle.wire.specs.Wire.{Bytes, at16, le16}
 use Rattle.wire.proofs.Codes.{past, then_both, then_zero}
-use Rattle.board_text.specs.Board.{
-  BoardLegal,
-  after_query,
-  board_code,
-  count_code,
-  encode,
-  first_code,
-  first_query,
-  joint_code,
-  joint_paths,
-  queries_bytes,
-  queries_code,
-  queries_in,
-  queries_of,
-}
+use Rattle.board_text.specs.Board.{BoardLegal, after_query, board_code, count_code, encode, first_code, first_query, joint_paths, queries_bytes, queries_code, queries_in, queries_of}
 use Rattle.board_text.proofs.Joint.{drop_bytes, first_bytes, first_passed}
 use Rattle.board_text.proofs.Reading.{counted}
 

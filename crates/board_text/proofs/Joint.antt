@@ -9,15 +9,15 @@ use borrow.Author.Tests.{eqb-true, eqb-false, le-ltb, lt-ltb, ltb-false, ltb-tru
 use lib.Dec.{leb, ltb, eqb}
 use lib.ListN.{length, get_or, set, take, drop, length-take, get_or-eq_default}
 use lib.Seq.{get_or-drop, get_or-take}
-use Rattle.meaning.specs.Limits.{PathFits, QueryLegal}
+use Rattle.meaning.specs.Limits.{PathFits}
 use Rattle.meaning.specs.Plan.{put, put_all}
-use Rattle.meaning.specs.Query.{PathReduction, Query, written_paths}
+use Rattle.meaning.specs.Query.{PathReduction, written_paths}
 use Rattle.meaning.proofs.Paths.{put_all_append}
 use Rattle.packed_path.specs.declared.PackedPath.{PackedPath}
 use Rattle.packed_path.specs.Packed.{packed}
 use Rattle.progress.specs.declared.Progress.{Progress}
 use Rattle.progress.specs.Progress.{blank, started}
-use Rattle.query.specs.Query.{encode, query_code, query_scan}
+use Rattle.query.specs.Query.{query_code, query_scan}
 use Rattle.query.specs.Tree.{query_of}
 use Rattle.query.proofs.Exact.{read_complete}
 use Rattle.query.proofs.Tree.{query_read}
@@ -27,7 +27,7 @@ use Rattle.terms.specs.Terms.{kept_path, slot_of}
 use Rattle.walks.specs.Lists.{All}
 use Rattle.wire.specs.Header.{then}
 use Rattle.wire.specs.Wire.{Bytes, at16}
-use Rattle.wire.proofs.Codes.{then_both, then_none, then_same, then_some}
+use Rattle.wire.proofs.Codes.{then_both}
 use Rattle.board_text.specs.Board.{
   after_query,
   all_written,

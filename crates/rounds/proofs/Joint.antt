@@ -10,11 +10,9 @@ use native.Mathlib.Nat.{not-suc-le-zero}
 use borrow.Author.Tests.{not-false}
 use lib.Dec.{T}
 use lib.ListN.{length, get_or}
-use Rattle.walks.specs.Lists.{All}
 use Rattle.walks.specs.Rounds.{quiet, unchanged}
 use Rattle.walks.specs.Walks.{Graph}
 use Rattle.walks.proofs.Tests.{T_of}
-use Rattle.meaning.specs.Query.{PathReduction}
 use Rattle.meaning.specs.Run.{pull}
 use Rattle.graph.specs.Graph.{graph_of}
 use Rattle.packed_path.specs.declared.PackedPath.{PackedPath}

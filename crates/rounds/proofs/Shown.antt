@@ -1,7 +1,7 @@
 -- A ROUND ON WORDS IS THE ROUND ON FIGURES, over what the table shows; and so are the initial values. Assumes nothing.
 use Prim.Native.Nat.{ℕ, zero, suc, ◌+◌, ◌*◌, ◌≤◌, ◌<◌, min}
 use mathlib.Core.Path.{◌≡◌, refl, sym, ap, ap₂, ◌∙◌, subst}
-use mathlib.Core.Bool.{Bool, true, false, cond, not, ◌&&◌, false≢true}
+use mathlib.Core.Bool.{Bool, true, false, cond, not, ◌&&◌}
 use mathlib.Core.List.{List, [], ◌∷◌}
 use mathlib.Core.Option.{Option}
 use native.Mathlib.Omega.{arith}
@@ -25,10 +25,10 @@ use Rattle.packed_figures.specs.Packed.{Packs, absent, along, constants, figures
 use Rattle.packed_figures.specs.Steps.{brought, gathered}
 use Rattle.packed_figures.proofs.Gathered.{gathered_below, gathered_held, gathered_is}
 use Rattle.packed_figures.proofs.Held.{held_base, held_packs}
-use Rattle.packed_figures.proofs.Options.{along_absent, word_figures, word_initial, word_most, word_reached, word_same}
+use Rattle.packed_figures.proofs.Options.{along_absent, word_figures, word_initial, word_most, word_same}
 use Rattle.vertex_set.specs.Sets.{member}
 use Rattle.table.specs.Steps.{Began, Stepped, lends, moves, next_word, reduced_upto, started, touches, word_in}
-use Rattle.table.specs.Table.{Cell, Idle, Others, Sound, SoundWord, cell, cell_in, changed_in, figures_in}
+use Rattle.table.specs.Table.{Cell, Idle, Others, Sound, cell, cell_in, changed_in, figures_in}
 use Rattle.table.proofs.Cells.{cell_word}
 use Rattle.rounds.specs.Run.{Begun, Round}
 use Rattle.rounds.proofs.Given.{Given, T_true, graph_legal, path_legal}

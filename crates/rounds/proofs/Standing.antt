@@ -6,7 +6,6 @@ use mathlib.Core.List.{List}
 use mathlib.Core.Option.{Option}
 use native.Mathlib.Omega.{arith}
 use native.Mathlib.Decide.{dec_le}
-use lib.Dec.{T}
 use lib.ListN.{length}
 use Rattle.walks.specs.Rounds.{Marked, State, gather, marked, reached, same, state, unchanged}
 use Rattle.walks.specs.Walks.{Graph, Network}

@@ -1,14 +1,13 @@
 -- A ROUND BY PUSH AND A ROUND BY PULL: what they walk and the words lent, and what they leave. Assumes nothing.
 use Prim.Native.Nat.{ℕ, ◌+◌, ◌*◌, ◌≤◌, ◌<◌}
-use mathlib.Core.Path.{◌≡◌, refl, sym, ap, ap₂, ◌∙◌}
-use mathlib.Core.Bool.{Bool, true, false, cond, ◌&&◌, false≢true}
+use mathlib.Core.Path.{◌≡◌, refl, sym, ap, ◌∙◌}
+use mathlib.Core.Bool.{Bool, false, ◌&&◌}
 use mathlib.Core.List.{List}
 use native.Mathlib.Omega.{arith}
 use borrow.Author.Tests.{eq-eqb, lt-ltb, ne_eqb}
-use lib.Dec.{ltb}
 use lib.ListN.{length}
-use Rattle.walks.specs.Rounds.{State, gather}
-use Rattle.walks.specs.Walks.{Edge, Graph, Network}
+use Rattle.walks.specs.Rounds.{gather}
+use Rattle.walks.specs.Walks.{Edge, Network}
 use Rattle.meaning.specs.Query.{PathReduction, network_of}
 use Rattle.wire.specs.Wire.{at16}
 use Rattle.graph.specs.Graph.{edge_in, graph_of}
@@ -23,7 +22,7 @@ use Rattle.packed_figures.proofs.Legal.{legal_sound}
 use Rattle.vertex_set.specs.Sets.{filled, member}
 use Rattle.vertex_set.proofs.Sets.{member_filled, replaced_length, replaced_other}
 use Rattle.table.specs.Steps.{Quiet, Stepped, touches, word_in}
-use Rattle.table.specs.Table.{Idle, Sound, cell_in, changed_in, figures_in}
+use Rattle.table.specs.Table.{Idle, Sound, changed_in, figures_in}
 use Rattle.table.proofs.Cells.{cell_mark, cells_same, replaced_words}
 use Rattle.rounds.specs.Run.{Round}
 use Rattle.rounds.specs.Steps.{Indexed}

@@ -10,7 +10,7 @@ use lib.ListN.{length, get_or, set}
 use lib.Seq.{get_or-set_same, get_or-set_other}
 use Rattle.vertex_set.specs.Sets.{above, inserted, member, replaced}
 use Rattle.vertex_set.proofs.Sets.{above_inserted, inserted_length, inserted_other, member_inserted, member_stored, replaced_other}
-use Rattle.table.specs.Table.{Cell, cell, cell_in}
+use Rattle.table.specs.Table.{cell, cell_in}
 use Rattle.table.specs.Steps.{word_in}
 
 or_false : (b : Bool) → b ≡ (b || false)

@@ -1,4 +1,3 @@
-use borrow.Author.Rules.{rules}
 use borrow.Author.Tests.{eq-eqb, le-ltb, lt-ltb, ne_eqb}
 use Rattle.board_text.specs.Board.{count_code}
 use Rattle.board_text.proofs.count_code_of.Goals as goal

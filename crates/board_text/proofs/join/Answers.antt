@@ -1,12 +1,8 @@
-use Prim.Native.Nat.{◌-◌, ◌≤◌}
-use mathlib.Core.Path.{◌≡◌, sym, ap, ◌∙◌}
+use mathlib.Core.Path.{sym, ap, ◌∙◌}
 use native.Mathlib.Omega.{arith}
-use native.Mathlib.Nat.{sub-zero}
-use borrow.Author.Rules.{rules}
-use lib.ListN.{take}
 use Rattle.draft.proofs.Texts.{take_least}
 use Rattle.board_text.specs.Steps.{joined}
-use Rattle.board_text.proofs.Reading.{joined_next, joined_none, left}
+use Rattle.board_text.proofs.Reading.{joined_next, joined_none}
 use Rattle.board_text.proofs.join.Goals as goal
 
 pub loop-j-preserved : goal.loop-j-preserved

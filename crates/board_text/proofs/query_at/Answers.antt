@@ -1,6 +1,4 @@
-use mathlib.Core.Path.{sym, ap, ◌∙◌}
-use native.Mathlib.Omega.{arith}
-use borrow.Author.Rules.{rules}
+use mathlib.Core.Path.{sym, ◌∙◌}
 use Rattle.board_text.proofs.Reading.{first_cut, first_past, first_there}
 use Rattle.board_text.proofs.query_at.Goals as goal
 

@@ -1,15 +1,8 @@
-use Prim.Native.Nat.{◌+◌, ◌-◌, ◌≤◌}
-use mathlib.Core.Path.{◌≡◌, sym, ap, ◌∙◌, subst}
-use mathlib.Core.List.{List}
-use native.Mathlib.Omega.{arith}
-use native.Mathlib.Nat.{sub-zero}
-use borrow.Author.Rules.{rules}
+use Prim.Native.Nat.{◌-◌, ◌≤◌}
+use mathlib.Core.Path.{◌≡◌}
 use lib.ListN.{length, drop}
-use Rattle.progress.specs.declared.Progress.{Progress}
-use Rattle.progress.specs.Progress.{blank, started}
-use Rattle.wire.specs.Wire.{at16}
-use Rattle.board_text.specs.Steps.{first_scan, joint_scan}
-use Rattle.board_text.proofs.Reading.{first_whole, scan_ended, scan_left, scan_next, scan_over, scan_refused}
+use Rattle.board_text.specs.Steps.{joint_scan}
+use Rattle.board_text.proofs.Reading.{scan_left}
 use Rattle.board_text.proofs.scan_queries.Given as goal
 
 abbrev pub invariant-loop-i : goal.invariant-loop-i

@@ -1,6 +1,3 @@
-use Prim.Native.Nat.{ℕ, ◌+◌, ◌<◌}
-use native.Mathlib.Omega.{arith}
-use borrow.Author.Rules.{rules}
 use mathlib.Core.Path.{sym, ◌∙◌}
 use Rattle.eval.specs.Steps.{joined}
 use Rattle.eval.proofs.Laws.{evaluated_named, evaluated_next, evaluated_none}

@@ -1,6 +1,5 @@
 use Prim.Native.Nat.{◌+◌}
 use mathlib.Core.Path.{refl, ap}
-use borrow.Author.Rules.{rules}
 use borrow.Author.Tests.{le-leb, lt-leb}
 use Rattle.eval.specs.declared.Found.{Found}
 use Rattle.eval.specs.Steps.{condition_found, entry_end, entry_found, rows_in}

@@ -1,4 +1,3 @@
-use borrow.Author.Rules.{rules}
 use borrow.Author.Tests.{le-leb, lt-leb}
 use Rattle.eval.specs.Steps.{head}
 use Rattle.eval.proofs.head_of.Goals as goal

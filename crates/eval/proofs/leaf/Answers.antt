@@ -1,4 +1,3 @@
-use borrow.Author.Rules.{rules}
 use borrow.Author.Tests.{le-leb, le-ltb, lt-leb, lt-ltb}
 use Rattle.eval.specs.Steps.{leaf_in}
 use Rattle.eval.proofs.leaf.Goals as goal

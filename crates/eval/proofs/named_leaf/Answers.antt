@@ -1,5 +1,3 @@
-use native.Mathlib.Omega.{arith}
-use borrow.Author.Rules.{rules}
 use Rattle.eval.proofs.Laws.{leaf_row}
 use Rattle.eval.proofs.named_leaf.Goals as goal
 

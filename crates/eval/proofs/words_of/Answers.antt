@@ -1,4 +1,3 @@
-use borrow.Author.Rules.{rules}
 use Rattle.eval.specs.Steps.{as_found}
 use Rattle.eval.proofs.words_of.Goals as goal
 

@@ -1,5 +1,4 @@
 use mathlib.Core.Path.{refl}
-use borrow.Author.Rules.{rules}
 use borrow.Author.Tests.{eq-eqb, ne_eqb}
 use Rattle.fusion.specs.Steps.{entries_of}
 use Rattle.fusion.proofs.entries_of_kind.Goals as goal

@@ -1,5 +1,4 @@
 use mathlib.Core.Path.{refl}
-use borrow.Author.Rules.{rules}
 use Rattle.fusion.specs.Steps.{entry_term}
 use Rattle.fusion.proofs.Arms.{entry_others}
 use Rattle.fusion.proofs.entry_term_of.Goals as goal

@@ -1,5 +1,4 @@
 use mathlib.Core.Path.{refl}
-use borrow.Author.Rules.{rules}
 use Rattle.fusion.specs.Steps.{final_term}
 use Rattle.fusion.proofs.Arms.{final_others}
 use Rattle.fusion.proofs.final_term_of.Goals as goal

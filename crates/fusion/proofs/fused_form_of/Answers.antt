@@ -1,5 +1,4 @@
 use mathlib.Core.Path.{refl}
-use borrow.Author.Rules.{rules}
 use Rattle.fusion.specs.Steps.{fused_form}
 use Rattle.fusion.proofs.fused_form_of.Goals as goal
 

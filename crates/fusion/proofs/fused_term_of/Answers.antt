@@ -1,5 +1,4 @@
 use mathlib.Core.Path.{refl}
-use borrow.Author.Rules.{rules}
 use borrow.Author.Tests.{eq-eqb, ne_eqb}
 use Rattle.fusion.specs.Steps.{fused_term}
 use Rattle.fusion.proofs.fused_term_of.Goals as goal

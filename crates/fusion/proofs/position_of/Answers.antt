@@ -1,9 +1,5 @@
-use Prim.Native.Nat.{◌+◌, ◌-◌, ◌≤◌}
-use mathlib.Core.Path.{◌≡◌, sym, ◌∙◌}
+use mathlib.Core.Path.{sym, ◌∙◌}
 use native.Mathlib.Omega.{arith}
-use borrow.Author.Rules.{rules}
-use lib.ListN.{drop}
-use Rattle.fusion.specs.Steps.{index_of}
 use Rattle.fusion.proofs.Parts.{index_here, index_next, index_none}
 use Rattle.fusion.proofs.position_of.Goals as goal
 

@@ -1,10 +1,7 @@
 use Prim.Native.Nat.{◌+◌, ◌-◌, ◌≤◌}
-use mathlib.Core.Path.{◌≡◌, sym, ◌∙◌}
-use native.Mathlib.Omega.{arith}
-use borrow.Author.Rules.{rules}
+use mathlib.Core.Path.{◌≡◌}
 use lib.ListN.{drop}
 use Rattle.fusion.specs.Steps.{index_of}
-use Rattle.fusion.proofs.Parts.{index_here, index_next, index_none}
 use Rattle.fusion.proofs.position_of.Given as goal
 
 abbrev pub invariant-loop-i : goal.invariant-loop-i

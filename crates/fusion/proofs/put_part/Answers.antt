@@ -1,14 +1,10 @@
-use Prim.Native.Nat.{◌-◌, ◌≤◌}
-use mathlib.Core.Path.{◌≡◌, sym, ap, ◌∙◌}
+use mathlib.Core.Path.{sym, ap, ◌∙◌}
 use native.Mathlib.Omega.{arith}
-use native.Mathlib.Nat.{sub-zero}
-use borrow.Author.Rules.{rules}
-use lib.ListN.{take}
 use Rattle.draft.proofs.Texts.{take_least}
 use Rattle.nodes.specs.declared.Term.TheVariants.{Empty}
 use Rattle.nodes.specs.Nodes.{node}
 use Rattle.fusion.specs.Steps.{put_part}
-use Rattle.fusion.proofs.Parts.{left, part_done, part_full, part_more, written}
+use Rattle.fusion.proofs.Parts.{part_done, part_full, part_more, written}
 use Rattle.fusion.proofs.put_part.Goals as goal
 
 pub returns-then-len-ge72 : goal.returns-then-len-ge72

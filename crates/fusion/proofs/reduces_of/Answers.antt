@@ -1,6 +1,5 @@
 use mathlib.Core.Path.{refl}
 use native.Mathlib.Omega.{arith}
-use borrow.Author.Rules.{rules}
 use Rattle.fusion.specs.Steps.{reduces}
 use Rattle.fusion.proofs.Arms.{reduces_others}
 use Rattle.fusion.proofs.reduces_of.Goals as goal

@@ -1,5 +1,4 @@
 use mathlib.Core.Path.{refl}
-use borrow.Author.Rules.{rules}
 use borrow.Author.Tests.{eq-eqb, ne_eqb}
 use Rattle.fusion.specs.Steps.{first_written}
 use Rattle.fusion.proofs.start_of.Goals as goal

@@ -1,13 +1,8 @@
 use Prim.Native.Nat.{◌-◌, ◌≤◌}
-use mathlib.Core.Path.{◌≡◌, sym, ap, ◌∙◌}
-use native.Mathlib.Omega.{arith}
-use native.Mathlib.Nat.{sub-zero}
-use borrow.Author.Rules.{rules}
-use borrow.Author.Tests.{le-leb, lt-leb}
+use mathlib.Core.Path.{◌≡◌}
 use lib.ListN.{take}
-use Rattle.draft.proofs.Texts.{take_least}
 use Rattle.plan_form.specs.Form.{any_set}
-use Rattle.plan_form.proofs.Written.{set_next, set_none, sets_left}
+use Rattle.plan_form.proofs.Written.{sets_left}
 use Rattle.plan_form.proofs.has_set.Given as goal
 
 abbrev pub invariant-loop-i : goal.invariant-loop-i

@@ -1,7 +1,6 @@
 use mathlib.Core.Path.{◌≡◌, sym, ◌∙◌}
 use mathlib.Core.List.{◌∷◌, []}
 use native.Mathlib.Omega.{arith}
-use borrow.Author.Rules.{rules}
 use lib.ListN.{take, length-append}
 use Rattle.draft.specs.Steps.{draft, put_list}
 use Rattle.draft.proofs.Drafts.{drafted, put_append}

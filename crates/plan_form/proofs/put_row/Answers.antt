@@ -1,6 +1,5 @@
 use mathlib.Core.Path.{refl, ◌∙◌}
 use borrow.Author.Tests.{eq-eqb, ne_eqb}
-use borrow.Author.Rules.{rules}
 use Rattle.draft.specs.Steps.{put_list}
 use Rattle.plan_form.specs.Form.{listed_text}
 use Rattle.plan_form.proofs.put_row.Goals as goal

@@ -1,13 +1,9 @@
-use Prim.Native.Nat.{◌-◌, ◌≤◌}
-use mathlib.Core.Path.{◌≡◌, refl, sym, ◌∙◌}
+use mathlib.Core.Path.{sym, ◌∙◌}
 use native.Mathlib.Omega.{arith}
-use native.Mathlib.Nat.{sub-zero}
-use borrow.Author.Rules.{rules}
-use lib.ListN.{length, take}
-use Rattle.draft.specs.Steps.{draft, put_list}
-use Rattle.draft.proofs.Texts.{left, put_more, put_done}
+use Rattle.draft.specs.Steps.{draft}
+use Rattle.draft.proofs.Texts.{put_more, put_done}
 use Rattle.packed_path.specs.Packed.{no_path}
-use Rattle.plan_form.specs.Form.{all_listed_text, listed_text}
+use Rattle.plan_form.specs.Form.{listed_text}
 use Rattle.plan_form.proofs.Written.{rows_short}
 use Rattle.plan_form.proofs.put_rows.Goals as goal
 

@@ -1,7 +1,6 @@
 use mathlib.Core.Path.{ap, sym, refl, ◌∙◌}
 use native.Mathlib.Omega.{arith}
 use borrow.Author.Tests.{ne_eqb}
-use borrow.Author.Rules.{rules}
 use lib.ListN.{length}
 use Rattle.draft.proofs.Texts.{delivered}
 use Rattle.plan_form.specs.Form.{write_reply}

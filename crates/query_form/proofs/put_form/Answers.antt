@@ -1,6 +1,5 @@
 use mathlib.Core.Path.{◌≡◌, refl, ◌∙◌}
 use native.Mathlib.Omega.{arith}
-use borrow.Author.Rules.{rules}
 use Rattle.draft.specs.Steps.{draft, put_list}
 use Rattle.draft.proofs.Drafts.{drafted}
 use Rattle.query_form.specs.Form.{form_bytes}

@@ -1,17 +1,12 @@
-use Prim.Native.Nat.{ℕ, ◌≤◌, ◌<◌}
-use mathlib.Core.Path.{◌≡◌, refl, sym, ◌∙◌}
-use mathlib.Core.Bool.{true, false}
+use Prim.Native.Nat.{◌≤◌, ◌<◌}
+use mathlib.Core.Path.{refl, ◌∙◌}
 use native.Mathlib.Omega.{arith}
-use lib.ListN.{length}
-use Rattle.graph.specs.Graph.{graph_of}
 use Rattle.wire.specs.Wire.{at16}
-use Rattle.vertex_set.specs.Sets.{member}
 use Rattle.vertex_set.proofs.Sets.{met_least}
 use Rattle.table.specs.Table.{changed_in}
 use Rattle.table.proofs.Cells.{cell_mark}
 use Rattle.rounds.proofs.Given.{Given, graph_legal}
 use Rattle.rounds.proofs.Standing.{awake_early, pull_stands, push_stands, rests}
-use borrow.Author.Rules.{rules}
 use Rattle.rounds.proofs.advance.Goals as goal
 
 pub returns-then-vertices-m : goal.returns-then-vertices-m

@@ -1,19 +1,7 @@
-use Prim.Native.Nat.{ℕ, ◌+◌, ◌-◌, ◌≤◌, ◌<◌}
-use mathlib.Core.Path.{◌≡◌, refl, ◌∙◌}
-use mathlib.Core.List.{List}
-use native.Mathlib.Omega.{arith}
-use native.Mathlib.Nat.{not-suc-le-zero}
-use native.Mathlib.Decide.{ℕ_discrete}
-use borrow.Author.Rules.{rules}
-use lib.ListN.{length, set, get_or, length-set}
-use lib.Seq.{get_or-set_same, get_or-set_other}
-use Rattle.meaning.specs.Limits.{PathFits}
-use Rattle.packed_path.specs.declared.PackedPath.{PackedPath}
-use Rattle.packed_figures.specs.declared.PathConstants.{PathConstants}
-use Rattle.packed_figures.specs.Packed.{constants}
-use Rattle.table.specs.Table.{path_at}
-use Rattle.rounds.specs.Steps.{Constants, no_constants}
-use Rattle.rounds.proofs.Tables.{legal_at}
+use Prim.Native.Nat.{◌-◌, ◌≤◌}
+use mathlib.Core.Path.{◌≡◌}
+use lib.ListN.{length}
+use Rattle.rounds.specs.Steps.{Constants}
 use Rattle.rounds.proofs.all_constants.Given as goal
 
 abbrev pub invariant-loop-j : goal.invariant-loop-j

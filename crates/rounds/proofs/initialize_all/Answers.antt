@@ -1,16 +1,12 @@
 use native.Mathlib.Omega.{arith}
-use Prim.Native.Nat.{◌≤◌, ◌<◌, ◌-◌}
-use mathlib.Core.Path.{◌≡◌, refl, sym, ◌∙◌}
-use native.Mathlib.Nat.{not-suc-le-zero}
+use Prim.Native.Nat.{◌<◌}
+use mathlib.Core.Path.{◌≡◌, ◌∙◌}
 use native.Mathlib.Numerals.{add-one}
 use lib.ListN.{length}
 use Rattle.meaning.specs.Limits.{PathFits}
 use Rattle.wire.specs.Wire.{at16}
-use Rattle.graph.specs.Graph.{graph_of}
 use Rattle.packed_path.specs.declared.PackedPath.{PackedPath}
-use Rattle.packed_figures.specs.declared.PathConstants.{PathConstants}
-use Rattle.rounds.specs.Run.{AllStand}
-use Rattle.rounds.proofs.Joint.{started_all, started_more}
+use Rattle.rounds.proofs.Joint.{started_more}
 use Rattle.rounds.proofs.Tables.{legal_at}
 use Rattle.rounds.proofs.initialize_all.Goals as goal
 

@@ -1,11 +1,8 @@
 use native.Mathlib.Omega.{arith}
-use mathlib.Core.Path.{◌≡◌, sym, ◌∙◌}
-use Rattle.graph.specs.Graph.{graph_code}
+use mathlib.Core.Path.{sym}
 use Rattle.packed_figures.proofs.Legal.{legal_sound}
 use Rattle.packed_path.specs.Packed.{path_of}
-use Rattle.rounds.proofs.Given.{Given, graph_legal}
 use Rattle.rounds.proofs.Shown.{begins_at}
-use borrow.Author.Rules.{rules}
 use Rattle.rounds.proofs.initialize_at.Goals as goal
 
 pub initialize-requires : goal.initialize-requires

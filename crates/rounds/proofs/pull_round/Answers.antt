@@ -1,6 +1,4 @@
 use native.Mathlib.Omega.{arith}
-use mathlib.Core.Path.{◌≡◌, sym, ◌∙◌}
-use lib.ListN.{length}
 use Rattle.rounds.proofs.Given.{Given}
 use Rattle.rounds.proofs.Touched.{pull_given, step_quiet, step_round}
 use Rattle.rounds.proofs.pull_round.Goals as goal

@@ -1,19 +1,10 @@
-use Prim.Native.Nat.{ℕ, ◌+◌, ◌-◌, ◌≤◌, ◌<◌}
-use mathlib.Core.Path.{◌≡◌, refl, sym, ap, ◌∙◌}
+use Prim.Native.Nat.{ℕ, ◌-◌, ◌≤◌, ◌<◌}
+use mathlib.Core.Path.{◌≡◌}
 use mathlib.Core.List.{List}
-use native.Mathlib.Omega.{arith}
-use native.Mathlib.Nat.{not-suc-le-zero}
-use native.Mathlib.Decide.{ℕ_discrete}
 use lib.ListN.{length, get_or}
-use Rattle.meaning.specs.Limits.{PathFits}
-use Rattle.packed_path.specs.declared.PackedPath.{PackedPath}
 use Rattle.packed_figures.specs.declared.PathConstants.{PathConstants}
-use Rattle.packed_figures.proofs.Legal.{legal_sound}
-use Rattle.table.specs.Steps.{Valued, value_word, word_in}
-use Rattle.table.specs.Table.{path_at}
+use Rattle.table.specs.Steps.{value_word, word_in}
 use Rattle.rounds.specs.Steps.{no_constants}
-use Rattle.rounds.proofs.Tables.{legal_at}
-use Rattle.rounds.proofs.Values.{value_read}
 use Rattle.rounds.proofs.read_values.Given as goal
 
 -- the first j have their values, the others their words

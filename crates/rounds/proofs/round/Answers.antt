@@ -1,13 +1,13 @@
 use native.Mathlib.Omega.{arith}
-use Prim.Native.Nat.{◌≤◌, ◌<◌, ◌-◌}
-use mathlib.Core.Path.{◌≡◌, refl, sym, ◌∙◌}
+use Prim.Native.Nat.{◌<◌}
+use mathlib.Core.Path.{◌≡◌, refl, ◌∙◌}
 use native.Mathlib.Numerals.{add-one}
 use lib.ListN.{length}
 use Rattle.meaning.specs.Limits.{PathFits}
 use Rattle.wire.specs.Wire.{at16}
 use Rattle.graph.specs.Graph.{graph_of}
 use Rattle.packed_path.specs.declared.PackedPath.{PackedPath}
-use Rattle.rounds.proofs.Joint.{Upto, upto_all, upto_more, upto_none}
+use Rattle.rounds.proofs.Joint.{upto_all, upto_more, upto_none}
 use Rattle.rounds.proofs.Tables.{legal_at}
 use Rattle.rounds.proofs.round.Goals as goal
 

@@ -1,13 +1,8 @@
 use native.Mathlib.Omega.{arith}
-use borrow.Author.Tests.{not-true, not-false}
-use Prim.Native.Nat.{◌≤◌, ◌-◌}
-use mathlib.Core.Path.{◌≡◌, refl, sym, ◌∙◌}
-use lib.ListN.{length}
-use native.Mathlib.Nat.{not-suc-le-zero}
+use mathlib.Core.Path.{sym, ◌∙◌}
 use native.Mathlib.Numerals.{add-one}
 use Rattle.graph.specs.Graph.{graph_of}
-use Rattle.rounds.specs.Run.{AllStand}
-use Rattle.rounds.proofs.Joint.{Unquiet, ran_quiet, ran_spent, unquiet_more}
+use Rattle.rounds.proofs.Joint.{ran_quiet, ran_spent}
 use Rattle.rounds.proofs.rounds.Goals as goal
 
 pub returns-then-not-changed : goal.returns-then-not-changed

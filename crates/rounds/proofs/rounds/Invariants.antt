@@ -1,17 +1,13 @@
-use native.Mathlib.Omega.{arith}
-use borrow.Author.Tests.{not-true, not-false}
 use Prim.Native.Nat.{◌≤◌, ◌-◌}
-use mathlib.Core.Path.{◌≡◌, refl, sym, ◌∙◌}
+use mathlib.Core.Path.{◌≡◌}
 use lib.ListN.{length}
-use native.Mathlib.Nat.{not-suc-le-zero}
-use native.Mathlib.Numerals.{add-one}
 use Rattle.graph.specs.Graph.{graph_of}
 use Rattle.rounds.specs.Run.{AllStand}
-use Rattle.rounds.proofs.Joint.{Unquiet, ran_quiet, ran_spent, unquiet_more}
+use Rattle.rounds.proofs.Joint.{Unquiet}
 use Rattle.rounds.proofs.rounds.Given as goal
 
 abbrev pub invariant-loop-r : goal.invariant-loop-r
-invariant-loop-r l =     (b : l.paths ≤ 8) × (l.r ≤ l.limit) × AllStand (graph_of l.graph) l.paths l.table l.r l.figures × Unquiet (graph_of l.graph) l.paths l.table b l.r
+invariant-loop-r l = (b : l.paths ≤ 8) × (l.r ≤ l.limit) × AllStand (graph_of l.graph) l.paths l.table l.r l.figures × Unquiet (graph_of l.graph) l.paths l.table b l.r
     × (length l.figures ≡ length l.initial.figures) × (length l.work ≡ length l.initial.work)
 
 abbrev pub decreases-loop-r : goal.decreases-loop-r

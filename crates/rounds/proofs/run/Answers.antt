@@ -1,8 +1,5 @@
-use mathlib.Core.Path.{◌≡◌, sym, ◌∙◌}
 use native.Mathlib.Omega.{arith}
-use borrow.Author.Rules.{rules}
 use Rattle.graph.proofs.Accepted.{accepted}
-use Rattle.rounds.proofs.Tables.{small_sizes}
 use Rattle.rounds.proofs.run.Goals as goal
 
 pub run_in-requires-2 : goal.run_in-requires-2

@@ -1,6 +1,3 @@
-use native.Mathlib.Omega.{arith}
-use mathlib.Core.Path.{◌≡◌, ◌∙◌}
-use borrow.Author.Rules.{rules}
 use Rattle.rounds.proofs.run_in.Goals as goal
 
 pub read_values-requires : goal.read_values-requires

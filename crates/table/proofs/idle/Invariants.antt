@@ -1,8 +1,6 @@
 use Prim.Native.Nat.{◌-◌, ◌≤◌}
-use mathlib.Core.Path.{◌≡◌, refl}
-use native.Mathlib.Omega.{arith}
 use Rattle.packed_figures.specs.Packed.{absent}
-use Rattle.table.proofs.Lent.{Upto, upto_all, upto_more, upto_none}
+use Rattle.table.proofs.Lent.{Upto}
 use Rattle.table.proofs.idle.Given as goal
 
 abbrev pub invariant-loop-u : goal.invariant-loop-u

@@ -1,5 +1,5 @@
-use Prim.Native.Nat.{ℕ, ◌+◌, ◌*◌, ◌-◌, ◌≤◌, ◌<◌}
-use mathlib.Core.Path.{◌≡◌, refl, sym, ap, ◌∙◌}
+use Prim.Native.Nat.{ℕ, ◌+◌, ◌*◌, ◌≤◌, ◌<◌}
+use mathlib.Core.Path.{◌≡◌, refl, ap, ◌∙◌}
 use mathlib.Core.Bool.{Bool, true, false, cond, ◌&&◌}
 use mathlib.Core.List.{List}
 use native.Mathlib.Omega.{arith}
@@ -13,7 +13,7 @@ use Rattle.vertex_set.proofs.Sets.{member_emptied, replaced_length, replaced_oth
 use Rattle.packed_path.specs.Packed.{sources_of}
 use Rattle.packed_path.specs.Steps.{begins}
 use Rattle.packed_figures.specs.declared.PathConstants.{PathConstants}
-use Rattle.table.specs.Table.{cell, cell_in}
+use Rattle.table.specs.Table.{cell_in}
 use Rattle.table.specs.Steps.{started, word_in}
 use Rattle.table.proofs.Cells.{cell_same, cells_same, marked_elsewhere, marked_here, marked_other, marked_size, replaced_words, stored_here}
 use Rattle.table.proofs.Cells.{stored_marks, stored_slot, stored_vertex}

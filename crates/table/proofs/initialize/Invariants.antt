@@ -1,22 +1,14 @@
 use Prim.Native.Nat.{ℕ, ◌+◌, ◌*◌, ◌-◌, ◌≤◌, ◌<◌}
-use mathlib.Core.Path.{◌≡◌, refl, sym, ap, ◌∙◌}
-use mathlib.Core.Bool.{Bool, true, false, cond, ◌&&◌}
+use mathlib.Core.Path.{◌≡◌}
+use mathlib.Core.Bool.{Bool, false}
 use mathlib.Core.List.{List}
-use native.Mathlib.Omega.{arith}
-use native.Mathlib.Decide.{ℕ_discrete}
-use borrow.Author.Tests.{eq-eqb, ne_eqb}
-use lib.Dec.{eqb}
-use lib.ListN.{length, get_or, set, length-set}
-use lib.Seq.{get_or-set_other}
-use Rattle.vertex_set.specs.Sets.{emptied, inserted, member}
-use Rattle.vertex_set.proofs.Sets.{member_emptied, replaced_length, replaced_other}
+use lib.ListN.{length, get_or}
+use Rattle.vertex_set.specs.Sets.{member}
 use Rattle.packed_path.specs.Packed.{sources_of}
 use Rattle.packed_path.specs.Steps.{begins}
 use Rattle.packed_figures.specs.declared.PathConstants.{PathConstants}
-use Rattle.table.specs.Table.{cell, cell_in}
+use Rattle.table.specs.Table.{cell_in}
 use Rattle.table.specs.Steps.{started, word_in}
-use Rattle.table.proofs.Cells.{cell_same, cells_same, marked_elsewhere, marked_here, marked_other, marked_size, replaced_words, stored_here}
-use Rattle.table.proofs.Cells.{stored_marks, stored_slot, stored_vertex}
 use Rattle.table.proofs.initialize.Given as goal
 
 pub record Upto (b : ℕ → Bool) (c : PathConstants) (j : ℕ) (old new : List ℕ) (v : ℕ) : Type 0 where

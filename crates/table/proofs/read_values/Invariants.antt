@@ -1,12 +1,9 @@
-use Prim.Native.Nat.{ℕ, ◌+◌, ◌*◌, ◌-◌, ◌≤◌, ◌<◌}
-use mathlib.Core.Path.{◌≡◌, refl, sym, ap, ◌∙◌}
+use Prim.Native.Nat.{ℕ, ◌-◌, ◌≤◌, ◌<◌}
+use mathlib.Core.Path.{◌≡◌}
 use mathlib.Core.List.{List}
-use native.Mathlib.Omega.{arith}
-use native.Mathlib.Decide.{ℕ_discrete}
-use lib.ListN.{length, set, length-set}
+use lib.ListN.{length}
 use Rattle.packed_figures.specs.declared.PathConstants.{PathConstants}
 use Rattle.table.specs.Steps.{value_word, word_in}
-use Rattle.table.proofs.Cells.{stored_here, stored_slot, stored_vertex}
 use Rattle.table.proofs.read_values.Given as goal
 
 -- those below v have their values, those from v on their words, and so have the other path reductions

@@ -1,10 +1,5 @@
-use Prim.Native.Nat.{ℕ, ◌≤◌}
 use native.Mathlib.Omega.{arith}
-use mathlib.Core.Path.{◌≡◌, sym, ap, ◌∙◌}
-use mathlib.Core.List.{List}
-use lib.ListN.{length}
-use Rattle.wire.specs.Wire.{at16}
-use Rattle.table.specs.Steps.{Touched}
+use mathlib.Core.Path.{◌∙◌}
 use Rattle.table.proofs.Rounds.{lends_not, stepped, walk_blank, walk_ready}
 use Rattle.table.proofs.step.Goals as goal
 

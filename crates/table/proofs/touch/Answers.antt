@@ -1,19 +1,18 @@
 use Prim.Native.Nat.{ℕ, zero, suc, ◌+◌, ◌*◌, ◌-◌, ◌≤◌, ◌<◌, min}
-use mathlib.Core.Path.{◌≡◌, refl, sym, ap, ◌∙◌}
-use mathlib.Core.Bool.{Bool, true, false, cond, ◌&&◌, ◌||◌}
-use mathlib.Core.List.{List, [], ◌∷◌}
+use mathlib.Core.Path.{◌≡◌, sym, ap, ◌∙◌}
+use mathlib.Core.Bool.{Bool, false, cond, ◌&&◌, ◌||◌}
+use mathlib.Core.List.{List}
 use native.Mathlib.Omega.{arith}
-use native.Mathlib.Decide.{dec_lt}
 use native.Mathlib.Numerals.{add-one}
-use lib.ListN.{length, set, length-set}
+use lib.ListN.{set}
 use Rattle.vertex_set.specs.Least.{some_below}
-use Rattle.vertex_set.specs.Sets.{above, four, joined_chosen, member}
+use Rattle.vertex_set.specs.Sets.{four, joined_chosen, member}
 use Rattle.vertex_set.proofs.Sets.{chosen_kept, chosen_more, member_chosen, member_of_set, member_zeros, met_least}
 use Rattle.packed_figures.specs.declared.PathConstants.{PathConstants}
 use Rattle.packed_figures.specs.Packed.{absent}
 use Rattle.table.specs.Table.{lent}
 use Rattle.table.specs.Steps.{lends, word_in}
-use Rattle.table.proofs.Lent.{Upto, above_stored, marks_stored, upto_all, upto_more, upto_none, upto_passed, words_stay}
+use Rattle.table.proofs.Lent.{above_stored, marks_stored, upto_all, upto_more, upto_none, upto_passed, words_stay}
 use Rattle.table.proofs.touch.Invariants.{zeros}
 use Rattle.table.proofs.touch.Goals as goal
 

@@ -1,12 +1,10 @@
-use Prim.Native.Nat.{◌+◌, ◌*◌, ◌-◌, ◌≤◌, ◌<◌, min}
+use Prim.Native.Nat.{◌+◌, ◌*◌, ◌<◌, min}
 use mathlib.Core.Path.{◌≡◌, refl, sym, ◌∙◌}
-use mathlib.Core.Bool.{false}
 use native.Mathlib.Omega.{arith}
-use lib.ListN.{set, length-set}
-use Rattle.vertex_set.specs.Sets.{above, member}
+use lib.ListN.{set}
 use Rattle.vertex_set.proofs.Sets.{met_least}
 use Rattle.packed_figures.specs.Packed.{absent}
-use Rattle.table.proofs.Lent.{Upto, above_stored, marks_stored, upto_all, upto_more, upto_none, upto_passed}
+use Rattle.table.proofs.Lent.{above_stored, marks_stored, upto_more, upto_none, upto_passed}
 use Rattle.table.proofs.unlend.Goals as goal
 
 pub loop-m-init : goal.loop-m-init

@@ -1,16 +1,13 @@
-use Prim.Native.Nat.{ℕ, ◌+◌, ◌-◌, ◌≤◌, ◌<◌}
-use mathlib.Core.Path.{◌≡◌, sym, ap, ◌∙◌}
-use mathlib.Core.Bool.{true}
+use Prim.Native.Nat.{ℕ, ◌+◌, ◌<◌}
+use mathlib.Core.Path.{◌≡◌, sym, ◌∙◌}
 use mathlib.Core.List.{List}
 use native.Mathlib.Omega.{arith}
-use lib.ListN.{length}
-use Rattle.wire.specs.Wire.{at16}
-use Rattle.vertex_set.specs.Sets.{above, member}
+use Rattle.vertex_set.specs.Sets.{above}
 use Rattle.vertex_set.proofs.Sets.{met_least}
 use Rattle.packed_figures.specs.declared.PathConstants.{PathConstants}
 use Rattle.table.specs.Steps.{Walked, lent_in, moves, walked_mark}
 use Rattle.table.proofs.Cells.{marked_above}
-use Rattle.table.proofs.Walks.{passed, ready_still, walked_more, walked_none}
+use Rattle.table.proofs.Walks.{passed, walked_more, walked_none}
 use Rattle.table.proofs.walk.Goals as goal
 
 -- the digits above a vertex that is walked

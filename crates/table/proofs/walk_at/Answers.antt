@@ -1,9 +1,7 @@
 use native.Mathlib.Omega.{arith}
-use mathlib.Core.Path.{◌≡◌, ap, ◌∙◌}
-use lib.ListN.{length, length-set}
+use mathlib.Core.Path.{◌∙◌}
 use Rattle.graph.proofs.Accepted.{accepted}
 use Rattle.table.specs.Steps.{walked_mark, walked_word}
-use borrow.Author.Rules.{rules}
 use Rattle.table.proofs.walk_at.Goals as goal
 
 pub returns : goal.returns

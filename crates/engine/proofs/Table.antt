@@ -1,5 +1,5 @@
 -- THE TABLE THAT ROUNDS IN CODE LEAVE has the values after the rounds reported: from what `rounds::run` ensures (`Ran`). Assumes nothing.
-use Prim.Native.Nat.{ℕ, zero, suc, ◌*◌, ◌≤◌, ◌<◌, min}
+use Prim.Native.Nat.{ℕ, ◌*◌, ◌≤◌, ◌<◌, min}
 use mathlib.Core.Path.{◌≡◌, refl, sym, ap, ◌∙◌, subst}
 use mathlib.Core.List.{List, [], ◌∷◌}
 use native.Mathlib.Omega.{arith}
@@ -9,7 +9,7 @@ use Rattle.graph.proofs.Exact as graph
 use Rattle.meaning.specs.Limits.{GraphLegal, PathFits}
 use Rattle.meaning.specs.Plan.{Plan}
 use Rattle.meaning.specs.Query.{PathReduction}
-use Rattle.meaning.specs.Run.{pull, run, stopped, tabulate, values_at}
+use Rattle.meaning.specs.Run.{pull, run, stopped, values_at}
 use Rattle.meaning.proofs.Lists.{tabulate_at}
 use Rattle.packed_path.specs.declared.PackedPath.{PackedPath}
 use Rattle.packed_path.specs.Packed.{path_of}

@@ -9,7 +9,7 @@ use native.Mathlib.Omega.{arith}
 use borrow.Author.Tests.{eqb-true}
 use lib.Dec.{T, eqb}
 use Rattle.walks.specs.Rounds.{State, best, brings, gather, initial, reached, same, through}
-use Rattle.walks.specs.Walks.{Edge, Graph, Network}
+use Rattle.walks.specs.Walks.{Graph, Network}
 use Rattle.walks.proofs.Same.{same_of}
 use Rattle.meaning.specs.Limits.{GraphFits}
 use Rattle.meaning.specs.Query.{PathReduction, network_of}

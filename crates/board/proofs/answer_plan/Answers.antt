@@ -1,4 +1,3 @@
-use borrow.Author.Rules.{rules}
 use Rattle.board.specs.Steps.{plan_reply, plan_values}
 use Rattle.board.proofs.answer_plan.Goals as goal
 

@@ -1,14 +1,9 @@
-use Prim.Native.Nat.{ℕ, ◌+◌, ◌-◌, ◌*◌, ◌≤◌}
-use mathlib.Core.Path.{◌≡◌, sym, ap, ◌∙◌}
-use mathlib.Core.List.{List}
+use Prim.Native.Nat.{ℕ, ◌+◌, ◌-◌, ◌≤◌}
+use mathlib.Core.Path.{◌≡◌, ap, ◌∙◌}
 use native.Mathlib.Omega.{arith}
-use native.Mathlib.Nat.{sub-zero}
-use borrow.Author.Rules.{rules}
 use lib.ListN.{length, get_or, take, drop}
 use Rattle.answer.specs.Answer.{answer_size}
 use Rattle.answer.proofs.Bytes.{count_most}
-use Rattle.board_text.specs.Board.{queries_code}
-use Rattle.board.specs.Steps.{sizes_left}
 use Rattle.board.proofs.Loops.{end, others_accepted, part, query_ends, sizes_next, sizes_none}
 use Rattle.board.proofs.size_of.Goals as goal
 

@@ -1,13 +1,9 @@
-use Prim.Native.Nat.{ℕ, ◌≤◌, ◌-◌}
-use mathlib.Core.Path.{◌≡◌, sym, ap, ap₂, ◌∙◌}
+use Prim.Native.Nat.{ℕ, ◌-◌}
+use mathlib.Core.Path.{◌≡◌, ap, ap₂, ◌∙◌}
 use mathlib.Core.List.{List}
 use native.Mathlib.Omega.{arith}
-use borrow.Author.Rules.{rules}
-use lib.ListN.{get_or, set}
-use Rattle.eval.proofs.Fill.{filled, fill_next, fill_none}
-use Rattle.fusion.specs.Steps.{index_of}
-use Rattle.packed_path.specs.declared.PackedPath.{PackedPath}
-use Rattle.packed_path.specs.Packed.{no_path}
+use lib.ListN.{set}
+use Rattle.eval.proofs.Fill.{filled, fill_next}
 use Rattle.board.specs.Steps.{slots_in}
 use Rattle.board.proofs.slots_of.Invariants.{slot}
 use Rattle.board.proofs.slots_of.Goals as goal

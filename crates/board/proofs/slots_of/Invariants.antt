@@ -1,14 +1,11 @@
 use Prim.Native.Nat.{ℕ, ◌≤◌, ◌-◌}
-use mathlib.Core.Path.{◌≡◌, sym, ap, ap₂, ◌∙◌}
+use mathlib.Core.Path.{◌≡◌}
 use mathlib.Core.List.{List}
-use native.Mathlib.Omega.{arith}
-use borrow.Author.Rules.{rules}
-use lib.ListN.{get_or, set}
-use Rattle.eval.proofs.Fill.{filled, fill_next, fill_none}
+use lib.ListN.{get_or}
+use Rattle.eval.proofs.Fill.{filled}
 use Rattle.fusion.specs.Steps.{index_of}
 use Rattle.packed_path.specs.declared.PackedPath.{PackedPath}
 use Rattle.packed_path.specs.Packed.{no_path}
-use Rattle.board.specs.Steps.{slots_in}
 use Rattle.board.proofs.slots_of.Given as goal
 
 -- the slot of the i-th

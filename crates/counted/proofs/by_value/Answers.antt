@@ -1,5 +1,4 @@
 use native.Mathlib.Omega.{arith}
-use borrow.Author.Rules.{rules}
 use Rattle.counted.specs.declared.Way.TheVariants.{Pull, Push, BoardPull, BoardPush}
 use Rattle.wire.specs.Wire.{Bytes}
 use Rattle.counted.proofs.Numbers.{counted_run}

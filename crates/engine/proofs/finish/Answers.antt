@@ -1,11 +1,9 @@
-use mathlib.Core.Path.{◌≡◌, refl, sym, ◌∙◌}
+use mathlib.Core.Path.{◌≡◌, refl}
 use native.Mathlib.Omega.{arith}
-use borrow.Author.Rules.{rules}
 use borrow.Author.Tests.{ne_eqb}
 use lib.ListN.{length}
 use Rattle.graph.proofs.Accepted.{accepted}
 use Rattle.plan.specs.Plan.{plan_scan}
-use Rattle.rounds.proofs.Tables.{small_sizes}
 use Rattle.wire.specs.Wire.{Bytes}
 use Rattle.engine.specs.Steps.{run_code}
 use Rattle.engine.proofs.Meant.{finish_judged, run_graph}

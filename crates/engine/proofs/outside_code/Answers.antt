@@ -1,11 +1,8 @@
 use Prim.Native.Nat.{◌<◌}
-use mathlib.Core.Path.{◌≡◌, refl, sym, ◌∙◌}
+use mathlib.Core.Path.{sym, ◌∙◌}
 use native.Mathlib.Omega.{arith}
-use borrow.Author.Rules.{rules}
 use Rattle.packed_path.specs.declared.PackedPath.{PackedPath}
-use Rattle.packed_path.specs.Packed.{sources_of}
 use Rattle.packed_path.specs.Steps.{rest_of}
-use Rattle.engine.specs.Run.{outside_code}
 use Rattle.engine.proofs.Sources.{outside_first, outside_none, outside_rest}
 use Rattle.engine.proofs.outside_code.Goals as goal
 

@@ -1,5 +1,4 @@
 use native.Mathlib.Omega.{arith}
-use borrow.Author.Rules.{rules}
 use Rattle.graph.proofs.Accepted.{accepted}
 use Rattle.wire.specs.Wire.{Bytes}
 use Rattle.engine.proofs.Table.{settled}

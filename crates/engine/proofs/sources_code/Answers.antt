@@ -1,16 +1,13 @@
-use Prim.Native.Nat.{◌-◌, ◌≤◌}
 use mathlib.Core.Path.{◌≡◌, refl, sym, ap, ◌∙◌}
 use mathlib.Core.List.{List, map}
 use native.Mathlib.Omega.{arith}
-use native.Mathlib.Nat.{sub-zero}
-use borrow.Author.Rules.{rules}
 use borrow.Author.Tests.{eq-eqb, ne_eqb}
 use lib.ListN.{take}
 use Rattle.draft.proofs.Texts.{take_least}
 use Rattle.packed_path.specs.declared.PackedPath.{PackedPath}
 use Rattle.packed_path.specs.Packed.{path_of}
 use Rattle.engine.specs.Run.{sources_code}
-use Rattle.engine.proofs.Sources.{left, source_next, source_none}
+use Rattle.engine.proofs.Sources.{source_next, source_none}
 use Rattle.engine.proofs.sources_code.Goals as goal
 
 pub returns-then-c-ne0 : goal.returns-then-c-ne0

@@ -1,16 +1,10 @@
 use Prim.Native.Nat.{◌-◌, ◌≤◌}
-use mathlib.Core.Path.{◌≡◌, refl, sym, ap, ◌∙◌}
-use mathlib.Core.List.{List, map}
-use native.Mathlib.Omega.{arith}
-use native.Mathlib.Nat.{sub-zero}
-use borrow.Author.Rules.{rules}
-use borrow.Author.Tests.{eq-eqb, ne_eqb}
+use mathlib.Core.Path.{◌≡◌}
+use mathlib.Core.List.{map}
 use lib.ListN.{take}
-use Rattle.draft.proofs.Texts.{take_least}
-use Rattle.packed_path.specs.declared.PackedPath.{PackedPath}
 use Rattle.packed_path.specs.Packed.{path_of}
 use Rattle.engine.specs.Run.{sources_code}
-use Rattle.engine.proofs.Sources.{left, source_next, source_none}
+use Rattle.engine.proofs.Sources.{left}
 use Rattle.engine.proofs.sources_code.Given as goal
 
 abbrev pub invariant-loop-i : goal.invariant-loop-i

@@ -2,7 +2,6 @@ use Prim.Native.Nat.{ℕ}
 use mathlib.Core.List.{List}
 use mathlib.Core.Path.{sym, ap, ◌∙◌}
 use native.Mathlib.Omega.{arith}
-use borrow.Author.Rules.{rules}
 use Rattle.value.specs.declared.Row.{Row}
 use Rattle.eval.specs.Steps.{entry_found}
 use Rattle.eval.proofs.Laws.{lone}

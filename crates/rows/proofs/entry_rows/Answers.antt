@@ -1,14 +1,13 @@
-use Prim.Native.Nat.{ℕ, ◌≤◌, ◌-◌}
+use Prim.Native.Nat.{ℕ}
 use mathlib.Core.Path.{◌≡◌, sym, ap, ap₂, ◌∙◌}
 use mathlib.Core.List.{List}
 use native.Mathlib.Omega.{arith}
-use borrow.Author.Rules.{rules}
 use lib.ListN.{set}
 use Rattle.value.specs.declared.Row.{Row}
 use Rattle.value.specs.declared.Value.{Value}
 use Rattle.value.specs.declared.Value.TheVariants.{Absent}
 use Rattle.eval.specs.Steps.{row}
-use Rattle.eval.proofs.Fill.{filled, fill_next, fill_none}
+use Rattle.eval.proofs.Fill.{filled, fill_next}
 use Rattle.rows.specs.Steps.{rows_at}
 use Rattle.rows.proofs.Laws.{entry_filled, entry_row}
 use Rattle.rows.proofs.entry_rows.Goals as goal

@@ -1,16 +1,10 @@
-use Prim.Native.Nat.{ℕ, ◌≤◌, ◌-◌}
-use mathlib.Core.Path.{◌≡◌, sym, ap, ap₂, ◌∙◌}
-use mathlib.Core.List.{List}
-use native.Mathlib.Omega.{arith}
-use borrow.Author.Rules.{rules}
-use lib.ListN.{set}
-use Rattle.value.specs.declared.Row.{Row}
-use Rattle.value.specs.declared.Value.{Value}
+use Prim.Native.Nat.{◌≤◌, ◌-◌}
+use mathlib.Core.Path.{◌≡◌}
 use Rattle.value.specs.declared.Value.TheVariants.{Absent}
 use Rattle.eval.specs.Steps.{row}
-use Rattle.eval.proofs.Fill.{filled, fill_next, fill_none}
+use Rattle.eval.proofs.Fill.{filled}
 use Rattle.rows.specs.Steps.{rows_at}
-use Rattle.rows.proofs.Laws.{entry_filled, entry_row}
+use Rattle.rows.proofs.Laws.{entry_row}
 use Rattle.rows.proofs.entry_rows.Given as goal
 
 abbrev pub invariant-loop-v : goal.invariant-loop-v

@@ -1,12 +1,11 @@
-use Prim.Native.Nat.{ℕ, ◌≤◌, ◌<◌, ◌-◌, ◌%◌}
+use Prim.Native.Nat.{ℕ, ◌%◌}
 use mathlib.Core.Path.{◌≡◌, ap, ap₂, ◌∙◌}
 use mathlib.Core.List.{List}
 use native.Mathlib.Omega.{arith}
-use borrow.Author.Rules.{rules}
 use Rattle.value.specs.declared.Row.{Row}
 use Rattle.value.specs.Steps.{finish, step}
 use Rattle.value.specs.Value.{reduce, values}
-use Rattle.eval.specs.Steps.{entry_end, entry_rows}
+use Rattle.eval.specs.Steps.{entry_rows}
 use Rattle.rows.specs.Steps.{rows_at}
 use Rattle.rows.proofs.Laws.{reached, reached_all, reached_next, reached_none}
 use Rattle.rows.proofs.result_of.Goals as goal

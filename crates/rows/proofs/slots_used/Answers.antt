@@ -1,10 +1,9 @@
-use Prim.Native.Nat.{ℕ, ◌≤◌, ◌-◌, min}
+use Prim.Native.Nat.{ℕ, min}
 use mathlib.Core.Path.{◌≡◌, sym, ap, ◌∙◌}
 use mathlib.Core.List.{List}
 use native.Mathlib.Omega.{arith}
-use borrow.Author.Rules.{rules}
 use lib.ListN.{set}
-use Rattle.eval.proofs.Fill.{filled, fill_next, fill_none}
+use Rattle.eval.proofs.Fill.{filled, fill_next}
 use Rattle.rows.proofs.Laws.{slot_at, used_filled}
 use Rattle.rows.proofs.slots_used.Goals as goal
 

@@ -1,11 +1,7 @@
-use Prim.Native.Nat.{ℕ, ◌≤◌, ◌-◌, min}
-use mathlib.Core.Path.{◌≡◌, sym, ap, ◌∙◌}
-use mathlib.Core.List.{List}
-use native.Mathlib.Omega.{arith}
-use borrow.Author.Rules.{rules}
-use lib.ListN.{set}
-use Rattle.eval.proofs.Fill.{filled, fill_next, fill_none}
-use Rattle.rows.proofs.Laws.{slot_at, used_filled}
+use Prim.Native.Nat.{◌≤◌, ◌-◌}
+use mathlib.Core.Path.{◌≡◌}
+use Rattle.eval.proofs.Fill.{filled}
+use Rattle.rows.proofs.Laws.{slot_at}
 use Rattle.rows.proofs.slots_used.Given as goal
 
 abbrev pub invariant-loop-j : goal.invariant-loop-j

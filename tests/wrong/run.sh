@@ -7,8 +7,8 @@
 # CRATE.edits has a paragraph for each: a comment (what is wrong), 'edit: LABEL', and a must-fail edit's lines; these may also mend the text of a proof whose
 # law stays true, so that the check comes to one that does not. Each is applied to a copy of the repository. The crate itself is checked ('rt check', which
 # begins with what was kept of the crate as it is), and while all is proved the crates that stand on it, up the layers, to the first that refuses. A variant
-# that the check cannot read counts for nothing, by the rules of 'rt must-fail': BAD EDIT. RT is the command in place of 'rt'. Logs stand in
-# target/wrong/CRATE; the copy stands in TMPDIR and is removed at the end, since 'rt ci' takes no crates.txt below the top.
+# that the check cannot read counts for nothing: BAD EDIT. RT is the command in place of 'rt'. Logs stand in target/wrong/CRATE; the copy stands in TMPDIR
+# and is removed at the end, since 'rt ci' takes no crates.txt below the top.
 set -u
 here=$(cd "$(dirname "$0")" && pwd -P)
 root=$(cd "$here/../.." && pwd -P)
@@ -107,7 +107,7 @@ judge() { # LOG EDITED-FILES
             if (!match($0, /^[^ :]+:[0-9]+:[0-9]+:/)) next
             place = substr($0, 1, RLENGTH - 1); said = substr($0, RLENGTH + 1); file = place; sub(/:.*/, "", file)
             fails = sub(/^ error(\[[a-z-]*\])?: /, "", said)
-            if (!fails && !(note && said ~ /not proved/)) next
+            if (!fails && !(note && said ~ /not proved/) || said ~ /^[0-9]+ declarations? that depends? on/) next
             named = said ~ /^`[^`]*`: /
             lost = file ~ /^proofs\// && said ~ /has no field|is not in scope|has no `|was not admitted/
             gsub(/`[^`]*`/, "", said)

@@ -21,7 +21,8 @@ use Rattle.term_text.proofs.Tree.{seen}
 use Rattle.walks.specs.Lists.{All}
 use Rattle.wire.specs.Wire.{Bytes, at16, le16}
 use Rattle.wire.proofs.Codes.{past, then_both, then_zero}
-use Rattle.board_text.specs.Board.{BoardLegal, after_query, board_code, count_code, encode, first_code, first_query, joint_paths, queries_bytes, queries_code, queries_in, queries_of}
+use Rattle.board_text.specs.Board.{BoardLegal, after_query, board_code, count_code, encode, first_code, first_query, joint_paths, queries_bytes, queries_code}
+use Rattle.board_text.specs.Board.{queries_in, queries_of}
 use Rattle.board_text.proofs.Joint.{drop_bytes, first_bytes, first_passed}
 use Rattle.board_text.proofs.Reading.{counted}
 

@@ -1,4 +1,4 @@
--- Bytes put one after the other into a draft, as the program goes. Nothing to believe: `Put-Holds` (proofs/Drafts) says that a draft holds the bytes put, and
+-- Bytes put one after the other into a draft, as the program goes. Nothing to believe: `put_holds` (proofs/Drafts) says that a draft holds the bytes put, and
 -- `drafted` that one made of nothing but these bytes is them.
 use Rattle.std.specs.Prelude.{ℕ, ◌+◌, cond, List, [], ◌∷◌, leb, length, set}
 

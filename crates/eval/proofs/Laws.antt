@@ -57,7 +57,8 @@ module _ (s : List ℕ) (rows : List Row) (at : ℕ) where
   pub evaluated_named : (left : ℕ) → (left ≡ 0 → ⊥) → named s at ≡ true
       → evaluated left s rows at ≡ leaf_found s rows at
   unfolding head joined
-  evaluated_named left n e = evaluated_next left n ∙ ap (joined (evaluated (left - 1) s rows)) (go (leb (length s) at) (one_of (get_or s at 0) 0x30 0x31) _ _ e)
+  evaluated_named left n e = evaluated_next left n
+      ∙ ap (joined (evaluated (left - 1) s rows)) (go (leb (length s) at) (one_of (get_or s at 0) 0x30 0x31) _ _ e)
     where
       leaf : Head
       leaf = Leaf (leaf_found s rows at)

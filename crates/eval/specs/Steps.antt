@@ -1,7 +1,8 @@
 -- The value of a plan's expression and the rows of its body by its bytes, as the program goes: entries at each vertex, their reductions, the final expression.
 -- Nothing to believe: `expression_value` (proofs/Tree) says that a value is that of the expression's tree, `body_value` (proofs/Body) that the rows are those
 -- of the plan's tree. F gives the values of the path reductions at a vertex, as eight rows.
-use Rattle.std.specs.Prelude.{ℕ, zero, suc, ◌+◌, ◌-◌, ◌%◌, min, Bool, false, cond, ◌||◌, List, [], ◌∷◌, ◌++◌, map, leb, ltb, eqb, length, get_or, replicate}
+use Rattle.std.specs.Prelude.{ℕ, zero, suc, ◌+◌, ◌-◌, ◌%◌, min, Bool, false, cond, ◌||◌, List, [], ◌∷◌, ◌++◌, map, leb, ltb, eqb}
+use Rattle.std.specs.Prelude.{length, get_or, replicate}
 use Rattle.meaning.specs.Run.{tabulate}
 use Rattle.value.specs.declared.Value.{Value}
 use Rattle.value.specs.declared.Value.TheVariants.{Absent, Number}

@@ -382,7 +382,8 @@ module _ (s t : List ℕ) (a : Alike s t) where
       rw (lt-ltb w.at (length t) (omega (arith, a.longer, g.few, g.near)), lt-ltb w.at (length s) (omega (arith, a.long, g.few, g.near)))
       (go (eqb w.code 0) refl)
     where
-      go : (b : Bool) → eqb w.code 0 ≡ b → (◌≡◌ {A = Progress} (cond b (blank 6) w) (cond b (blank 6) w)) × ((cond b (blank 6) w).code ≡ 0 → ⊥)
+      go : (b : Bool) → eqb w.code 0 ≡ b → (◌≡◌ {A = Progress} (cond b (blank 6) w) (cond b (blank 6) w))
+          × ((cond b (blank 6) w).code ≡ 0 → ⊥)
       go true e = (refl, λ z. omega arith)
       go false e = (refl, λ z. eqb-false w.code 0 e z)
 

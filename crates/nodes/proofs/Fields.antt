@@ -41,7 +41,8 @@ literal_tags OfEntry = inl refl
 literal_tags OfFinal = inr refl
 
 -- the text of legal keys is their count and the keys
-keys_written : (ks : List ℕ) → T (legal_keys ks) → keys_text (keys_number (length ks) (get_or ks 0 0) (get_or ks 1 0) (get_or ks 2 0)) ≡ length ks ∷ ks
+keys_written : (ks : List ℕ) → T (legal_keys ks) → keys_text (keys_number (length ks) (get_or ks 0 0) (get_or ks 1 0) (get_or ks 2 0))
+    ≡ length ks ∷ ks
 unfolding keys_text
 keys_written ks legal =
     let p = legal_parts ks legal in

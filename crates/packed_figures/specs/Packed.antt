@@ -1,5 +1,6 @@
 -- A path reduction's figures at a vertex AS ONE NUMBER, of which less is better: each figure in bits of its own, the first key's highest.
-use Rattle.std.specs.Prelude.{ℕ, ◌+◌, ◌*◌, ◌-◌, ◌/◌, ◌%◌, ◌^◌, ◌≤◌, ◌<◌, min, max, ◌≡◌, cond, List, [], ◌∷◌, map, eqb}
+use Rattle.std.specs.Prelude.{ℕ, ◌+◌, ◌*◌, ◌-◌, ◌/◌, ◌%◌, ◌^◌, ◌≤◌, ◌<◌, min, max, ◌≡◌, cond, List, [], ◌∷◌}
+use Rattle.std.specs.Prelude.{map, eqb}
 use Rattle.std.proofs.Math.Option.{Option, none, some}
 use Rattle.std.specs.Int.Bits.{bit_and}
 use Rattle.walks.specs.declared.Measure.{Measure}

@@ -58,7 +58,8 @@ module _ (s : List ℕ) where
   keys_fine ks t = go ks (legal_parts ks t)
     where
       go : (ks : List ℕ) → T (leb 1 (length ks)) × T (leb (length ks) 3) × T (all_known ks) × T (in_order ks)
-          → (slot_code (length ks) 0 (get_or ks 0 0) ≡ 0) × (slot_code (length ks) 1 (get_or ks 1 0) ≡ 0) × (slot_code (length ks) 2 (get_or ks 2 0) ≡ 0)
+          → (slot_code (length ks) 0 (get_or ks 0 0) ≡ 0) × (slot_code (length ks) 1 (get_or ks 1 0) ≡ 0)
+          × (slot_code (length ks) 2 (get_or ks 2 0) ≡ 0)
       go [] p = absurd p.0
       go (x ∷ []) p = (key_zero x true (and_left (known x) true p.2) tt, refl, refl)
       go (x ∷ (y ∷ [])) p = (
@@ -108,7 +109,8 @@ module _ (s : List ℕ) where
   module _ (ks : List ℕ) (legal : T (legal_keys ks)) (i : ℕ) (rest : List ℕ)
       (e : drop i s ≡ length ks ∷ get_or ks 0 0 ∷ get_or ks 1 0 ∷ get_or ks 2 0 ∷ rest) where
     -- one of the four
-    key_at : (j k d x : ℕ) → k ≡ i + j → get_or (length ks ∷ get_or ks 0 0 ∷ get_or ks 1 0 ∷ get_or ks 2 0 ∷ rest) j d ≡ x → get_or s k d ≡ x
+    key_at : (j k d x : ℕ) → k ≡ i + j → get_or (length ks ∷ get_or ks 0 0 ∷ get_or ks 1 0 ∷ get_or ks 2 0 ∷ rest) j d ≡ x
+        → get_or s k d ≡ x
     key_at j k d x p q = rw (nth s i j k d p, e) q
 
     keys_accepted : listed_keys_code s i ≡ 0
@@ -139,7 +141,8 @@ module _ (s : List ℕ) where
   next_byte i j l e = drop_at s i l ∙ ap (λ (m : ℕ). get_or s i 256 ∷ drop m s) e
 
   -- four bytes that are there
-  four : (i : ℕ) → i + 3 < length s → drop i s ≡ get_or s i 256 ∷ get_or s (i + 1) 256 ∷ get_or s (i + 2) 256 ∷ get_or s (i + 3) 256 ∷ drop (i + 4) s
+  four : (i : ℕ) → i + 3 < length s → drop i s
+      ≡ get_or s i 256 ∷ get_or s (i + 1) 256 ∷ get_or s (i + 2) 256 ∷ get_or s (i + 3) 256 ∷ drop (i + 4) s
   four i h =
       next_byte i (i + 1) (omega arith) refl
       ∙ ap (λ (l : List ℕ). get_or s i 256 ∷ l) (next_byte (i + 1) (i + 2) (omega arith) (omega arith)
@@ -232,7 +235,9 @@ module _ (s : List ℕ) (version : ℕ) where
   starts_sound bytes known j e = go (eqb version 1) refl e
     where
       go : (b : Bool) → eqb version 1 ≡ b
-          → cond b (source_code (get_or s j 256) (get_or s (j + 1) 256)) (then (set_count_code (get_or s j 256)) (starts_code (get_or s j 256) 0 s (j + 1))) ≡ 0
+          → cond b (source_code (get_or s j 256) (get_or s (j + 1) 256))
+          (then (set_count_code (get_or s j 256)) (starts_code (get_or s j 256) 0 s (j + 1)))
+          ≡ 0
           → (ss : List ℕ) × SourcesFit 256 ss × (version < 2 → length ss ≤ 1)
           × ((rest : List ℕ) × (drop j s ≡ cond b (le16 (start_of ss)) (length ss ∷ starts_bytes ss) ++ rest))
       go true p z =

@@ -98,7 +98,8 @@ module _ (g : Graph) (c : PathReduction) (j : ℕ) where
 
     -- round 1: where none has a start value
     pub push_still_first : (before : List ℕ) → Begun g c j before old → PushRound g c 0 j old new says
-        → ((i : ℕ) → i < (network_of g c).edges → ((network_of g c).edge i).to ≡ v → (network_of g c).source ((network_of g c).edge i).from ≡ false)
+        → ((i : ℕ) → i < (network_of g c).edges → ((network_of g c).edge i).to ≡ v → (network_of g c).source ((network_of g c).edge i).from
+        ≡ false)
         → figures_in c new j v ≡ figures_in c old j v
     push_still_first before y x h =
         push_unmarked 0 old new says x v inside

@@ -58,7 +58,8 @@ pub rows_at_value : (figures slots : List ℕ) (v j : ℕ) → j < 8
 rows_at_value figures slots v j h =
     row_value (rows_at figures slots 8 v) j
     ∙ ap (λ (r : Row). r.value)
-    (ap (λ (l : List Row). get_or l j (row Absent)) (rows_at_filled figures slots 8 v) ∙ fill_at 8 (value_row figures slots v) (row Absent) 8 j (row Absent) h)
+    (ap (λ (l : List Row). get_or l j (row Absent)) (rows_at_filled figures slots 8 v)
+    ∙ fill_at 8 (value_row figures slots v) (row Absent) 8 j (row Absent) h)
 
 -- AN ENTRY THAT IS ONE LEAF is worth what is in its slot
 pub lone_value : (plan figures slots : List ℕ) (at v : ℕ) → Lone plan slots at
@@ -114,7 +115,8 @@ used_rows figures slots paths = fun_ext (λ v. whole v ∙ sym (all v))
 -- the words of the vertex v: eight from 32 + 8 * v on, as far as the table goes
 module _ (figures slots : List ℕ) (v from to : ℕ) (vertex : v < 256) (start : from ≡ min (32 + 8 * v) (length figures))
     (end : to ≡ min (from + 8) (length figures)) where
-  word_there : (j : ℕ) → j < 8 → 32 + 8 * v + j < length figures → get_or (take (to - from) (drop from figures)) j 0 ≡ get_or figures (32 + 8 * v + j) 0
+  word_there : (j : ℕ) → j < 8 → 32 + 8 * v + j < length figures → get_or (take (to - from) (drop from figures)) j 0
+      ≡ get_or figures (32 + 8 * v + j) 0
   word_there j h k =
       get_or-take (to - from) (drop from figures) j 0 (omega arith) ∙ get_or-drop from figures j 0
       ∙ ap (λ (i : ℕ). get_or figures i 0) (let e : from + j ≡ 32 + 8 * v + j = omega arith in e)

@@ -1,6 +1,7 @@
 -- One path reduction's words and marks as the program goes: initial values, a round vertex by vertex, the values read off. Nothing to believe: the contracts
 -- of `rounds` say what these are in the words of the theory.
-use Rattle.std.specs.Prelude.{ℕ, zero, suc, ◌+◌, ◌*◌, ◌≤◌, ◌<◌, min, ◌≡◌, Bool, true, false, cond, not, ◌&&◌, List, eqb, length, get_or, set}
+use Rattle.std.specs.Prelude.{ℕ, zero, suc, ◌+◌, ◌*◌, ◌≤◌, ◌<◌, min, ◌≡◌, Bool, true, false, cond, not, ◌&&◌, List, eqb, length}
+use Rattle.std.specs.Prelude.{get_or, set}
 use Rattle.wire.specs.Wire.{at16}
 use Rattle.graph.specs.Graph.{edge_in, graph_code}
 use Rattle.incoming.specs.Incoming.{Threaded, enters}

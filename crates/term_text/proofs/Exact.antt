@@ -51,7 +51,7 @@ chain_piece tag text Fits c = record { bytes = tag ∷ text c; size = 1; deep = 
 
 -- A PATH REDUCTION is read by its step, which judges its fields, goes on behind them and keeps it: of each byte by that byte's own fields
 module _ (s : List ℕ) (tag : ℕ) (step : Progress → Step) (code end : Progress → ℕ) (number : Progress → PackedPath)
-    (is_IsLeaf : (w : Progress) → leaf_step OfVertex tag s w ≡ step w)
+    (is_leaf : (w : Progress) → leaf_step OfVertex tag s w ≡ step w)
     (made : (w : Progress) → step w ≡ cond (eqb (code w) 0) (alone (kept_path (advanced w (end w)) (number w))) (refused_step (code w)))
     (no_literal : eqb tag 0x11 ≡ false) (no_operator : eqb tag 0x12 ≡ false) (text : PathReduction → List ℕ) (Fits : PathReduction → Type 0)
     (legal : (c : PathReduction) → Fits c → PathFits 256 c)
@@ -61,7 +61,7 @@ module _ (s : List ℕ) (tag : ℕ) (step : Progress → Step) (code end : Progr
       → read OfVertex (suc d) s w ≡ cond (eqb (code w) 0) (kept_path (advanced w (end w)) (number w)) (blank (code w))
   unfolding literal_tag
   chain_read d w z h k first =
-      go (eqb (code w) 0) (step_is s OfVertex d w h k ∙ rw (first, no_literal, no_operator) (is_IsLeaf w) ∙ made w)
+      go (eqb (code w) 0) (step_is s OfVertex d w h k ∙ rw (first, no_literal, no_operator) (is_leaf w) ∙ made w)
     where
       go : (b : Bool) → term_step OfVertex (suc d) s w ≡ cond b (alone (kept_path (advanced w (end w)) (number w))) (refused_step (code w))
           → read OfVertex (suc d) s w ≡ cond b (kept_path (advanced w (end w)) (number w)) (blank (code w))

@@ -161,7 +161,8 @@ snoc r p [] row = refl
 snoc r p (x ∷ rows) row = snoc r (step r p x.value) rows row
 
 -- one row more is one step
-pub after_next : (r : ℕ) (rows : List Row) (i : ℕ) (d : Row) → i < length rows → step r (after r rows i) (get_or rows i d).value ≡ after r rows (i + 1)
+pub after_next : (r : ℕ) (rows : List Row) (i : ℕ) (d : Row) → i < length rows → step r (after r rows i) (get_or rows i d).value
+    ≡ after r rows (i + 1)
 unfolding after
 after_next r rows i d h = sym (rw (add-one, take-suc rows i d) (snoc r Empty (take i rows) (get_or rows i d)))
 

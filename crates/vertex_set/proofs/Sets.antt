@@ -285,7 +285,8 @@ module _ (words : List ℕ) (f k a : ℕ) (h : k < 4) (g : a < 64) (word t : ℕ
 -- WHERE A WORD HAS A DIGIT, from its digit a on, the lowest is the next member
 pub met_here : (words : List ℕ) (f k a : ℕ) → k < 4 → a < 64 → get_or words (4 * f + k) 0 < 2 ^ 64 → (rest : ℕ) → rest ≡ get_or words (4 * f +
     k) 0 / 2 ^ a
-    → (rest ≡ 0 → ⊥) → (m : Member) → m.vertex ≡ 64 * k + a + count_trailing_zeros 64 rest → m.above ≡ rest / 2 ^ (count_trailing_zeros 64 rest + 1)
+    → (rest ≡ 0 → ⊥) → (m : Member) → m.vertex ≡ 64 * k + a + count_trailing_zeros 64 rest → m.above
+    ≡ rest / 2 ^ (count_trailing_zeros 64 rest + 1)
     → Met words f (64 * k + a) m
 met_here words f k a h g bound rest e some m v r =
     let w = get_or words (4 * f + k) 0 in
@@ -294,7 +295,8 @@ met_here words f k a h g bound rest e some m v r =
     record {
       vertex_is = v ∙ next_here words f k a h g w t refl bound nonzero (ap (count_trailing_zeros 64) e);
       above_is = λ l.
-          r ∙ ap (λ (x : ℕ). x / 2 ^ (t + 1)) e ∙ above_here words f k a h g w t refl bound nonzero (ap (count_trailing_zeros 64) e) ∙ ap (above words f)
+          r ∙ ap (λ (x : ℕ). x / 2 ^ (t + 1)) e ∙ above_here words f k a h g w t refl bound nonzero (ap (count_trailing_zeros 64) e)
+          ∙ ap (above words f)
           (sym v);
     }
 

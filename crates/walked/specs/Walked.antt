@@ -1,6 +1,7 @@
 -- The figures of a path reduction (document 01: chain), by listing all walks of at most so many edges (document 01, "Meaning"). `rows` are the numbers of a
 -- map's rows, four a row: from, to, seconds, crate size; 0 past their end, and a row that is not whole is none.
-use Rattle.std.specs.Prelude.{ℕ, zero, suc, ◌+◌, ◌*◌, ◌/◌, min, Bool, true, false, cond, not, ◌&&◌, ◌||◌, ltb, eqb, length, get_or, take, drop}
+use Rattle.std.specs.Prelude.{ℕ, zero, suc, ◌+◌, ◌*◌, ◌/◌, min, Bool, true, false, cond, not, ◌&&◌, ◌||◌, ltb, eqb, length, get_or, take}
+use Rattle.std.specs.Prelude.{drop}
 use mathlib.Core.List.{List, [], ◌∷◌, ◌++◌, foldl}
 use Rattle.std.proofs.Math.Option.{Option, none, some}
 use Rattle.value.specs.declared.Value.{Value}

@@ -48,7 +48,8 @@ back rows w (i ∷ p) = back rows (via rows i w) p
 -- a network whose edges are the rows, all of them usable
 pub record Rows (N : Network) (rows : List ℕ) : Type 0 where
   pub count : N.edges ≡ length rows / 4
-  pub at : (i : ℕ) → i < N.edges → N.edge i ≡ edge (get_or rows (4 * i) 0) (get_or rows (4 * i + 1) 0) (get_or rows (4 * i + 2) 0) (get_or rows (4 * i + 3) 0)
+  pub at : (i : ℕ) → i < N.edges → N.edge i
+      ≡ edge (get_or rows (4 * i) 0) (get_or rows (4 * i + 1) 0) (get_or rows (4 * i + 2) 0) (get_or rows (4 * i + 3) 0)
   pub usable : (i : ℕ) → T (N.usable i)
 
 module _ (rows : List ℕ) (more : Walk → List Walk) (w x : Walk) where

@@ -7,7 +7,8 @@ use lib.Seq.{length-take-le}
 use Rattle.query.specs.Tree.{query_of}
 use Rattle.wire.specs.Wire.{Reply, Returned, done}
 use Rattle.board.specs.Steps.{answers_left}
-use Rattle.board.proofs.Loops.{answer_in, answers_next, answers_none, end, others_accepted, part, plan_done, query_accepted, query_ends, room_left, written_first, written_length, written_rest}
+use Rattle.board.proofs.Loops.{answer_in, answers_next, answers_none, end, others_accepted, part, plan_done, query_accepted, query_ends, room_left}
+use Rattle.board.proofs.Loops.{written_first, written_length, written_rest}
 use Rattle.board.proofs.answer_all.Goals as goal
 
 pub end_of-end-requires : goal.end_of-end-requires
@@ -36,7 +37,14 @@ loop-i-preserved c =
     let ends : end c.args.board.now c.loop-i.at ≤ length c.args.board.now = let l = c.loop-i in
     let a = c.args in
     query_ends a.board.now l.at a.count l.i l.invariant.0 c.loop-i-test.true l.invariant.1 in
-    let turned : (bs : List ℕ) × (take c.loop-i.written c.loop-i.out ++ (bs ++ answers_left c.args.joint c.args.figures.now c.args.n c.args.rounds (c.args.count - (c.loop-i.i + 1)) (drop (end c.args.board.now c.loop-i.at) c.args.board.now)) ≡ answers_left c.args.joint c.args.figures.now c.args.n c.args.rounds c.args.count (drop 1 c.args.board.now)) × Returned (done bs) c.answer_query-size.result (take (length c.loop-i.out - c.loop-i.written) (drop c.loop-i.written c.loop-i.out)) c.answer_query-size.new.out = let l = c.loop-i in
+    let turned : (bs : List ℕ)
+    × (take c.loop-i.written c.loop-i.out
+    ++ (bs
+    ++ answers_left c.args.joint c.args.figures.now c.args.n c.args.rounds (c.args.count - (c.loop-i.i + 1))
+    (drop (end c.args.board.now c.loop-i.at) c.args.board.now))
+    ≡ answers_left c.args.joint c.args.figures.now c.args.n c.args.rounds c.args.count (drop 1 c.args.board.now))
+    × Returned (done bs) c.answer_query-size.result (take (length c.loop-i.out - c.loop-i.written) (drop c.loop-i.written c.loop-i.out))
+    c.answer_query-size.new.out = let l = c.loop-i in
     let a = c.args in
     let b = a.board.now in
     let next = answers_next a.joint a.figures.now a.n a.rounds b l.at a.count l.i c.loop-i-test.true in

@@ -10,21 +10,24 @@ use Rattle.board.proofs.answer_query.Goals as goal
 
 pub slice_bounds-plan-end : goal.slice_bounds-plan-end
 slice_bounds-plan-end c =
-    let fused : FusedIn c.args.query.now c.fuse-size.new.out c.fuse-size.result = let b : Bytes c.args.query.now = λ i. omega (arith, c.shared_slice_known-1.given i) in
+    let fused : FusedIn c.args.query.now c.fuse-size.new.out c.fuse-size.result =
+    let b : Bytes c.args.query.now = λ i. omega (arith, c.shared_slice_known-1.given i) in
     fused_in c.args.query.now (replicate 560 0) c.fuse-size.new.out c.fuse-size.result b c.requires (length-replicate {A = ℕ} 560 0)
     c.fuse-size.ensures in
     fused.within
 
 pub slice_bounds-answer_plan-end : goal.slice_bounds-answer_plan-end
 slice_bounds-answer_plan-end c =
-    let fused : FusedIn c.args.query.now c.fuse-size.new.out c.fuse-size.result = let b : Bytes c.args.query.now = λ i. omega (arith, c.shared_slice_known-1.given i) in
+    let fused : FusedIn c.args.query.now c.fuse-size.new.out c.fuse-size.result =
+    let b : Bytes c.args.query.now = λ i. omega (arith, c.shared_slice_known-1.given i) in
     fused_in c.args.query.now (replicate 560 0) c.fuse-size.new.out c.fuse-size.result b c.requires (length-replicate {A = ℕ} 560 0)
     c.fuse-size.ensures in
     fused.size
 
 pub returns : goal.returns
 returns c =
-    let fused : FusedIn c.args.query.now c.fuse-size.new.out c.fuse-size.result = let b : Bytes c.args.query.now = λ i. omega (arith, c.shared_slice_known-1.given i) in
+    let fused : FusedIn c.args.query.now c.fuse-size.new.out c.fuse-size.result =
+    let b : Bytes c.args.query.now = λ i. omega (arith, c.shared_slice_known-1.given i) in
     fused_in c.args.query.now (replicate 560 0) c.fuse-size.new.out c.fuse-size.result b c.requires (length-replicate {A = ℕ} 560 0)
     c.fuse-size.ensures in
     let a = c.args in

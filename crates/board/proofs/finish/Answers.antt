@@ -68,7 +68,10 @@ answer_all-requires c =
     c.size_of.ensures
     ∙ ap (λ (n : ℕ). sizes_left n c.wide-count.result (drop 1 b)) c.vertices-n.ensures
     ∙ ap (λ (k : ℕ). sizes_left (at16 c.args.graph.now 5) k (drop 1 b)) count in
-    let answers : answers_left c.args.w.table c.settle-rounds.new.figures c.vertices-n.result c.settle-rounds.result c.wide-count.result (drop 1 c.args.board.now) ≡ answers_of c.args.limit (graph_of c.args.graph.now) (board_rounds c.args.limit (graph_of c.args.graph.now) (queries_of c.args.board.now)) (queries_of c.args.board.now) = let a = c.args in
+    let answers : answers_left c.args.w.table c.settle-rounds.new.figures c.vertices-n.result c.settle-rounds.result c.wide-count.result
+    (drop 1 c.args.board.now)
+    ≡ answers_of c.args.limit (graph_of c.args.graph.now)
+    (board_rounds c.args.limit (graph_of c.args.graph.now) (queries_of c.args.board.now)) (queries_of c.args.board.now) = let a = c.args in
     let b = a.board.now in
     let m = a.graph.now in
     let r = c.settle-rounds.result in
@@ -101,7 +104,10 @@ returns c =
     c.size_of.ensures
     ∙ ap (λ (n : ℕ). sizes_left n c.wide-count.result (drop 1 b)) c.vertices-n.ensures
     ∙ ap (λ (k : ℕ). sizes_left (at16 c.args.graph.now 5) k (drop 1 b)) count in
-    let answers : answers_left c.args.w.table c.settle-rounds.new.figures c.vertices-n.result c.settle-rounds.result c.wide-count.result (drop 1 c.args.board.now) ≡ answers_of c.args.limit (graph_of c.args.graph.now) (board_rounds c.args.limit (graph_of c.args.graph.now) (queries_of c.args.board.now)) (queries_of c.args.board.now) = let a = c.args in
+    let answers : answers_left c.args.w.table c.settle-rounds.new.figures c.vertices-n.result c.settle-rounds.result c.wide-count.result
+    (drop 1 c.args.board.now)
+    ≡ answers_of c.args.limit (graph_of c.args.graph.now)
+    (board_rounds c.args.limit (graph_of c.args.graph.now) (queries_of c.args.board.now)) (queries_of c.args.board.now) = let a = c.args in
     let b = a.board.now in
     let m = a.graph.now in
     let r = c.settle-rounds.result in

@@ -11,7 +11,8 @@ use Rattle.board_text.proofs.scan_queries.Goals as goal
 
 pub returns-then-code-ne0 : goal.returns-then-code-ne0
 returns-then-code-ne0 c =
-    let whole : joint_scan c.args.count (drop 1 c.args.board.now) c.start-joint.result ≡ joint_scan c.args.count (drop 1 c.args.board.now) (started 0) = ap (joint_scan c.args.count (drop 1 c.args.board.now)) c.start-joint.ensures in
+    let whole : joint_scan c.args.count (drop 1 c.args.board.now) c.start-joint.result ≡ joint_scan c.args.count (drop 1 c.args.board.now) (started 0) =
+    ap (joint_scan c.args.count (drop 1 c.args.board.now)) c.start-joint.ensures in
     let l = c.loop-i in
     let a = c.args in
     let own = c.query_at-own.ensures in
@@ -37,7 +38,8 @@ loop-i-preserved c =
 
 pub returns-then-at-board : goal.returns-then-at-board
 returns-then-at-board c =
-    let whole : joint_scan c.args.count (drop 1 c.args.board.now) c.start-joint.result ≡ joint_scan c.args.count (drop 1 c.args.board.now) (started 0) = ap (joint_scan c.args.count (drop 1 c.args.board.now)) c.start-joint.ensures in
+    let whole : joint_scan c.args.count (drop 1 c.args.board.now) c.start-joint.result ≡ joint_scan c.args.count (drop 1 c.args.board.now) (started 0) =
+    ap (joint_scan c.args.count (drop 1 c.args.board.now)) c.start-joint.ensures in
     let l = c.loop-i in
     let a = c.args in
     c.blank_of-then-at-board.ensures
@@ -47,7 +49,8 @@ returns-then-at-board c =
 
 pub returns : goal.returns
 returns c =
-    let whole : joint_scan c.args.count (drop 1 c.args.board.now) c.start-joint.result ≡ joint_scan c.args.count (drop 1 c.args.board.now) (started 0) = ap (joint_scan c.args.count (drop 1 c.args.board.now)) c.start-joint.ensures in
+    let whole : joint_scan c.args.count (drop 1 c.args.board.now) c.start-joint.result ≡ joint_scan c.args.count (drop 1 c.args.board.now) (started 0) =
+    ap (joint_scan c.args.count (drop 1 c.args.board.now)) c.start-joint.ensures in
     let l = c.loop-i in
     let a = c.args in
     sym (scan_ended a.board.now a.count l.i l.at l.joint c.loop-i-test.false c.if-at-board.false)

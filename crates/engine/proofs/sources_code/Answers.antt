@@ -12,7 +12,8 @@ use Rattle.engine.proofs.sources_code.Goals as goal
 
 pub returns-then-c-ne0 : goal.returns-then-c-ne0
 returns-then-c-ne0 c =
-    let whole : sources_code c.args.n (map path_of (take c.lesser-count.result c.args.table)) ≡ sources_code c.args.n (map path_of (take c.args.paths c.args.table)) = ap (λ (l : List PackedPath). sources_code c.args.n (map path_of l))
+    let whole : sources_code c.args.n (map path_of (take c.lesser-count.result c.args.table))
+    ≡ sources_code c.args.n (map path_of (take c.args.paths c.args.table)) = ap (λ (l : List PackedPath). sources_code c.args.n (map path_of l))
     (take_least c.args.paths 8 c.lesser-count.result c.args.table (omega arith) c.lesser-count.ensures.0) in
     let l = c.loop-i in
     let a = c.args in
@@ -29,7 +30,8 @@ loop-i-preserved c =
 
 pub returns : goal.returns
 returns c =
-    let whole : sources_code c.args.n (map path_of (take c.lesser-count.result c.args.table)) ≡ sources_code c.args.n (map path_of (take c.args.paths c.args.table)) = ap (λ (l : List PackedPath). sources_code c.args.n (map path_of l))
+    let whole : sources_code c.args.n (map path_of (take c.lesser-count.result c.args.table))
+    ≡ sources_code c.args.n (map path_of (take c.args.paths c.args.table)) = ap (λ (l : List PackedPath). sources_code c.args.n (map path_of l))
     (take_least c.args.paths 8 c.lesser-count.result c.args.table (omega arith) c.lesser-count.ensures.0) in
     let l = c.loop-i in
     let a = c.args in

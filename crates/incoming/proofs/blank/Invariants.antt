@@ -6,7 +6,8 @@ use Rattle.vertex_set.specs.Sets.{member}
 use Rattle.incoming.proofs.blank.Given as goal
 
 abbrev pub invariant-loop-v : goal.invariant-loop-v
-invariant-loop-v l = (l.v ≤ l.n) × (length l.heads ≡ length l.initial.heads) × (length l.successors ≡ length l.initial.successors) × ((u : ℕ) → u < l.v → get_or l.heads u 0 ≡ l.m)
+invariant-loop-v l = (l.v ≤ l.n) × (length l.heads ≡ length l.initial.heads) × (length l.successors ≡ length l.initial.successors)
+    × ((u : ℕ) → u < l.v → get_or l.heads u 0 ≡ l.m)
     × ((f t : ℕ) → f < l.v → t < 256 → member l.successors f t ≡ false)
 
 abbrev pub decreases-loop-v : goal.decreases-loop-v

@@ -12,7 +12,8 @@ use Rattle.rounds.proofs.advance.Goals as goal
 pub returns-then-vertices-m : goal.returns-then-vertices-m
 unfolding changed_in
 returns-then-vertices-m c =
-    let given : Given c.args.graph.now c.args.path = record { bytes = λ i. omega (arith, c.shared_slice_known-1.given i); accepted = c.requires.0.threads.accepted; fits = c.requires.2 } in
+    let given : Given c.args.graph.now c.args.path =
+    record { bytes = λ i. omega (arith, c.shared_slice_known-1.given i); accepted = c.requires.0.threads.accepted; fits = c.requires.2 } in
     let a = c.args in
     let l = met_least a.figures.now a.j 0 (omega arith) _ c.first-m.ensures in
     let end : at16 a.graph.now 5 ≤ c.first-m.result.vertex = omega (
@@ -28,7 +29,8 @@ returns-then-vertices-m c =
 pub push_round-requires : goal.push_round-requires
 unfolding changed_in
 push_round-requires c =
-    let given : Given c.args.graph.now c.args.path = record { bytes = λ i. omega (arith, c.shared_slice_known-1.given i); accepted = c.requires.0.threads.accepted; fits = c.requires.2 } in
+    let given : Given c.args.graph.now c.args.path =
+    record { bytes = λ i. omega (arith, c.shared_slice_known-1.given i); accepted = c.requires.0.threads.accepted; fits = c.requires.2 } in
     let early : c.args.r < 1023 = let a = c.args in
     let v = c.first-m.result.vertex in
     let l = met_least a.figures.now a.j 0 (omega arith) _ c.first-m.ensures in
@@ -40,7 +42,8 @@ push_round-requires c =
 pub pull_round-requires : goal.pull_round-requires
 unfolding changed_in
 pull_round-requires c =
-    let given : Given c.args.graph.now c.args.path = record { bytes = λ i. omega (arith, c.shared_slice_known-1.given i); accepted = c.requires.0.threads.accepted; fits = c.requires.2 } in
+    let given : Given c.args.graph.now c.args.path =
+    record { bytes = λ i. omega (arith, c.shared_slice_known-1.given i); accepted = c.requires.0.threads.accepted; fits = c.requires.2 } in
     let early : c.args.r < 1023 = let a = c.args in
     let v = c.first-m.result.vertex in
     let l = met_least a.figures.now a.j 0 (omega arith) _ c.first-m.ensures in
@@ -51,7 +54,8 @@ pull_round-requires c =
 
 pub returns-then-push : goal.returns-then-push
 returns-then-push c =
-    let given : Given c.args.graph.now c.args.path = record { bytes = λ i. omega (arith, c.shared_slice_known-1.given i); accepted = c.requires.0.threads.accepted; fits = c.requires.2 } in
+    let given : Given c.args.graph.now c.args.path =
+    record { bytes = λ i. omega (arith, c.shared_slice_known-1.given i); accepted = c.requires.0.threads.accepted; fits = c.requires.2 } in
     let a = c.args in
     let t = c.push_round in (
       push_stands a.graph.now a.path given a.j a.r a.figures.now c.requires.4 _ _ t.ensures.0,
@@ -60,7 +64,8 @@ returns-then-push c =
 
 pub returns : goal.returns
 returns c =
-    let given : Given c.args.graph.now c.args.path = record { bytes = λ i. omega (arith, c.shared_slice_known-1.given i); accepted = c.requires.0.threads.accepted; fits = c.requires.2 } in
+    let given : Given c.args.graph.now c.args.path =
+    record { bytes = λ i. omega (arith, c.shared_slice_known-1.given i); accepted = c.requires.0.threads.accepted; fits = c.requires.2 } in
     let a = c.args in
     let t = c.pull_round in (
       pull_stands a.graph.now a.path given a.j a.r a.figures.now c.requires.4 _ _ t.ensures.0,

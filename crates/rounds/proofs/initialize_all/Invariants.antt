@@ -6,7 +6,8 @@ use Rattle.rounds.specs.Run.{AllStand}
 use Rattle.rounds.proofs.initialize_all.Given as goal
 
 abbrev pub invariant-loop-j : goal.invariant-loop-j
-invariant-loop-j l = (l.paths ≤ 8) × (l.j ≤ l.paths) × AllStand (graph_of l.graph) l.j l.table 0 l.figures × (length l.figures ≡ length l.initial.figures)
+invariant-loop-j l = (l.paths ≤ 8) × (l.j ≤ l.paths) × AllStand (graph_of l.graph) l.j l.table 0 l.figures
+    × (length l.figures ≡ length l.initial.figures)
 
 abbrev pub decreases-loop-j : goal.decreases-loop-j
 decreases-loop-j l = l.paths - l.j

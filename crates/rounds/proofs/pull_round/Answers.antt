@@ -5,7 +5,8 @@ use Rattle.rounds.proofs.pull_round.Goals as goal
 
 pub step-requires : goal.step-requires
 step-requires c =
-    let given : Given c.args.graph.now c.args.path = record { bytes = λ i. omega (arith, c.shared_slice_known-1.given i); accepted = c.requires.0.threads.accepted; fits = c.requires.2 } in
+    let given : Given c.args.graph.now c.args.path =
+    record { bytes = λ i. omega (arith, c.shared_slice_known-1.given i); accepted = c.requires.0.threads.accepted; fits = c.requires.2 } in
     let a = c.args in
     let l = a.figures.now in
     let k = given in
@@ -17,7 +18,8 @@ step-requires c =
 
 pub returns : goal.returns
 returns c =
-    let given : Given c.args.graph.now c.args.path = record { bytes = λ i. omega (arith, c.shared_slice_known-1.given i); accepted = c.requires.0.threads.accepted; fits = c.requires.2 } in
+    let given : Given c.args.graph.now c.args.path =
+    record { bytes = λ i. omega (arith, c.shared_slice_known-1.given i); accepted = c.requires.0.threads.accepted; fits = c.requires.2 } in
     let a = c.args in
     let l = a.figures.now in
     let k = given in

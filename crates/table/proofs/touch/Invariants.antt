@@ -12,8 +12,10 @@ abbrev pub zeros : List ℕ
 zeros = 0 ∷ 0 ∷ 0 ∷ 0 ∷ []
 
 abbrev pub invariant-loop-m : goal.invariant-loop-m
-invariant-loop-m l = (l.m.vertex ≤ 256) × (l.m.vertex < 256 → member l.initial.figures l.j l.m.vertex ≡ true) × (l.m.vertex < 256 → l.m.above ≡ above l.initial.figures l.j l.m.vertex)
-    × Upto l.n (lends l.c l.j l.initial.figures) l.initial.figures l.figures (min l.m.vertex l.n) × (four l.touched ≡ joined_chosen zeros 0 l.initial.figures l.j l.successors (min
+invariant-loop-m l = (l.m.vertex ≤ 256) × (l.m.vertex < 256 → member l.initial.figures l.j l.m.vertex ≡ true)
+    × (l.m.vertex < 256 → l.m.above ≡ above l.initial.figures l.j l.m.vertex)
+    × Upto l.n (lends l.c l.j l.initial.figures) l.initial.figures l.figures (min l.m.vertex l.n)
+    × (four l.touched ≡ joined_chosen zeros 0 l.initial.figures l.j l.successors (min
     l.m.vertex l.n))
 
 abbrev pub decreases-loop-m : goal.decreases-loop-m

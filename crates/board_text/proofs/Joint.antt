@@ -1,13 +1,13 @@
 -- THE JOINT TABLE OF A BOARD: what the program reads of it refuses by `board_code`, and else holds the different path reductions of all queries in order of
 -- first writing. Assumes nothing.
-use Prim.Native.Nat.{ℕ, zero, suc, ◌+◌, ◌≤◌, ◌<◌, max}
+use Prim.Native.Nat.{ℕ, zero, suc, ◌+◌, ◌≤◌, ◌<◌}
 use mathlib.Core.Path.{◌≡◌, refl, sym, ap, ◌∙◌, subst}
 use mathlib.Core.Bool.{Bool, true, false, cond}
 use mathlib.Core.List.{List, [], ◌∷◌, ◌++◌, map}
 use native.Mathlib.Omega.{arith}
-use borrow.Author.Tests.{eqb-true, eqb-false, le-ltb, lt-ltb, ltb-false, ltb-true}
-use lib.Dec.{leb, ltb, eqb}
-use lib.ListN.{length, get_or, set, take, drop, length-take, get_or-eq_default}
+use borrow.Author.Tests.{eq-eqb, eqb-true, eqb-false, le-ltb, lt-ltb, ltb-false, ltb-true, ne_eqb}
+use lib.Dec.{ltb, eqb}
+use lib.ListN.{length, get_or, take, drop, length-take, get_or-eq_default}
 use lib.Seq.{get_or-drop, get_or-take}
 use Rattle.meaning.specs.Limits.{PathFits}
 use Rattle.meaning.specs.Plan.{put, put_all}
@@ -15,7 +15,7 @@ use Rattle.meaning.specs.Query.{PathReduction, written_paths}
 use Rattle.meaning.proofs.Paths.{put_all_append}
 use Rattle.packed_path.specs.declared.PackedPath.{PackedPath}
 use Rattle.packed_path.specs.Packed.{packed}
-use Rattle.progress.specs.declared.Progress.{Progress}
+use Rattle.progress.specs.Progress.{Scan}
 use Rattle.progress.specs.Progress.{blank, started}
 use Rattle.query.specs.Query.{query_code, query_scan}
 use Rattle.query.specs.Tree.{query_of}
@@ -23,7 +23,7 @@ use Rattle.query.proofs.Exact.{read_complete}
 use Rattle.query.proofs.Tree.{query_read}
 use Rattle.term_text.proofs.Ends.{started_table}
 use Rattle.term_text.proofs.Table.{Put, Table, kept_ninth, kept_room, numbers_held}
-use Rattle.terms.specs.Terms.{kept_path, slot_of}
+use Rattle.terms.specs.Terms.{kept_path}
 use Rattle.walks.specs.Lists.{All}
 use Rattle.wire.specs.Header.{then}
 use Rattle.wire.specs.Wire.{Bytes, at16}
@@ -89,63 +89,48 @@ first_table s b z =
     let p = first_passed s z in
     let q = query_of (first_query s) in
     let r = query_read (first_query s) (first_bytes s b) p.accepted in
-    subst (λ (w : Progress). Table w (put_all [] (written_paths q))) (ap query_scan r.1 ∙ sym p.scanned) (read_complete q r.0).table
+    subst (λ (w : Scan). Table w (put_all [] (written_paths q))) (ap query_scan r.1 ∙ sym p.scanned) (read_complete q r.0).table
 
 -- ---- path reductions put into the joint table
 
 -- the number 14 stays
-kept_full : (w : Progress) (p : PackedPath) → w.code ≡ 14 → (kept_path w p).code ≡ 14
-unfolding kept_path blank
-kept_full w p e = go (leb 8 (slot_of 8 w.paths w.table p 0))
-  where
-    go : (t : Bool) → (cond t (blank 14) (record {
-      code = w.code;
-      at = w.at;
-      terms = w.terms;
-      paths = max w.paths (slot_of 8 w.paths w.table p 0 + 1);
-      reductions = w.reductions;
-      table = set w.table (slot_of 8 w.paths w.table p 0) p;
-    })).code ≡ 14
-    go true = refl
-    go false = e
-
-joined_full : (w : Progress) (ps : List PackedPath) → w.code ≡ 14 → (joined w ps).code ≡ 14
+joined_full : (w : Scan) (ps : List PackedPath) → w.code ≡ 14 → (joined w ps).code ≡ 14
 unfolding joined
 joined_full w [] e = e
-joined_full w (p ∷ ps) e = joined_full (kept_path w p) ps (kept_full w p e)
+joined_full w (p ∷ ps) e = rw (ne_eqb w.code 0 (λ z. omega (arith, e, z))) e
 
 -- the table holds the path reductions cs, and nothing was refused
-abbrev Held : Progress → List PathReduction → Type 0
+abbrev Held : Scan → List PathReduction → Type 0
 Held w cs = (w.code ≡ 0) × Table w cs
 
 -- while there is room the table holds what is put; then 14
-joined_room : (w : Progress) (cs ds : List PathReduction) → Held w cs → All (PathFits 256) ds → length (put_all cs ds) ≤ 8
+joined_room : (w : Scan) (cs ds : List PathReduction) → Held w cs → All (PathFits 256) ds → length (put_all cs ds) ≤ 8
     → Held (joined w (map packed ds)) (put_all cs ds)
 unfolding joined
 joined_room w cs [] h f l = h
 joined_room w cs (d ∷ ds) h f l =
     let k = kept_room w cs h.1 d f.0 (omega (arith, put_all_longer (put cs d) ds)) in
-    joined_room (kept_path w (packed d)) (put cs d) ds (k.code ∙ h.0, k.table) f.1 l
+    rw (eq-eqb w.code 0 h.0) (joined_room (kept_path w (packed d)) (put cs d) ds (k.code ∙ h.0, k.table) f.1 l)
 
-joined_ninth : (w : Progress) (cs ds : List PathReduction) → Held w cs → All (PathFits 256) ds → 8 < length (put_all cs ds)
+joined_ninth : (w : Scan) (cs ds : List PathReduction) → Held w cs → All (PathFits 256) ds → 8 < length (put_all cs ds)
     → (joined w (map packed ds)).code ≡ 14
 unfolding joined blank
 joined_ninth w cs [] h f l = absurd (omega (arith, h.1.few))
 joined_ninth w cs (d ∷ ds) h f l =
-    go (ltb 8 (length (put cs d))) refl (λ k. joined_ninth (kept_path w (packed d)) (put cs d) ds (k.code ∙ h.0, k.table) f.1 l)
+    rw (eq-eqb w.code 0 h.0) (go (ltb 8 (length (put cs d))) refl (λ k. joined_ninth (kept_path w (packed d)) (put cs d) ds (k.code ∙ h.0, k.table) f.1 l))
   where
     go : (t : Bool) → ltb 8 (length (put cs d)) ≡ t
         → (Put w (kept_path w (packed d)) (put cs d) → (joined (kept_path w (packed d)) (map packed ds)).code ≡ 14)
         → (joined (kept_path w (packed d)) (map packed ds)).code ≡ 14
     go true e next =
         joined_full (kept_path w (packed d)) (map packed ds)
-        (ap (λ (x : Progress). x.code) (kept_ninth w cs h.1 d f.0 (ltb-true 8 (length (put cs d)) e)))
+        (ap (λ (x : Scan). x.code) (kept_ninth w cs h.1 d f.0 (ltb-true 8 (length (put cs d)) e)))
     go false e next = next (kept_room w cs h.1 d f.0 (ltb-false 8 (length (put cs d)) e))
 
 -- ---- the queries in turn
 
 -- once there is a ninth the other refusals come first still
-joint_full : (k : ℕ) (s : List ℕ) (w : Progress) → w.code ≡ 14 → (joint_scan k s w).code ≡ then (queries_code k s) 14
+joint_full : (k : ℕ) (s : List ℕ) (w : Scan) → w.code ≡ 14 → (joint_scan k s w).code ≡ then (queries_code k s) 14
 unfolding joint_scan blank
 joint_full zero s w e = go (eqb (length s) 0)
   where
@@ -157,18 +142,18 @@ joint_full (suc k) s w e =
     let v = joined w (take o.paths o.table) in
     go (eqb o.code 0) refl (joint_scan k (after_query s) v) (joint_full k (after_query s) v (joined_full w (take o.paths o.table) e))
   where
-    go : (t : Bool) → eqb (first_scan s).code 0 ≡ t → (v : Progress) → v.code ≡ then (queries_code k (after_query s)) 14
+    go : (t : Bool) → eqb (first_scan s).code 0 ≡ t → (v : Scan) → v.code ≡ then (queries_code k (after_query s)) 14
         → (cond t v (blank (first_scan s).code)).code ≡ then (then (first_code s) (queries_code k (after_query s))) 14
     go true p v h = h ∙ rw (sym (first_judged s) ∙ eqb-true _ _ p) refl
     go false p v h = rw (← first_judged s, p, p) refl
 
 -- what is known of a reading that starts from a table that holds cs: it refuses as the queries are judged, then by 14; and else it holds them all
-record Joint (k : ℕ) (s : List ℕ) (cs : List PathReduction) (w : Progress) : Type 0 where
+record Joint (k : ℕ) (s : List ℕ) (cs : List PathReduction) (w : Scan) : Type 0 where
   judged : w.code ≡ then (queries_code k s) (cond (ltb 8 (length (put_all cs (all_written (queries_in k s))))) 14 0)
   holds : w.code ≡ 0 → Table w (put_all cs (all_written (queries_in k s)))
 
 -- one query more at the front, which was accepted
-module _ (k : ℕ) (s : List ℕ) (b : Bytes s) (z : first_code s ≡ 0) (w : Progress) (cs : List PathReduction) (h : Held w cs) where
+module _ (k : ℕ) (s : List ℕ) (b : Bytes s) (z : first_code s ≡ 0) (w : Scan) (cs : List PathReduction) (h : Held w cs) where
   abbrev own : List PathReduction
   own = written_paths (query_of (first_query s))
 
@@ -178,7 +163,7 @@ module _ (k : ℕ) (s : List ℕ) (b : Bytes s) (z : first_code s ≡ 0) (w : Pr
   table : Table (first_scan s) (put_all [] own)
   table = first_table s b z
 
-  abbrev next : Progress
+  abbrev next : Scan
   next = joined w (take (first_scan s).paths (first_scan s).table)
 
   numbers : next ≡ joined w (map packed (put_all [] own))
@@ -192,22 +177,22 @@ module _ (k : ℕ) (s : List ℕ) (b : Bytes s) (z : first_code s ≡ 0) (w : Pr
 
   -- there is room for its path reductions
   with_room : length (put_all cs own) ≤ 8 → Held next (put_all cs own)
-  with_room l = subst (λ (v : Progress). Held v (put_all cs own)) (sym numbers)
+  with_room l = subst (λ (v : Scan). Held v (put_all cs own)) (sym numbers)
       (subst (Held (joined w (map packed (put_all [] own)))) same
       (joined_room w cs (put_all [] own) h table.legal (subst (λ (ds : List PathReduction). length ds ≤ 8) (sym same) l)))
 
   -- or there is a ninth
   with_ninth : 8 < length (put_all cs own) → next.code ≡ 14
-  with_ninth l = ap (λ (v : Progress). v.code) numbers
+  with_ninth l = ap (λ (v : Scan). v.code) numbers
       ∙ joined_ninth w cs (put_all [] own) h table.legal (subst (λ (ds : List PathReduction). 8 < length ds) (sym same) l)
 
-  joint_room : {v : Progress} → Joint k (after_query s) (put_all cs own) v → Joint (suc k) s cs v
+  joint_room : {v : Scan} → Joint k (after_query s) (put_all cs own) v → Joint (suc k) s cs v
   joint_room {v} j = record {
     judged = j.judged ∙ rw (z, all) refl;
     holds = λ e. subst (Table v) all (j.holds e);
   }
 
-  joint_ninth : {v : Progress} → 8 < length (put_all cs own) → v.code ≡ then (queries_code k (after_query s)) 14 → Joint (suc k) s cs v
+  joint_ninth : {v : Scan} → 8 < length (put_all cs own) → v.code ≡ then (queries_code k (after_query s)) 14 → Joint (suc k) s cs v
   joint_ninth {v} l e =
       let long : 8 < length (put_all cs (own ++ rest)) = omega (arith, put_all_longer (put_all cs own) rest, ap length all) in
       let number : v.code ≡ then (then (first_code s) (queries_code k (after_query s))) (cond (ltb 8 (length (put_all cs (own ++ rest)))) 14 0) =
@@ -217,7 +202,7 @@ module _ (k : ℕ) (s : List ℕ) (b : Bytes s) (z : first_code s ≡ 0) (w : Pr
         holds = λ x. absurd (let y = (then_both (queries_code k (after_query s)) 14 (sym e ∙ x)).1 in let u : ◌≡◌ {A = ℕ} 14 0 = y in omega arith);
       }
 
-joint_read : (k : ℕ) (s : List ℕ) → Bytes s → (w : Progress) (cs : List PathReduction) → Held w cs → Joint k s cs (joint_scan k s w)
+joint_read : (k : ℕ) (s : List ℕ) → Bytes s → (w : Scan) (cs : List PathReduction) → Held w cs → Joint k s cs (joint_scan k s w)
 unfolding joint_scan blank
 joint_read zero s b w cs h = go (eqb (length s) 0) refl
   where
@@ -234,7 +219,7 @@ joint_read (suc k) s b w cs h =
     own' : List PathReduction
     own' = written_paths (query_of (first_query s))
 
-    next' : Progress
+    next' : Scan
     next' = joined w (take (first_scan s).paths (first_scan s).table)
 
     go : (t u : Bool) → eqb (first_scan s).code 0 ≡ t → ltb 8 (length (put_all cs own')) ≡ u

@@ -1,22 +1,24 @@
 -- What the loops over a board cite: the length at a position, path reductions put one by one, queries read one by one. Assumes nothing.
-use Prim.Native.Nat.{ℕ, suc, ◌+◌, ◌-◌, ◌*◌, ◌≤◌, ◌<◌}
+use Prim.Native.Nat.{ℕ, suc, ◌+◌, ◌-◌, ◌*◌, ◌≤◌, ◌<◌, min}
 use mathlib.Core.Path.{◌≡◌, refl, sym, ap, ap₂, ◌∙◌}
-use mathlib.Core.List.{List}
+use mathlib.Core.List.{List, [], ◌∷◌}
 use native.Mathlib.Numerals.{add-one}
 use native.Mathlib.Nat.{add-zero}
 use native.Mathlib.Omega.{arith}
-use borrow.Author.Tests.{eq-eqb, eqb-false, le-ltb, lt-ltb, ltb-false, ne_eqb}
+use borrow.Author.Tests.{eq-eqb, eqb-false, ltb-false, ne_eqb}
 use lib.Dec.{ltb, eqb}
-use lib.ListN.{length, get_or, take, drop, length-drop}
-use lib.Seq.{drop-cons, drop-drop, get_or-drop}
+use lib.ListN.{length, get_or, take, drop, drop_of_length-le, length-drop}
+use lib.Seq.{drop-cons, drop-drop, get_or-drop, take_all}
+use Rattle.draft.proofs.Texts.{take_least}
 use Rattle.packed_path.specs.declared.PackedPath.{PackedPath}
 use Rattle.packed_path.specs.Packed.{no_path}
-use Rattle.progress.specs.declared.Progress.{Progress}
+use Rattle.progress.specs.Progress.{Scan}
 use Rattle.progress.specs.Progress.{blank}
-use Rattle.query.specs.Query.{query_scan}
 use Rattle.terms.specs.Terms.{kept_path}
+use Rattle.wire.specs.declared.Refusal.{Refusal}
+use Rattle.wire.specs.Refusal.{number}
 use Rattle.wire.specs.Wire.{at16}
-use Rattle.wire.proofs.Codes.{past}
+use Rattle.wire.proofs.Codes.{number_some, past}
 use Rattle.board_text.specs.Board.{after_query, count_code}
 use Rattle.board_text.specs.Steps.{first_scan, joined, joint_scan}
 use Rattle.board_text.proofs.Joint.{first_judged, first_passed}
@@ -37,77 +39,51 @@ after_left b at =
     let z : at + (2 + at16 b at) ≡ at + 2 + at16 b at = omega arith in
     rw (half_left b at, drop-drop (2 + at16 b at) at b, z) refl
 
--- the reading of the query at a position: its length is cut, or runs past the end, or it is read
-module _ (b : List ℕ) (at : ℕ) where
-  pub first_cut : length b - at < 2 → first_scan (drop at b) ≡ blank 1
-  unfolding first_scan
-  first_cut h = rw (length-drop at b, lt-ltb (length b - at) 2 h) refl
+-- an accepted one ends within the bytes
+pub first_whole : (s : List ℕ) → (first_scan s).code ≡ 0 → 2 + at16 s 0 ≤ length s
+first_whole s z = (first_passed s (sym (first_judged s) ∙ z)).whole
 
-  pub first_past : 2 ≤ length b - at → length b - at - 2 < at16 b at → first_scan (drop at b) ≡ blank 1
-  unfolding first_scan
-  first_past h k = rw (length-drop at b, le-ltb (length b - at) 2 h, half_left b at, lt-ltb (length b - at) (2 + at16 b at) (omega arith)) refl
+-- and what is left behind it
+pub left_after : (s : List ℕ) (n : ℕ) → n ≡ at16 s 0 → 2 + at16 s 0 ≤ length s → take (length s - (2 + n)) (drop (2 + n) s) ≡ after_query s
+left_after s n e h = rw e (take_all (length s - (2 + at16 s 0)) (drop (2 + at16 s 0) s) (omega (arith, length-drop (2 + at16 s 0) s)))
 
-  pub first_there : 2 ≤ length b - at → at16 b at ≤ length b - at - 2 → (n : ℕ) → n ≡ at16 b at
-      → first_scan (drop at b) ≡ query_scan (take (at + 2 + n - (at + 2)) (drop (at + 2) b))
-  unfolding first_scan
-  first_there h k n e =
-      rw (length-drop at b, le-ltb (length b - at) 2 h)
-      (rw (← query_left b at n e, half_left b at, le-ltb (length b - at) (2 + at16 b at) (omega arith)) refl)
+-- of the path reductions ps, i of them put, the next
+pub joined_more : (w : Scan) (ps : List PackedPath) (i : ℕ) → i < length ps → w.code ≡ 0
+    → joined w (drop i ps) ≡ joined (kept_path w (get_or ps i no_path)) (drop (i + 1) ps)
+unfolding joined
+joined_more w ps i h z = rw (drop-cons ps i no_path h, eq-eqb w.code 0 z, add-one i) refl
 
--- an accepted one ends within the board
-pub first_whole : (b : List ℕ) (at : ℕ) → at ≤ length b → (first_scan (drop at b)).code ≡ 0 → at + 2 + at16 b at ≤ length b
-first_whole b at h z =
-    let p = first_passed (drop at b) (sym (first_judged (drop at b)) ∙ z) in
-    omega (arith, p.two, p.whole, length-drop at b, half_left b at)
+-- the first of a table that has eight
+pub joined_first : (w : Scan) (n : ℕ) (table : List PackedPath) → length table ≡ 8 → joined w (take n table) ≡ joined w (take (min n 8) table)
+joined_first w n table e = ap (joined w) (sym (take_least n (min n 8) table (ap (min n) (sym e))))
 
--- path reductions from the j-th on, of the first `count`
-abbrev pub left : List PackedPath → ℕ → ℕ → List PackedPath
-left table count j = take (count - j) (drop j table)
+pub joined_refused : (e : Refusal) (ps : List PackedPath) → joined (blank (number e)) ps ≡ blank (number e)
+unfolding joined blank
+joined_refused e [] = refl
+joined_refused e (p ∷ ps) = rw (ne_eqb (number e) 0 (number_some e)) refl
 
-module _ (w : Progress) (table : List PackedPath) (count j : ℕ) where
-  pub joined_next : j < count → count ≤ length table
-      → joined w (left table count j) ≡ joined (kept_path w (get_or table j no_path)) (left table count (j + 1))
-  unfolding joined
-  joined_next h k =
-      let e : count - j ≡ suc (count - (j + 1)) = omega arith in
-      rw (e, drop-cons table j no_path (omega arith), ← add-one j) refl
+pub joined_over : (w : Scan) (ps : List PackedPath) (i : ℕ) → length ps ≤ i → joined w (drop i ps) ≡ w
+unfolding joined
+joined_over w ps i h = rw (drop_of_length-le ps h) refl
 
-  pub joined_none : count ≤ j → joined w (left table count j) ≡ w
-  unfolding joined
-  joined_none h = let e : count - j ≡ 0 = omega arith in rw e refl
+pub ruleset joining = (joined_more, joined_refused, joined_over, joined_first)
 
--- the queries from a position on, so many of them left
-abbrev pub scan_left : List ℕ → ℕ → ℕ → ℕ → Progress → Progress
-scan_left b count i at w = joint_scan (count - i) (drop at b) w
+-- of k queries, i of them read, the next: it is put, or refused
+pub joint_more : (k i : ℕ) (s : List ℕ) (w : Scan) → i < k → (first_scan s).code ≡ 0
+    → joint_scan (k - i) s w ≡ joint_scan (k - (i + 1)) (after_query s) (joined w (take (first_scan s).paths (first_scan s).table))
+unfolding joint_scan
+joint_more k i s w h z =
+    let e : k - i ≡ suc (k - (i + 1)) = omega arith in
+    rw (e, eq-eqb (first_scan s).code 0 z) refl
 
-module _ (b : List ℕ) (count i at : ℕ) (w : Progress) where
-  -- the next is refused
-  pub scan_refused : i < count → ((first_scan (drop at b)).code ≡ 0 → ⊥) → scan_left b count i at w ≡ blank (first_scan (drop at b)).code
-  unfolding joint_scan
-  scan_refused h n =
-      let e : count - i ≡ suc (count - (i + 1)) = omega arith in
-      rw (e, ne_eqb (first_scan (drop at b)).code 0 n) refl
+pub joint_refused : (k i : ℕ) (s : List ℕ) (w : Scan) (e : Refusal) → i < k → blank (number e) ≡ first_scan s
+    → joint_scan (k - i) s w ≡ blank (number e)
+unfolding joint_scan blank
+joint_refused k i s w e h f =
+    let m : k - i ≡ suc (k - (i + 1)) = omega arith in
+    rw (m, ← f, ne_eqb (number e) 0 (number_some e)) refl
 
-  -- or put, and the reading goes on behind it
-  pub scan_next : i < count → (first_scan (drop at b)).code ≡ 0 → scan_left b count i at w
-      ≡ scan_left b count (i + 1) (at + 2 + at16 b at) (joined w (take (first_scan (drop at b)).paths (first_scan (drop at b)).table))
-  unfolding joint_scan
-  scan_next h z =
-      let e : count - i ≡ suc (count - (i + 1)) = omega arith in
-      rw (e, eq-eqb (first_scan (drop at b)).code 0 z, after_left b at) refl
-
-  -- none is left: nor is a byte, or 6
-  pub scan_over : count ≤ i → at < length b → scan_left b count i at w ≡ blank 6
-  unfolding joint_scan
-  scan_over h l =
-      let e : count - i ≡ 0 = omega arith in
-      rw (e, ne_eqb (length (drop at b)) 0 (λ z. omega (arith, z, length-drop at b))) refl
-
-  pub scan_ended : count ≤ i → length b ≤ at → scan_left b count i at w ≡ w
-  unfolding joint_scan
-  scan_ended h l =
-      let e : count - i ≡ 0 = omega arith in
-      rw (e, eq-eqb (length (drop at b)) 0 (omega (arith, length-drop at b))) refl
+pub ruleset in_turn = (joint_more, joint_refused, joined_refused, first_whole, left_after)
 
 -- a count that is not refused is there, and is 1 to 8
 pub counted : (b : List ℕ) → count_code b ≡ 0 → (1 ≤ length b) × (1 ≤ get_or b 0 0) × (get_or b 0 0 ≤ 8)
@@ -119,6 +95,3 @@ counted b z =
     let some : length b ≡ 0 → ⊥ = eqb-false _ _ p.0 in
     let least : get_or b 0 0 ≡ 0 → ⊥ = eqb-false _ _ q.0 in
     (omega arith, omega arith, ltb-false _ _ r.0)
-
-pub some_count : (b : List ℕ) → count_code b ≡ 0 → 1 ≤ length b
-some_count b z = (counted b z).0

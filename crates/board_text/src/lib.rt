@@ -1,103 +1,66 @@
 // The bytes of boards (document 02, d): "a count byte, then each question behind its 16-bit length", judged and read.
 #![tactic(auto)]
 
-ghost use Rattle.std.specs.Prelude.{◌≡◌, ◌+◌, ◌≤◌, length, take, drop};
-ghost use Rattle.wire.specs.Wire.{at16};
-ghost use Rattle.board_text.specs.Board.{count_code};
+ghost use Rattle.std.specs.Prelude.{◌≡◌, take};
+ghost use Rattle.progress.specs.Progress.{going, scan_of, started};
 ghost use Rattle.board_text.specs.Steps.{board_scan, first_scan, joined, joint_scan};
-ghost use Rattle.progress.specs.Progress.{started};
 
-use packed_path::PackedPath;
 use progress::Progress;
+use wire::Refusal;
 
-// A byte as a count.
-fn wide(b: u8) -> usize
-    ensures { (result ≡ b) × (result ≤ 255) }
+// The reading of the query at the front: 1 where its length is missing or runs past the end.
+#[tactic(auto, unfolding(crate::specs::Steps::first_scan))]
+fn first_query(rest: &[u8]) -> Result<Progress, Refusal>
+    ensures { scan_of result ≡ first_scan rest.now }
 {
-    b as usize
+    let n = wire::half(rest, 0) as usize;
+    if rest.len() < 2 || rest.len() < 2 + n {
+        return Err(Refusal::Short);
+    }
+    query::scan(&rest[2..2 + n])
 }
 
-// "A missing count is 1, a count of 0 or above eight is 12."
-fn count_code_of(board: &[u8]) -> u8
-    ensures { result ≡ count_code board.now }
+// The path reductions of one query put into the joint table, behind those that stand there; 14 where there is a ninth, or was one before.
+#[tactic(auto, using(crate::proofs::Reading::joining))]
+fn join(joint: Result<Progress, Refusal>, own: Progress) -> Result<Progress, Refusal>
+    ensures { scan_of result ≡ joined (scan_of joint) (take own.paths own.table) }
 {
-    if board.len() == 0 {
-        return 1;
+    let mut w = joint?;
+    for path in &own.table[..own.paths.min(8)] {
+        terms::keep_path(&mut w, *path)?;
     }
-    if board[0] == 0 {
-        return 12;
-    }
-    if 8 < board[0] {
-        return 12;
-    }
-    0
+    Ok(w)
 }
 
-// The reading of the query behind the length at `at`: 1 where the length is missing or runs past the end.
-fn query_at(board: &[u8], at: usize) -> Progress
-    requires { at ≤ length board.now }
-    ensures { result ≡ first_scan (drop at board.now) }
+// The queries in turn, so many behind the count byte, and what is left over: the joint table, or the first refusal. A ninth path reduction is refused
+// behind all others.
+#[tactic(auto, using(crate::proofs::Reading::in_turn), unfolding(crate::specs::Steps::joint_scan))]
+fn scan_queries(queries: &[u8], count: u8) -> Result<Progress, Refusal>
+    ensures { scan_of result ≡ joint_scan count queries.now (started 0) }
 {
-    let left = board.len() - at;
-    if left < 2 {
-        return progress::blank_of(1);
+    let mut joint = Ok(progress::start(0));
+    let mut rest = queries;
+    for _ in 0..count {
+        let own = first_query(rest)?;
+        joint = join(joint, own);
+        let end = 2 + wire::half(rest, 0) as usize;
+        rest = &rest[end..];
     }
-    let n = wire::half(board, at) as usize;
-    if left - 2 < n {
-        return progress::blank_of(1);
-    }
-    let start = at + 2;
-    let end = start + n;
-    query::scan(&board[start..end])
-}
-
-// The path reductions of one query put into the joint table, behind those that stand there; where there is a ninth, 14 stays.
-fn join(joint: Progress, table: [PackedPath; 8], paths: usize) -> Progress
-    ensures { result ≡ joined joint (take paths table) }
-{
-    let count = wire::lesser(paths, 8);
-    let mut w = joint;
-    let mut j: usize = 0;
-    while j < count {
-        let path = table[j];
-        w = terms::keep_path(w, path);
-        j += 1;
-    }
-    w
-}
-
-// The queries in turn, so many behind the count byte, and what is left over: the joint table, or the first refusal.
-fn scan_queries(board: &[u8], count: usize) -> Progress
-    requires { 1 ≤ length board.now }
-    ensures { result ≡ joint_scan count (drop 1 board.now) (started 0) }
-{
-    let mut joint = progress::start(0);
-    let mut at: usize = 1;
-    let mut i: usize = 0;
-    while i < count {
-        let own = query_at(board, at);
-        let code = own.code;
-        if code != 0 {
-            return progress::blank_of(code);
-        }
-        let table = own.table;
-        joint = join(joint, table, own.paths);
-        at = at + 2 + wire::half(board, at) as usize;
-        i += 1;
-    }
-    if at < board.len() {
-        return progress::blank_of(6);
+    if !rest.is_empty() {
+        return Err(Refusal::Length);
     }
     joint
 }
 
-// The reading of a board: the joint table of its path reductions, or the first refusal; 14 where there is a ninth.
-pub fn scan(board: &[u8]) -> Progress
-    ensures { result ≡ board_scan board.now }
+// The reading of a board: the joint table of its path reductions, or the first refusal; 14 where there is a ninth. "A missing count is 1, a count of 0 or
+// above eight is 12."
+#[tactic(auto, unfolding(crate::specs::Steps::board_scan, crate::specs::Board::count_code))]
+pub fn scan(board: &[u8]) -> Result<Progress, Refusal>
+    ensures { scan_of result ≡ board_scan board.now }
 {
-    let c = count_code_of(board);
-    if c != 0 {
-        return progress::blank_of(c);
+    let (&count, queries) = board.split_first().ok_or(Refusal::Short)?;
+    if count == 0 || 8 < count {
+        return Err(Refusal::Terms);
     }
-    scan_queries(board, wide(wire::byte(board, 0)))
+    scan_queries(queries, count)
 }

@@ -1,33 +1,37 @@
 -- What the loops cite: keys and starts one by one. Assumes nothing.
 use Prim.Native.Nat.{ℕ, zero, suc, ◌+◌, ◌-◌, ◌*◌, ◌≤◌, ◌<◌}
-use mathlib.Core.Path.{◌≡◌, refl, sym, ap, ap₂, ◌∙◌}
-use mathlib.Core.Bool.{Bool}
+use mathlib.Core.Path.{◌≡◌, refl, ap, ◌∙◌}
 use mathlib.Core.List.{List}
 use native.Mathlib.Omega.{arith}
-use native.Mathlib.Nat.{not-suc-le-zero}
-use lib.Dec.{eqb, eqb-suc-suc}
+use lib.Dec.{eqb}
 use lib.ListN.{get_or}
+use Rattle.std.proofs.lemmas.Grind.{common_steps}
 use Rattle.wire.specs.Header.{then}
 use Rattle.fields.specs.Fields.{key_code}
 use Rattle.packed_path.specs.Packed.{with_first}
 use Rattle.path_fields.specs.Paths.{keys_code, sources_at, start_code, starts_code}
 
--- one key, and those after it
-pub keys_next : (n : ℕ) (s : List ℕ) (i : ℕ) → 0 < n → keys_code n s i ≡ then (key_code (get_or s i 256) (eqb n 1)) (keys_code (n - 1) s (i + 1))
+-- of n keys the one behind the first i, and those after it
+pub keys_next : (n i : ℕ) (s : List ℕ) (at : ℕ) → i < n
+    → keys_code (n - i) s (at + i)
+    ≡ then (key_code (get_or s (at + i) 256) (eqb (i + 1) n)) (keys_code (n - (i + 1)) s (at + (i + 1)))
 unfolding keys_code
-keys_next zero s i h = absurd (not-suc-le-zero h)
-keys_next (suc n) s i h =
-    ap₂ (λ (b : Bool) (m : ℕ). then (key_code (get_or s i 256) b) (keys_code m s (i + 1))) (sym (eqb-suc-suc n 0)) (let e : n
-    ≡ suc n - 1 = omega arith in e)
+keys_next n i s at h =
+    let e : n - i ≡ suc (n - (i + 1)) = omega arith in
+    let f : at + i + 1 ≡ at + (i + 1) = omega arith in
+    let last : eqb (n - (i + 1)) 0 ≡ eqb (i + 1) n = grind (arith, common_steps) in
+    rw (e, f, last) refl
 
--- one start, and those after it
-pub starts_next : (k least : ℕ) (s : List ℕ) (i : ℕ) → 0 < k
-    → starts_code k least s i ≡ then (start_code least (get_or s i 256) (get_or s (i + 1) 256)) (starts_code (k - 1) (get_or s i 256 + 1) s (i + 2))
+-- of k starts the one behind the first i, and those after it
+pub starts_next : (k i least : ℕ) (s : List ℕ) (at : ℕ) → i < k
+    → starts_code (k - i) least s (at + 2 * i)
+    ≡ then (start_code least (get_or s (at + 2 * i) 256) (get_or s (at + 2 * i + 1) 256))
+    (starts_code (k - (i + 1)) (get_or s (at + 2 * i) 256 + 1) s (at + 2 * (i + 1)))
 unfolding starts_code
-starts_next zero least s i h = absurd (not-suc-le-zero h)
-starts_next (suc k) least s i h =
-    ap (λ (m : ℕ). then (start_code least (get_or s i 256) (get_or s (i + 1) 256)) (starts_code m (get_or s i 256 + 1) s (i + 2)))
-    (let e : k ≡ suc k - 1 = omega arith in e)
+starts_next k i least s at h =
+    let e : k - i ≡ suc (k - (i + 1)) = omega arith in
+    let f : at + 2 * i + 2 ≡ at + 2 * (i + 1) = omega arith in
+    rw (e, f) refl
 
 -- of k starts from byte i on, one more of the last ones: the one before them first
 pub sources_next : (keys k : ℕ) (s : List ℕ) (i left : ℕ) → 0 < left → left ≤ k

@@ -2,124 +2,100 @@
 // from them.
 #![tactic(auto)]
 
-ghost use Rattle.std.specs.Prelude.{◌≡◌, ◌+◌, ◌*◌, ◌<◌, ◌≤◌, length, get_or};
+ghost use Rattle.std.specs.Prelude.{◌≡◌, ◌+◌, ◌*◌, ◌≤◌, length};
 ghost use Rattle.packed_path.specs.Packed.{keys_number};
 ghost use Rattle.path_fields.specs.Paths.{counted_sources, key_fields_code, keys_at, keys_code, one_source, path_at, path_code};
 ghost use Rattle.path_fields.specs.Paths.{set_at, set_code, sources_at, start_code, starts_code, used};
+ghost use Rattle.wire.specs.Refusal.{code};
 
 use packed_path::PackedPath;
+use wire::Refusal;
 
-// The first refusal of n keys from `at` on, or 0.
-fn keys_code(s: &[u8], at: usize, n: usize) -> u8
+// Kept: text and place stay two parameters, with `at ≤ length s` in each contract, since these functions are public and docs/PROOFS.md names them.
+
+// Judges n keys from `at` on.
+#[tactic(auto, using(crate::proofs::Laws::keys_next), unfolding(crate::specs::Paths::keys_code))]
+fn keys_code(s: &[u8], at: usize, n: usize) -> Result<(), Refusal>
     requires { at + n ≤ length s.now + 300 }
-    ensures { result ≡ keys_code n s.now at }
+    ensures { code result ≡ keys_code n s.now at }
 {
-    let mut i = at;
-    let mut left = n;
-    while 0 < left {
-        let c = fields::key_code(fields::byte(s, i), left == 1);
-        if c != 0 {
-            return c;
-        }
-        i += 1;
-        left -= 1;
+    for i in 0..n {
+        fields::key_code(fields::byte(s, at + i), i + 1 == n)?;
     }
-    0
+    Ok(())
 }
 
-// The first refusal of the key count at `at` and of the keys, or 0.
-fn key_fields_code(s: &[u8], at: usize) -> u8
+// Judges the key count at `at`, and the keys.
+#[tactic(auto, unfolding(crate::specs::Paths::key_fields_code))]
+fn key_fields_code(s: &[u8], at: usize) -> Result<(), Refusal>
     requires { at ≤ length s.now }
-    ensures { result ≡ key_fields_code s.now at }
+    ensures { code result ≡ key_fields_code s.now at }
 {
     let n = fields::byte(s, at);
-    let c = fields::code_of(n, 3);
-    if c != 0 {
-        return c;
-    }
-    keys_code(s, at + 1, n as usize)
+    fields::code_of(n, 3)?;
+    keys_code(s, at + 1, usize::from(n))
 }
 
-// The first refusal of a path reduction with one start, or from anywhere, whose key count stands at `at`, or 0.
-pub fn path_code(s: &[u8], at: usize) -> u8
+// Judges a path reduction with one start, or from anywhere, whose key count stands at `at`.
+#[tactic(auto, unfolding(crate::specs::Paths::path_code))]
+pub fn path_code(s: &[u8], at: usize) -> Result<(), Refusal>
     requires { at ≤ length s.now }
-    ensures { result ≡ path_code s.now at }
+    ensures { code result ≡ path_code s.now at }
 {
-    let c = key_fields_code(s, at);
-    if c != 0 {
-        return c;
-    }
-    let i = at + 1 + (fields::byte(s, at) as usize);
+    key_fields_code(s, at)?;
+    let i = at + 1 + usize::from(fields::byte(s, at));
     fields::source_code(fields::byte(s, i), fields::byte(s, i + 1))
 }
 
 // A start of a set: 1 missing, 13 from 256 on, 17 below `least`.
-fn start_code(least: u16, low: u16, high: u16) -> u8
-    ensures { result ≡ start_code least low high }
+fn start_code(least: u16, low: u16, high: u16) -> Result<(), Refusal>
+    ensures { code result ≡ start_code least low high }
 {
     if 255 < high {
-        return 1;
+        return Err(Refusal::Short);
     }
-    if 256 <= (low as u32) + 256 * (high as u32) {
-        return 13;
+    if 256 <= u32::from(low) + 256 * u32::from(high) {
+        return Err(Refusal::Source);
     }
     if low < least {
-        return 17;
+        return Err(Refusal::SourceOrder);
     }
-    0
+    Ok(())
 }
 
-// The first refusal of k starts of a set from `at` on, or 0.
-pub fn starts_code(s: &[u8], at: usize, k: usize) -> u8
+// Judges k starts of a set from `at` on.
+#[tactic(auto, using(crate::proofs::Laws::starts_next), unfolding(crate::specs::Paths::starts_code))]
+pub fn starts_code(s: &[u8], at: usize, k: usize) -> Result<(), Refusal>
     requires { at + 2 * k ≤ length s.now + 900 }
-    ensures { result ≡ starts_code k 0 s.now at }
+    ensures { code result ≡ starts_code k 0 s.now at }
 {
-    let mut i = at;
-    let mut left = k;
-    let mut least: u16 = 0;
-    while 0 < left {
-        let low = fields::byte(s, i);
-        let c = start_code(least, low, fields::byte(s, i + 1));
-        if c != 0 {
-            return c;
-        }
+    let mut least = 0;
+    for i in 0..k {
+        let low = fields::byte(s, at + 2 * i);
+        start_code(least, low, fields::byte(s, at + 2 * i + 1))?;
         least = low + 1;
-        i += 2;
-        left -= 1;
     }
-    0
+    Ok(())
 }
 
-// The first refusal of a path reduction with a set of starts, or 0.
-pub fn set_code(s: &[u8], at: usize) -> u8
+// Judges a path reduction with a set of starts.
+#[tactic(auto, unfolding(crate::specs::Paths::set_code))]
+pub fn set_code(s: &[u8], at: usize) -> Result<(), Refusal>
     requires { at ≤ length s.now }
-    ensures { result ≡ set_code s.now at }
+    ensures { code result ≡ set_code s.now at }
 {
-    let c = key_fields_code(s, at);
-    if c != 0 {
-        return c;
-    }
-    let i = at + 1 + (fields::byte(s, at) as usize);
+    key_fields_code(s, at)?;
+    let i = at + 1 + usize::from(fields::byte(s, at));
     let k = fields::byte(s, i);
-    let d = fields::code_of(k, 16);
-    if d != 0 {
-        return d;
-    }
-    starts_code(s, i + 1, k as usize)
-}
-
-// A byte as a wider number.
-fn wide(b: u8) -> u32
-    ensures { (result ≡ b) × (result ≤ 255) }
-{
-    b as u32
+    fields::code_of(k, 16)?;
+    starts_code(s, i + 1, usize::from(k))
 }
 
 // A key count and three keys as one number.
 pub fn pack_keys(n: u8, a: u8, b: u8, c: u8) -> u32
     ensures { result ≡ keys_number n a b c }
 {
-    wide(n) + 256 * wide(a) + 65536 * wide(b) + 16777216 * wide(c)
+    u32::from_le_bytes([n, a, b, c])
 }
 
 // A byte that is used where there are more than j keys; 0 where it is not.
@@ -130,6 +106,7 @@ fn used_of(n: u8, j: u8, b: u8) -> u8
 }
 
 // The keys whose count stands at `at`, as one number.
+#[tactic(auto, unfolding(crate::specs::Paths::keys_at))]
 fn keys_at(s: &[u8], at: usize) -> u32
     requires { at ≤ length s.now }
     ensures { result ≡ keys_at s.now at }
@@ -141,74 +118,67 @@ fn keys_at(s: &[u8], at: usize) -> u32
 }
 
 // A path reduction with one start, or from anywhere (65,535).
+// Kept: a number in place of an Option, since the contract speaks of every u32, as the two bytes of a start have it.
+#[tactic(auto, unfolding(crate::specs::Paths::one_source))]
 pub fn one_source(keys: u32, source: u32) -> PackedPath
     ensures { result ≡ one_source keys source }
 {
     if source == 65535 {
         return PackedPath {
             keys,
-            count: 0,
-            low: 0,
-            high: 0,
+            ..packed_path::none()
         };
     }
     PackedPath {
         keys,
         count: 1,
-        low: source as u64,
+        low: u64::from(source),
         high: 0,
     }
 }
 
 // The path reduction with one start, or from anywhere, whose key count stands at `at`.
+#[tactic(auto, unfolding(crate::specs::Paths::path_at))]
 pub fn path_at(s: &[u8], at: usize) -> PackedPath
     requires { at ≤ length s.now }
     ensures { result ≡ path_at s.now at }
 {
-    let i = at + 1 + (wire::byte(s, at) as usize);
+    let i = at + 1 + usize::from(wire::byte(s, at));
     one_source(keys_at(s, at), wire::half(s, i))
 }
 
-// A byte as a source.
-fn source_at(s: &[u8], at: usize) -> u64
-    ensures { (result ≡ get_or s.now at 0) × (result < 256) }
-{
-    wire::byte(s, at) as u64
-}
-
 // k starts of a set from `at` on, at most 16, the last one first.
+#[tactic(auto, using(crate::proofs::Laws::sources_next, crate::proofs::Laws::sources_count), unfolding(crate::specs::Paths::sources_at))]
 fn sources_at(keys: u32, s: &[u8], at: usize, k: usize) -> PackedPath
     requires { (k ≤ 16) × (at ≤ length s.now + 300) }
     ensures { result ≡ sources_at keys k s.now at }
 {
-    let mut left = k;
-    let mut p = PackedPath {
+    let mut path = PackedPath {
         keys,
-        count: 0,
-        low: 0,
-        high: 0,
+        ..packed_path::none()
     };
-    while 0 < left {
-        left -= 1;
-        p = packed_path::with_first(source_at(s, at + 2 * left), p);
+    for i in (0..k).rev() {
+        path = packed_path::with_first(u64::from(wire::byte(s, at + 2 * i)), path);
     }
-    p
+    path
 }
 
 // The starts behind the set count at `at`.
+#[tactic(auto, unfolding(crate::specs::Paths::counted_sources))]
 pub fn counted_sources(keys: u32, s: &[u8], at: usize) -> PackedPath
     requires { at ≤ length s.now + 256 }
     ensures { result ≡ counted_sources keys s.now at }
 {
-    let k = wire::lesser(wire::byte(s, at) as usize, 16);
+    let k = usize::from(wire::byte(s, at)).min(16);
     sources_at(keys, s, at + 1, k)
 }
 
 // The path reduction with a set of starts whose key count stands at `at`.
+#[tactic(auto, unfolding(crate::specs::Paths::set_at))]
 pub fn set_at(s: &[u8], at: usize) -> PackedPath
     requires { at ≤ length s.now }
     ensures { result ≡ set_at s.now at }
 {
-    let i = at + 1 + (wire::byte(s, at) as usize);
+    let i = at + 1 + usize::from(wire::byte(s, at));
     counted_sources(keys_at(s, at), s, i)
 }

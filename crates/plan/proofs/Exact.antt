@@ -4,7 +4,7 @@ use mathlib.Core.Path.{◌≡◌, refl, sym, ap, ap₂, ◌∙◌, subst}
 use mathlib.Core.Bool.{Bool, true, false, cond}
 use mathlib.Core.List.{List, [], ◌∷◌, ◌++◌, append_assoc, append-nil}
 use native.Mathlib.Omega.{arith}
-use borrow.Author.Tests.{ltb-false, leb-false, eqb-true, eqb-false, le-ltb, lt-leb, eq-eqb, ne_eqb}
+use borrow.Author.Tests.{ltb-false, leb-false, eqb-true, eqb-false, le-ltb, lt-leb, eq-eqb}
 use lib.Dec.{leb, ltb, eqb}
 use lib.ListN.{length, get_or, drop, length-append, length-drop}
 use Rattle.meaning.specs.Limits.{BodyLegal, Expression, PlanLegal, entry_terms, plan_terms, terms}
@@ -13,7 +13,7 @@ use Rattle.meaning.specs.Query.{PathReduction}
 use Rattle.meaning.proofs.Lists.{all_weaken}
 use Rattle.fields.specs.Fields.{opening_code}
 use Rattle.fields.proofs.Opening.{opening_found}
-use Rattle.progress.specs.declared.Progress.{Progress}
+use Rattle.progress.specs.Progress.{Scan}
 use Rattle.terms.specs.declared.TermKind.TheVariants.{OfEntry, OfFinal}
 use Rattle.terms.specs.Terms.{leaf_step, literal_tag, read}
 use Rattle.progress.specs.Progress.{blank, ended, started}
@@ -26,6 +26,7 @@ use Rattle.term_text.proofs.Table.{Further, Table}
 use Rattle.wire.specs.Header.{header_bytes, header_code}
 use Rattle.wire.specs.Wire.{Bytes}
 use Rattle.wire.proofs.Header.{header_accepted, header_found, header_version}
+use Rattle.plan.proofs.Laws.{body_handed}
 use Rattle.plan.specs.Plan.{body_scan, count_code, entries_scan, entry_scan, final_scan, moved, plan_code, plan_scan, listed_scan}
 use Rattle.plan.specs.Text.{all_listed_bytes, body_bytes, encode, entries_bytes, entry_count, kind_of, reduction_byte}
 use Rattle.plan.proofs.ListedEntries.{Passed, entries_complete, entries_sound, entry_complete, entry_sound, expr_complete, expr_sound, moved_table}
@@ -33,18 +34,18 @@ use Rattle.plan.proofs.ListedEntries.{plain_bytes, plain_entry}
 use Rattle.plan.proofs.ListedPaths.{ListedHeld, all_listed, filler_zero, listed_complete, listed_sound}
 
 -- what the reader knows of an accepted plan: its path reductions in the table, its terms and its entries
-pub record Scanned (w : Progress) (p : Plan) : Type 0 where
+pub record Scanned (w : Scan) (p : Plan) : Type 0 where
   pub accepted : w.code ≡ 0
   pub terms : w.terms ≡ plan_terms p.body
   pub reductions : w.reductions ≡ entry_count p.body
   pub table : Table w p.paths
 
-abbrev reductions_of : Progress → ℕ
+abbrev reductions_of : Scan → ℕ
 reductions_of w = w.reductions
 
 module _ (s : List ℕ) where
   -- a body whose entry count is right: its entries, and the final expression
-  body_scanned : (kind e : ℕ) (w : Progress) → w.code ≡ 0 → w.at < length s → get_or s w.at 256 ≡ e → count_code kind e ≡ 0
+  body_scanned : (kind e : ℕ) (w : Scan) → w.code ≡ 0 → w.at < length s → get_or s w.at 256 ≡ e → count_code kind e ≡ 0
       → body_scan kind s w ≡ final_scan kind s (entries_scan e kind s (moved w (w.at + 1) w.reductions))
   unfolding body_scan
   body_scanned kind e w z h b c = rw (eq-eqb w.code 0 z, b, c, lt-leb (length s) w.at h) refl
@@ -53,7 +54,7 @@ module _ (s : List ℕ) where
   count_one e h = rw (le-ltb 255 e (omega arith), le-ltb 8 e h) refl
 
   -- from the entry count on
-  body_complete : (b : Body) (w : Progress) (cs : List PathReduction) (rest : List ℕ) → w.code ≡ 0 → Table w cs → w.terms ≡ 0
+  body_complete : (b : Body) (w : Scan) (cs : List PathReduction) (rest : List ℕ) → w.code ≡ 0 → Table w cs → w.terms ≡ 0
       → w.reductions ≡ 0
       → drop w.at s ≡ body_bytes b ++ rest
       → BodyLegal (length cs) b → plan_terms b ≤ 64 → Further w (body_scan (kind_of b) s w) cs (length (body_bytes b)) (plan_terms b) (entry_count b)
@@ -61,13 +62,13 @@ module _ (s : List ℕ) where
   body_complete (each_vertex t) w cs rest z tb n none e l k =
       let h = there s w.at 1 (0 ∷ (expression_bytes OfEntry t ++ rest)) e in
       let b : get_or s w.at 256 ≡ 1 = rw (nth s w.at 0 w.at 256 (omega arith), e) refl in
-      let w1 : Progress = moved w (w.at + 1) w.reductions in
+      let w1 : Scan = moved w (w.at + 1) w.reductions in
       let next = drop_on s w.at 1 (1 ∷ []) (0 ∷ (expression_bytes OfEntry t ++ rest)) e refl in
       let a =
       entry_complete s 0 (plain_entry t) w1 cs rest z (moved_table w cs (w.at + 1) w.reductions tb tb.few_reductions) refl next
       (record { low = omega arith; condition = tt; body = l; terms = omega arith }) (omega arith) in
       let reads : body_scan 0 s w ≡ entry_scan 0 s w1 = body_scanned 0 1 w z h b refl ∙ rw (eq-eqb w.code 0 z) refl in
-      subst (λ (v : Progress). Further w v cs (length (body_bytes (each_vertex t))) (terms t) 1) (sym reads)
+      subst (λ (v : Scan). Further w v cs (length (body_bytes (each_vertex t))) (terms t) 1) (sym reads)
       (record { code = a.code; at = omega (arith, a.at); terms = omega (arith, a.terms); reductions = omega (arith, a.reductions); table = a.table })
   body_complete (one_result es t) w cs rest z tb n none e l k =
       let c = length es in
@@ -75,11 +76,11 @@ module _ (s : List ℕ) where
       e ∙ ap (λ (x : List ℕ). length es ∷ x) (append_assoc (entries_bytes es) (expression_bytes OfFinal t) rest) in
       let h = there s w.at c (entries_bytes es ++ (expression_bytes OfFinal t ++ rest)) e0 in
       let b : get_or s w.at 256 ≡ c = rw (nth s w.at 0 w.at 256 (omega arith), e0) refl in
-      let w1 : Progress = moved w (w.at + 1) w.reductions in
+      let w1 : Scan = moved w (w.at + 1) w.reductions in
       let next = drop_on s w.at 1 (c ∷ []) (entries_bytes es ++ (expression_bytes OfFinal t ++ rest)) e0 refl in
       let a = entries_complete s es w1 cs (expression_bytes OfFinal t ++ rest) z (moved_table w cs (w.at + 1) w.reductions tb tb.few_reductions)
       l.1 next (omega arith) (omega (arith, l.0)) in
-      let w2 : Progress = entries_scan c 1 s w1 in
+      let w2 : Scan = entries_scan c 1 s w1 in
       let met : w2.reductions ≡ length es = omega (arith, a.reductions) in
       let e2 : drop w2.at s ≡ expression_bytes OfFinal t ++ rest =
       ap (λ (i : ℕ). drop i s) a.at ∙ drop_on s (w.at + 1) (length (entries_bytes es)) (entries_bytes es) (expression_bytes OfFinal t ++ rest) next
@@ -87,7 +88,7 @@ module _ (s : List ℕ) where
       let d = expr_complete s OfFinal reductions_of (λ w w' p q. q) (λ w. refl) (λ tag w p. rw p refl) refl refl t w2 cs rest a.code a.table
       (omega (arith, l.0)) e2 (subst (λ (m : ℕ). Expression m t) (sym met) l.2) (omega (arith, a.terms)) in
       let reads : body_scan 1 s w ≡ read OfFinal 16 s w2 = body_scanned 1 c w z h b (count_one c l.0) in
-      subst (λ (v : Progress). Further w v cs (length (body_bytes (one_result es t))) (plan_terms (one_result es t)) (length es)) (sym reads)
+      subst (λ (v : Scan). Further w v cs (length (body_bytes (one_result es t))) (plan_terms (one_result es t)) (length es)) (sym reads)
       (record {
         code = d.code;
         at = omega (arith, d.at, a.at, length-append (entries_bytes es) (expression_bytes OfFinal t));
@@ -115,7 +116,7 @@ read_complete p l =
     let n = length p.paths in
     let v = p.version in
     let a = listed_complete s v p.paths (started 7) [] (body_bytes p.body) refl (started_table 7) (all_listed p l) refl (omega (arith, l.few_paths)) in
-    let w1 : Progress = listed_scan n v s (started 7) in
+    let w1 : Scan = listed_scan n v s (started 7) in
     let e1 : drop w1.at s ≡ body_bytes p.body ++ [] =
     ap (λ (i : ℕ). drop i s) a.at
     ∙ drop_on s 7 (length (all_listed_bytes v p.paths)) (all_listed_bytes v p.paths) (body_bytes p.body) refl refl
@@ -128,7 +129,7 @@ read_complete p l =
     l.known_version.1 (omega arith))
     refl (kind_small p.body) refl l.few_paths
     ∙ ended_whole s (body_scan (kind_of p.body) s w1) (omega (arith, b.at, a.at)) in
-    subst (λ (w : Progress). Scanned w p) (sym whole) (record { accepted = b.code; terms = b.terms; reductions = b.reductions; table = b.table })
+    subst (λ (w : Scan). Scanned w p) (sym whole) (record { accepted = b.code; terms = b.terms; reductions = b.reductions; table = b.table })
 
 -- what an accepted text is: header, kind, count, and the rest read to its end
 accepted_parts : (s : List ℕ) → plan_code s ≡ 0
@@ -147,12 +148,7 @@ accepted_parts s e = go (eqb (opening_code 0x57 2 s) 0) (ltb 255 (get_or s 6 256
     go true false true p q r z = absurd (omega arith)
     go true false false p q r z = let f = opening_found 0x57 2 s (eqb-true (opening_code 0x57 2 s) 0 p) in (f.0, f.1, ltb-false 8 (get_or s 6 256) r, z)
 
--- a refused state is handed on
-body_handed : (kind : ℕ) (s : List ℕ) (w : Progress) → (w.code ≡ 0 → ⊥) → body_scan kind s w ≡ w
-unfolding body_scan
-body_handed kind s w n = rw (ne_eqb w.code 0 n) refl
-
-body_accepted : (kind : ℕ) (s : List ℕ) (w : Progress) → (body_scan kind s w).code ≡ 0 → w.code ≡ 0
+body_accepted : (kind : ℕ) (s : List ℕ) (w : Scan) → (body_scan kind s w).code ≡ 0 → w.code ≡ 0
 body_accepted kind s w e = go (eqb w.code 0) refl
   where
     go : (b : Bool) → eqb w.code 0 ≡ b → w.code ≡ 0
@@ -162,11 +158,11 @@ body_accepted kind s w e = go (eqb w.code 0) refl
 -- the entry count and what follows it, of an accepted text
 module _ (s : List ℕ) (bytes : Bytes s) where
   -- a legal body whose bytes stand next
-  abbrev BodyFound : ℕ → Progress → List PathReduction → Type 0
+  abbrev BodyFound : ℕ → Scan → List PathReduction → Type 0
   BodyFound kind w cs =
       (b : Body) × (rest : List ℕ) × (kind_of b ≡ kind) × (drop w.at s ≡ body_bytes b ++ rest) × BodyLegal (length cs) b × (plan_terms b ≤ 64)
 
-  body_starts : (kind : ℕ) (w : Progress) → w.code ≡ 0 → (body_scan kind s w).code ≡ 0
+  body_starts : (kind : ℕ) (w : Scan) → w.code ≡ 0 → (body_scan kind s w).code ≡ 0
       → (w.at < length s) × (count_code kind (get_or s w.at 256) ≡ 0)
       × ((final_scan kind s (entries_scan (get_or s w.at 256) kind s (moved w (w.at + 1) w.reductions))).code ≡ 0)
   unfolding body_scan blank
@@ -198,13 +194,13 @@ module _ (s : List ℕ) (bytes : Bytes s) where
       go false true p z = absurd (omega arith)
       go false false p z = ltb-false 8 b p
 
-  body_sound : (kind : ℕ) (w : Progress) (cs : List PathReduction) → kind ≤ 1 → w.code ≡ 0 → Table w cs → w.terms ≡ 0 → w.reductions ≡ 0
+  body_sound : (kind : ℕ) (w : Scan) (cs : List PathReduction) → kind ≤ 1 → w.code ≡ 0 → Table w cs → w.terms ≡ 0 → w.reductions ≡ 0
       → (body_scan kind s w).code ≡ 0 → BodyFound kind w cs
   unfolding moved final_scan entries_scan leaf_step literal_tag
   body_sound zero w cs k z tb n none e =
       let p = body_starts 0 w z e in
       let one = count_zero (get_or s w.at 256) p.1 in
-      let w1 : Progress = moved w (w.at + 1) w.reductions in
+      let w1 : Scan = moved w (w.at + 1) w.reductions in
       let r : (entry_scan 0 s w1).code ≡ 0 = rw (eq-eqb w.code 0 z) at (rw one at p.2) in
       let f = entry_sound s bytes 0 w1 cs z (moved_table w cs (w.at + 1) w.reductions tb tb.few_reductions) r in
       let d = f.0 in
@@ -221,13 +217,13 @@ module _ (s : List ℕ) (bytes : Bytes s) where
       let p = body_starts 1 w z e in
       let c = get_or s w.at 256 in
       let few = count_few c p.1 in
-      let w1 : Progress = moved w (w.at + 1) w.reductions in
-      let w2 : Progress = entries_scan c 1 s w1 in
+      let w1 : Scan = moved w (w.at + 1) w.reductions in
+      let w2 : Scan = entries_scan c 1 s w1 in
       let two = read_accepted OfFinal 16 s w2 p.2 in
       let t1 = moved_table w cs (w.at + 1) w.reductions tb tb.few_reductions in
       let f = entries_sound s bytes c w1 cs z t1 (omega arith) two in
       let reads : entries_scan (length f.0) 1 s w1 ≡ w2 = ap (λ (m : ℕ). entries_scan m 1 s w1) f.2 in
-      let a = subst (λ (v : Progress). Passed w1 v cs (length (entries_bytes f.0)) (entry_terms f.0) (length f.0)) reads
+      let a = subst (λ (v : Scan). Passed w1 v cs (length (entries_bytes f.0)) (entry_terms f.0) (length f.0)) reads
       (entries_complete s f.0 w1 cs f.1 z t1 f.3 f.4 f.5 f.6) in
       let met : w2.reductions ≡ length f.0 = omega (arith, a.reductions) in
       let g = expr_sound s OfFinal reductions_of (λ w w' p q. q) (λ w. refl) (λ tag w p. rw p refl) refl refl bytes w2 cs two a.table
@@ -254,14 +250,14 @@ read_sound s bytes e =
     let p = accepted_parts s e in
     let kind = get_or s 5 256 in
     let count = get_or s 6 256 in
-    let w1 : Progress = listed_scan (get_or s 6 256) (get_or s 3 0) s (started 7) in
+    let w1 : Scan = listed_scan (get_or s 6 256) (get_or s 3 0) s (started 7) in
     let z = ended_code s (body_scan kind s w1) p.3 in
     let ok = body_accepted kind s w1 z.0 in
     let v = get_or s 3 0 in
     let known = header_version 0x57 2 5 s p.0 (omega arith) in
     let f = listed_sound s v bytes known.0 count (started 7) [] refl (started_table 7) (omega (arith, p.2)) ok in
     let reads : listed_scan (length f.0) v s (started 7) ≡ w1 = ap (λ (m : ℕ). listed_scan m v s (started 7)) f.2 in
-    let a = subst (λ (w : Progress). ListedHeld (started 7) w f.0 (length (all_listed_bytes v f.0))) reads
+    let a = subst (λ (w : Scan). ListedHeld (started 7) w f.0 (length (all_listed_bytes v f.0))) reads
     (listed_complete s v f.0 (started 7) [] f.1 refl (started_table 7) f.3 f.4 (omega (arith, p.2, f.2))) in
     let b = body_sound s bytes kind w1 f.0 p.1 ok a.table a.terms a.reductions z.0 in
     let c = subst (λ (k : ℕ). Further w1 (body_scan k s w1) f.0 (length (body_bytes b.0)) (plan_terms b.0) (entry_count b.0)) b.2

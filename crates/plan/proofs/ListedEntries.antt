@@ -5,13 +5,13 @@ use mathlib.Core.Bool.{Bool, true, false, cond}
 use mathlib.Core.List.{List, [], ◌∷◌, ◌++◌, append_assoc}
 use mathlib.Core.Option.{Option, none, some}
 use native.Mathlib.Omega.{arith}
-use borrow.Author.Tests.{ltb-false, leb-true, leb-false, eqb-true, eqb-false, le-ltb, le-leb, lt-leb, eq-eqb, ne_eqb}
+use borrow.Author.Tests.{ltb-false, leb-true, leb-false, eqb-true, eqb-false, le-ltb, le-leb, lt-leb, eq-eqb}
 use lib.Dec.{leb, ltb, eqb}
 use lib.ListN.{length, get_or, drop, length-append}
 use Rattle.meaning.specs.Limits.{EntryLegal, Expression, Optional, condition_terms, entry_terms, terms}
 use Rattle.meaning.specs.Plan.{Term, VertexReduction}
 use Rattle.meaning.specs.Query.{PathReduction}
-use Rattle.progress.specs.declared.Progress.{Progress}
+use Rattle.progress.specs.Progress.{Scan}
 use Rattle.fields.specs.Fields.{code_of}
 use Rattle.terms.specs.declared.TermKind.{TermKind}
 use Rattle.terms.specs.declared.TermKind.TheVariants.{OfEntry}
@@ -25,29 +25,30 @@ use Rattle.term_text.proofs.Steps.{drop_on, there}
 use Rattle.term_text.proofs.Table.{Further, Table}
 use Rattle.walks.specs.Lists.{All}
 use Rattle.wire.specs.Wire.{Bytes}
+use Rattle.plan.proofs.Laws.{entries_handed}
 use Rattle.plan.specs.Plan.{entries_scan, entry_scan, expressions_scan, filler_code, moved, reduction_code}
 use Rattle.plan.specs.Text.{condition_bytes, entries_bytes, entry_bytes, reduction_byte}
 use Rattle.plan.proofs.ListedPaths.{filler_zero}
 
 -- so many bytes, terms and entries further on, with the same path reductions
-abbrev pub Passed : Progress → Progress → List PathReduction → ℕ → ℕ → ℕ → Type 0
+abbrev pub Passed : Scan → Scan → List PathReduction → ℕ → ℕ → ℕ → Type 0
 Passed w w' cs n z e = Further w w' cs n (w.terms + z) (w.reductions + e)
 
 -- an expression of an entry, or a final one: `held` is the count that its indices stay below
-module _ (s : List ℕ) (m : TermKind) (held : Progress → ℕ) (kept : (w w' : Progress) → w'.paths ≡ w.paths → w'.reductions
+module _ (s : List ℕ) (m : TermKind) (held : Scan → ℕ) (kept : (w w' : Scan) → w'.paths ≡ w.paths → w'.reductions
     ≡ w.reductions → held w' ≡ held w)
-    (is_index : (w : Progress) → leaf_step m (index_tag m) s w ≡ index_step s w (held w))
-    (no_other : (tag : ℕ) (w : Progress) → eqb tag (index_tag m) ≡ false → leaf_step m tag s w ≡ refused_step 9)
+    (is_index : (w : Scan) → leaf_step m (index_tag m) s w ≡ index_step s w (held w))
+    (no_other : (tag : ℕ) (w : Scan) → eqb tag (index_tag m) ≡ false → leaf_step m tag s w ≡ refused_step 9)
     (no_literal : eqb (index_tag m) (literal_tag m) ≡ false) (no_operator : eqb (index_tag m) (literal_tag m + 1) ≡ false) where
   -- its bytes are read as it; and what is read are its bytes
-  pub expr_complete : (t : Term ℕ) (w : Progress) (cs : List PathReduction) (rest : List ℕ) → w.code ≡ 0 → Table w cs → held w ≤ 256
+  pub expr_complete : (t : Term ℕ) (w : Scan) (cs : List PathReduction) (rest : List ℕ) → w.code ≡ 0 → Table w cs → held w ≤ 256
       → drop w.at s ≡ expression_bytes m t ++ rest → Expression (held w) t → w.terms + terms t ≤ 64
       → Passed w (read m 16 s w) cs (length (expression_bytes m t)) (terms t) 0
   expr_complete t w cs rest z tb few e x l =
       expression_complete s m (held w) few held kept is_index no_other no_literal no_operator t 16 w cs rest z tb refl e
       (record { fine = x.0; shallow = x.1; terms = l; paths = tb.few; reductions = omega (arith, tb.few_reductions) })
 
-  pub expr_sound : Bytes s → (w : Progress) (cs : List PathReduction) → w.code ≡ 0 → Table w cs → held w ≤ 256 → (read m 16 s w).code ≡ 0
+  pub expr_sound : Bytes s → (w : Scan) (cs : List PathReduction) → w.code ≡ 0 → Table w cs → held w ≤ 256 → (read m 16 s w).code ≡ 0
       → (t : Term ℕ) × (rest : List ℕ) × (drop w.at s ≡ expression_bytes m t ++ rest) × Expression (held w) t × (w.terms + terms t ≤ 64)
   expr_sound bytes w cs z tb few e =
       let f = expression_sound s m (held w) few held kept is_index no_other no_literal no_operator bytes 16 w cs z tb refl e in
@@ -55,7 +56,7 @@ module _ (s : List ℕ) (m : TermKind) (held : Progress → ℕ) (kept : (w w' :
       (f.0, f.1, f.2, (room.fine, room.shallow), room.terms)
 
 -- the state further on is as good
-pub moved_table : (w : Progress) (cs : List PathReduction) (at n : ℕ) → Table w cs → n ≤ 8 → Table (moved w at n) cs
+pub moved_table : (w : Scan) (cs : List PathReduction) (at n : ℕ) → Table w cs → n ≤ 8 → Table (moved w at n) cs
 unfolding moved
 moved_table w cs at n t h = record { legal = t.legal; count = t.count; few = t.few; rest = t.rest; holds = t.holds; size = t.size; few_reductions = h }
 
@@ -112,11 +113,11 @@ plain_bytes d e = go d.condition e
     go (some c) e = absurd (omega arith)
 
 module _ (s : List ℕ) where
-  abbrev paths_of : Progress → ℕ
+  abbrev paths_of : Scan → ℕ
   paths_of w = w.paths
 
   -- an expression of an entry
-  term_complete : (t : Term ℕ) (w : Progress) (cs : List PathReduction) (rest : List ℕ) → w.code ≡ 0 → Table w cs
+  term_complete : (t : Term ℕ) (w : Scan) (cs : List PathReduction) (rest : List ℕ) → w.code ≡ 0 → Table w cs
       → drop w.at s ≡ expression_bytes OfEntry t ++ rest → Expression (length cs) t → w.terms + terms t ≤ 64
       → Passed w (read OfEntry 16 s w) cs (length (expression_bytes OfEntry t)) (terms t) 0
   unfolding leaf_step literal_tag
@@ -124,7 +125,7 @@ module _ (s : List ℕ) where
       expr_complete s OfEntry paths_of (λ w w' p q. p) (λ w. refl) (λ tag w p. rw p refl) refl refl t w cs rest z tb (omega (arith, tb.count, tb.few)) e
       (subst (λ (n : ℕ). Expression n t) (sym tb.count) x) l
 
-  term_sound : Bytes s → (w : Progress) (cs : List PathReduction) → w.code ≡ 0 → Table w cs → (read OfEntry 16 s w).code ≡ 0
+  term_sound : Bytes s → (w : Scan) (cs : List PathReduction) → w.code ≡ 0 → Table w cs → (read OfEntry 16 s w).code ≡ 0
       → (t : Term ℕ) × (rest : List ℕ) × (drop w.at s ≡ expression_bytes OfEntry t ++ rest) × Expression (length cs) t
       × (w.terms + terms t ≤ 64)
   unfolding leaf_step literal_tag
@@ -134,7 +135,7 @@ module _ (s : List ℕ) where
       (f.0, f.1, f.2, subst (λ (n : ℕ). Expression n f.0) tb.count f.3, f.4)
 
   -- these are read as they; and what is read are they
-  expressions_complete : (r : ℕ) (o : Option (Term ℕ)) (t : Term ℕ) (w : Progress) (cs : List PathReduction) (rest : List ℕ) → w.code ≡ 0
+  expressions_complete : (r : ℕ) (o : Option (Term ℕ)) (t : Term ℕ) (w : Scan) (cs : List PathReduction) (rest : List ℕ) → w.code ≡ 0
       → Table w cs
       → drop w.at s ≡ (condition_bytes o ++ expression_bytes OfEntry t) ++ rest
       → EntryFits w.terms (length cs) (record { reduction = r; condition = o; body = t })
@@ -149,7 +150,7 @@ module _ (s : List ℕ) where
       let m : List ℕ = expression_bytes OfEntry t in
       let e1 : drop w.at s ≡ l ++ (m ++ rest) = e ∙ append_assoc l m rest in
       let a = term_complete c w cs (m ++ rest) z tb e1 fits.condition (omega (arith, fits.terms)) in
-      let w1 : Progress = read OfEntry 16 s w in
+      let w1 : Scan = read OfEntry 16 s w in
       let e2 : drop w1.at s ≡ m ++ rest = ap (λ (i : ℕ). drop i s) a.at ∙ drop_on s w.at (length l) l (m ++ rest) e1 refl in
       let b = term_complete t w1 cs rest a.code a.table e2 fits.body (omega (arith, a.terms, fits.terms)) in
       rw (le-leb 128 (128 + r) (omega arith))
@@ -162,17 +163,17 @@ module _ (s : List ℕ) where
       })
 
   -- an entry with this reduction byte, of which these expressions are
-  abbrev Behind : ℕ → Progress → List PathReduction → Type 0
+  abbrev Behind : ℕ → Scan → List PathReduction → Type 0
   Behind b w cs =
       (d : VertexReduction ℕ) × (rest : List ℕ) × (reduction_byte d.reduction d.condition ≡ b) × (drop w.at s ≡ behind_byte d ++ rest)
       × EntryFits w.terms (length cs) d
 
-  expressions_sound : Bytes s → (b : ℕ) (w : Progress) (cs : List PathReduction) → b ≤ 255 → w.code ≡ 0 → Table w cs
+  expressions_sound : Bytes s → (b : ℕ) (w : Scan) (cs : List PathReduction) → b ≤ 255 → w.code ≡ 0 → Table w cs
       → (expressions_scan b s w).code ≡ 0 → Behind b w cs
   unfolding expressions_scan
   expressions_sound bytes b w cs h z tb e = go (leb 128 b) refl e
     where
-      w1 : Progress
+      w1 : Scan
       w1 = read OfEntry 16 s w
 
       go : (x : Bool) → leb 128 b ≡ x → (read OfEntry 16 s (cond x w1 w)).code ≡ 0 → Behind b w cs
@@ -200,13 +201,13 @@ module _ (s : List ℕ) where
           )
 
   -- an entry whose reduction byte is right
-  entry_scanned : (kind b : ℕ) (w : Progress) → w.at < length s → get_or s w.at 256 ≡ b → reduction_code kind b ≡ 0 → w.reductions < 8
+  entry_scanned : (kind b : ℕ) (w : Scan) → w.at < length s → get_or s w.at 256 ≡ b → reduction_code kind b ≡ 0 → w.reductions < 8
       → entry_scan kind s w ≡ expressions_scan b s (moved w (w.at + 1) (w.reductions + 1))
   unfolding entry_scan
   entry_scanned kind b w h e c few = rw (lt-leb (length s) w.at h, e, c, lt-leb 8 w.reductions few) refl
 
   -- the bytes of an entry are read as it; and what is read are its bytes
-  pub entry_complete : (kind : ℕ) (d : VertexReduction ℕ) (w : Progress) (cs : List PathReduction) (rest : List ℕ) → w.code ≡ 0 → Table w cs
+  pub entry_complete : (kind : ℕ) (d : VertexReduction ℕ) (w : Scan) (cs : List PathReduction) (rest : List ℕ) → w.code ≡ 0 → Table w cs
       → reduction_code kind (reduction_byte d.reduction d.condition) ≡ 0
       → drop w.at s ≡ entry_bytes d ++ rest → EntryFits w.terms (length cs) d → w.reductions < 8
       → Passed w (entry_scan kind s w) cs (length (entry_bytes d)) (condition_terms d.condition + terms d.body) 1
@@ -218,17 +219,17 @@ module _ (s : List ℕ) where
       let next = drop_on s w.at 1 (b ∷ []) (behind_byte d ++ rest) e refl in
       let a = expressions_complete d.reduction d.condition d.body (moved w (w.at + 1) (w.reductions + 1)) cs rest z
       (moved_table w cs (w.at + 1) (w.reductions + 1) tb (omega arith)) next fits in
-      subst (λ (v : Progress). Passed w v cs (length (entry_bytes d)) (condition_terms d.condition + terms d.body) 1)
+      subst (λ (v : Scan). Passed w v cs (length (entry_bytes d)) (condition_terms d.condition + terms d.body) 1)
       (sym (entry_scanned kind b w h here c few))
       (record { code = a.code; at = omega (arith, a.at); terms = a.terms; reductions = omega (arith, a.reductions); table = a.table })
 
   -- a legal entry whose bytes stand next
-  abbrev pub EntryFound : ℕ → Progress → List PathReduction → Type 0
+  abbrev pub EntryFound : ℕ → Scan → List PathReduction → Type 0
   EntryFound kind w cs =
       (d : VertexReduction ℕ) × (rest : List ℕ) × (reduction_code kind (reduction_byte d.reduction d.condition) ≡ 0)
       × (drop w.at s ≡ entry_bytes d ++ rest) × EntryFits w.terms (length cs) d × (w.reductions < 8)
 
-  pub entry_sound : Bytes s → (kind : ℕ) (w : Progress) (cs : List PathReduction) → w.code ≡ 0 → Table w cs → (entry_scan kind s w).code ≡ 0
+  pub entry_sound : Bytes s → (kind : ℕ) (w : Scan) (cs : List PathReduction) → w.code ≡ 0 → Table w cs → (entry_scan kind s w).code ≡ 0
       → EntryFound kind w cs
   unfolding moved blank entry_scan
   entry_sound bytes kind w cs z tb e =
@@ -254,7 +255,7 @@ module _ (s : List ℕ) where
           )
 
   -- ENTRIES OF KIND 1 ARE READ EXACTLY
-  pub entries_complete : (es : List (VertexReduction ℕ)) (w : Progress) (cs : List PathReduction) (rest : List ℕ) → w.code ≡ 0 → Table w cs
+  pub entries_complete : (es : List (VertexReduction ℕ)) (w : Scan) (cs : List PathReduction) (rest : List ℕ) → w.code ≡ 0 → Table w cs
       → All (EntryLegal (length cs)) es
       → drop w.at s ≡ entries_bytes es ++ rest → w.terms + entry_terms es ≤ 64 → w.reductions + length es ≤ 8
       → Passed w (entries_scan (length es) 1 s w) cs (length (entries_bytes es)) (entry_terms es) (length es)
@@ -265,7 +266,7 @@ module _ (s : List ℕ) where
       let g = f.0 in
       let a = entry_complete 1 d w cs (entries_bytes es ++ rest) z tb (reduction_zero d.reduction d.condition g.0 g.1) e1
       (record { low = omega (arith, g.1); condition = g.2; body = g.3; terms = omega arith }) (omega arith) in
-      let w1 : Progress = entry_scan 1 s w in
+      let w1 : Scan = entry_scan 1 s w in
       let e2 : drop w1.at s ≡ entries_bytes es ++ rest =
       ap (λ (i : ℕ). drop i s) a.at ∙ drop_on s w.at (length (entry_bytes d)) (entry_bytes d) (entries_bytes es ++ rest) e1 refl in
       let b = entries_complete es w1 cs rest a.code a.table f.1 e2 (omega (arith, a.terms)) (omega (arith, a.reductions)) in
@@ -278,20 +279,15 @@ module _ (s : List ℕ) where
         table = b.table;
       })
 
-  entries_refused : (k kind : ℕ) (w : Progress) → (w.code ≡ 0 → ⊥) → entries_scan k kind s w ≡ w
-  unfolding entries_scan
-  entries_refused zero kind w n = refl
-  entries_refused (suc k) kind w n = rw (ne_eqb w.code 0 n) refl
-
   -- k legal entries whose bytes stand next
-  abbrev Entries : ℕ → Progress → List PathReduction → Type 0
+  abbrev Entries : ℕ → Scan → List PathReduction → Type 0
   Entries k w cs =
       (es : List (VertexReduction ℕ)) × (rest : List ℕ) × (length es ≡ k) × All (EntryLegal (length cs)) es
       × (drop w.at s ≡ entries_bytes es ++ rest)
       × (w.terms + entry_terms es ≤ 64)
       × (w.reductions + length es ≤ 8)
 
-  pub entries_sound : Bytes s → (k : ℕ) (w : Progress) (cs : List PathReduction) → w.code ≡ 0 → Table w cs → w.terms ≤ 64
+  pub entries_sound : Bytes s → (k : ℕ) (w : Scan) (cs : List PathReduction) → w.code ≡ 0 → Table w cs → w.terms ≤ 64
       → (entries_scan k 1 s w).code ≡ 0
       → Entries k w cs
   unfolding entries_scan
@@ -302,12 +298,12 @@ module _ (s : List ℕ) where
       on = rw (eq-eqb w.code 0 z) at e
 
       first : (b : Bool) → eqb (entry_scan 1 s w).code 0 ≡ b
-          → ((w : Progress) (cs : List PathReduction) → w.code ≡ 0 → Table w cs → w.terms ≤ 64 → (entries_scan k 1 s w).code ≡ 0
+          → ((w : Scan) (cs : List PathReduction) → w.code ≡ 0 → Table w cs → w.terms ≤ 64 → (entries_scan k 1 s w).code ≡ 0
           → Entries k w cs)
           → Entries (suc k) w cs
       first false p ih =
           let n = eqb-false (entry_scan 1 s w).code 0 p in
-          absurd (n (accepted_as (entries_refused k 1 (entry_scan 1 s w) n) on))
+          absurd (n (accepted_as (entries_handed k 1 s (entry_scan 1 s w) n) on))
       first true p ih =
           let f = entry_sound bytes 1 w cs z tb (eqb-true (entry_scan 1 s w).code 0 p) in
           let d = f.0 in

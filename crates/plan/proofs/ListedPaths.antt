@@ -6,7 +6,7 @@ use mathlib.Core.Bool.{Bool, true, false, cond, ◌&&◌}
 use mathlib.Core.List.{List, [], ◌∷◌, ◌++◌, map, append_assoc, append-nil}
 use native.Mathlib.Omega.{arith}
 use native.Mathlib.Nat.{not-suc-le-zero}
-use borrow.Author.Tests.{ltb-false, leb-false, eqb-true, eqb-false, le-ltb, lt-leb, eq-eqb, ne_eqb}
+use borrow.Author.Tests.{ltb-false, leb-false, eqb-true, eqb-false, le-ltb, lt-leb, eq-eqb}
 use lib.Dec.{T, leb, ltb, eqb, leb→le}
 use lib.ListN.{length, get_or, drop, set, length-set, length-append, length-map}
 use lib.Seq.{set_at, append_snoc}
@@ -18,12 +18,12 @@ use Rattle.packed_path.specs.declared.PackedPath.{PackedPath}
 use Rattle.packed_path.specs.Packed.{keys_number, packed, with_sources}
 use Rattle.packed_path.proofs.Keys.{key_byte, legal_parts}
 use Rattle.path_fields.specs.Paths.{counted_sources, one_source, starts_code}
-use Rattle.progress.specs.declared.Progress.{Progress}
+use Rattle.progress.specs.Progress.{Scan}
 use Rattle.fields.specs.Fields.{code_of, source_code}
 use Rattle.progress.specs.Progress.{blank}
 use Rattle.terms.proofs.Laws.{accepted_as}
 use Rattle.term_text.specs.Text.{start_of, starts_bytes}
-use Rattle.wire.proofs.Past.{get_d_any}
+use Rattle.wire.proofs.Past.{get_or_any}
 use Rattle.term_text.proofs.Fields.{code_range, code_zero, drop_at, key_known, key_zero, nth, present, two_bytes}
 use Rattle.term_text.proofs.Sources.{Single, set_numbers, start_found, start_numbered, start_small, start_zero, starts_found, starts_size, starts_zero}
 use Rattle.term_text.proofs.Steps.{drop_on, there}
@@ -34,6 +34,7 @@ use Rattle.walks.proofs.Tests.{and_both, and_left, and_right}
 use Rattle.wire.specs.Header.{then}
 use Rattle.wire.specs.Wire.{Bytes, at16, le16}
 use Rattle.wire.proofs.Codes.{then_both, then_zero}
+use Rattle.plan.proofs.Laws.{listed_handed}
 use Rattle.plan.specs.Plan.{chains_end, filler_code, listed_at, listed_code, listed_end, listed_keys_code, listed_scan, listed_starts_code, listed_step}
 use Rattle.plan.specs.Plan.{set_count_code, slot_code}
 use Rattle.plan.specs.Text.{all_listed_bytes, listed_bytes, listed_starts}
@@ -246,7 +247,7 @@ module _ (s : List ℕ) (version : ℕ) where
           let v = start_found low high z in
           let h = present s (j + 1) v.0 in
           let small = bytes j in
-          let same = get_d_any s j 0 256 (omega arith) in
+          let same = get_or_any s j 0 256 (omega arith) in
           let two = two_bytes low high (omega arith) (omega arith) in (
             v.1.0,
             v.1.1.0,
@@ -311,12 +312,12 @@ module _ (s : List ℕ) (version : ℕ) where
       )
 
 -- n bytes further, with the path reductions cs and no more terms
-abbrev pub ListedHeld : Progress → Progress → List PathReduction → ℕ → Type 0
+abbrev pub ListedHeld : Scan → Scan → List PathReduction → ℕ → Type 0
 ListedHeld w w' cs n = Further w w' cs n w.terms w.reductions
 
 module _ (s : List ℕ) (version : ℕ) where
   -- one more is held
-  listed_held : (w : Progress) (cs : List PathReduction) (c : PathReduction) (rest : List ℕ) → w.code ≡ 0 → Table w cs → Listed version c
+  listed_held : (w : Scan) (cs : List PathReduction) (c : PathReduction) (rest : List ℕ) → w.code ≡ 0 → Table w cs → Listed version c
       → w.at < length s → drop w.at s ≡ listed_bytes version c ++ rest → suc (length cs) ≤ 8
       → ListedHeld w (listed_step version s w) (cs ++ (c ∷ [])) (length (listed_bytes version c))
   unfolding listed_step
@@ -333,7 +334,7 @@ module _ (s : List ℕ) (version : ℕ) where
         table = set w.table w.paths (packed c);
       } =
       rw (lt-leb (length s) w.at h, code, lt-leb 8 w.paths (omega (arith, t.count)), numbers, end) refl in
-      subst (λ (v : Progress). ListedHeld w v (cs ++ (c ∷ [])) (length (listed_bytes version c))) (sym made)
+      subst (λ (v : Scan). ListedHeld w v (cs ++ (c ∷ [])) (length (listed_bytes version c))) (sym made)
       (record { code = z; at = refl; terms = refl; reductions = refl; table = stored t.rest t.holds })
     where
       stored : (rest : List PackedPath) → w.table ≡ map packed cs ++ rest
@@ -361,7 +362,7 @@ module _ (s : List ℕ) (version : ℕ) where
       }
 
   -- the bytes of legal path reductions are read as they
-  pub listed_complete : (ds : List PathReduction) (w : Progress) (cs : List PathReduction) (rest : List ℕ) → w.code ≡ 0 → Table w cs
+  pub listed_complete : (ds : List PathReduction) (w : Scan) (cs : List PathReduction) (rest : List ℕ) → w.code ≡ 0 → Table w cs
       → All (Listed version) ds
       → drop w.at s ≡ all_listed_bytes version ds ++ rest → length cs + length ds ≤ 8
       → ListedHeld w (listed_scan (length ds) version s w) (cs ++ ds) (length (all_listed_bytes version ds))
@@ -403,18 +404,13 @@ module _ (s : List ℕ) (version : ℕ) where
       ∙ chains_there ds f.1 (i + length b) rest e2
       ∙ (let z : i + length b + length l ≡ i + length (b ++ l) = omega (arith, length-append b l) in z)
 
-  listed_refused : (k : ℕ) (w : Progress) → (w.code ≡ 0 → ⊥) → listed_scan k version s w ≡ w
-  unfolding listed_scan
-  listed_refused zero w n = refl
-  listed_refused (suc k) w n = rw (ne_eqb w.code 0 n) refl
-
   -- what is read: k legal path reductions whose bytes stand next
-  abbrev Lists : ℕ → Progress → Type 0
+  abbrev Lists : ℕ → Scan → Type 0
   Lists k w =
       (ds : List PathReduction) × (rest : List ℕ) × (length ds ≡ k) × All (Listed version) ds
       × (drop w.at s ≡ all_listed_bytes version ds ++ rest)
 
-  pub listed_sound : Bytes s → 1 ≤ version → (k : ℕ) (w : Progress) (cs : List PathReduction) → w.code ≡ 0 → Table w cs → length cs + k ≤ 8
+  pub listed_sound : Bytes s → 1 ≤ version → (k : ℕ) (w : Scan) (cs : List PathReduction) → w.code ≡ 0 → Table w cs → length cs + k ≤ 8
       → (listed_scan k version s w).code ≡ 0 → Lists k w
   unfolding listed_scan listed_step blank
   listed_sound bytes known zero w cs z t l e = ([], drop w.at s, refl, tt, refl)
@@ -425,10 +421,10 @@ module _ (s : List ℕ) (version : ℕ) where
       on = rw (eq-eqb w.code 0 z) at e
 
       stops : (n : ℕ) → (n ≡ 0 → ⊥) → listed_step version s w ≡ blank n → ⊥
-      stops n f p = f (accepted_as (ap (listed_scan k version s) p ∙ listed_refused k (blank n) f) on)
+      stops n f p = f (accepted_as (ap (listed_scan k version s) p ∙ listed_handed k version s (blank n) f) on)
 
       go : (a b : Bool) → leb (length s) w.at ≡ a → eqb (listed_code version s w.at) 0 ≡ b
-          → ((w : Progress) (cs : List PathReduction) → w.code ≡ 0 → Table w cs → length cs + k ≤ 8 → (listed_scan k version s w).code ≡ 0
+          → ((w : Scan) (cs : List PathReduction) → w.code ≡ 0 → Table w cs → length cs + k ≤ 8 → (listed_scan k version s w).code ≡ 0
           → Lists k w)
           → Lists (suc k) w
       go true b p q ih = absurd (stops 1 (λ x. omega arith) (rw p refl))

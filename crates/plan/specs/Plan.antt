@@ -1,6 +1,6 @@
 -- How the bytes of a plan (document 01: worksheet `LPW`) are read, left to right.
 use Rattle.std.specs.Prelude.{ℕ, zero, suc, ◌+◌, ◌*◌, ◌%◌, cond, List, leb, ltb, eqb, length, get_or, set}
-use Rattle.progress.specs.declared.Progress.{Progress}
+use Rattle.progress.specs.Progress.{Scan}
 use Rattle.fields.specs.Fields.{code_of, key_code, opening_code, source_code}
 use Rattle.packed_path.specs.declared.PackedPath.{PackedPath}
 use Rattle.packed_path.specs.Packed.{keys_number}
@@ -50,7 +50,7 @@ unfoldable pub listed_end : ℕ → List ℕ → ℕ → ℕ
 listed_end version s i = cond (eqb version 1) (i + 6) (i + 5 + 2 * get_or s (i + 4) 0)
 
 -- one chain more (equal chains stay apart: they are legal here); this 14 is never given, as c was judged
-unfoldable pub listed_step : ℕ → List ℕ → Progress → Progress
+unfoldable pub listed_step : ℕ → List ℕ → Scan → Scan
 listed_step version s w =
     cond (leb (length s) w.at) (blank 1)
     (cond (eqb (listed_code version s w.at) 0)
@@ -66,7 +66,7 @@ listed_step version s w =
     (blank (listed_code version s w.at)))
 
 -- k of them; a refusal is handed on
-unfoldable pub listed_scan : ℕ → ℕ → List ℕ → Progress → Progress
+unfoldable pub listed_scan : ℕ → ℕ → List ℕ → Scan → Scan
 listed_scan zero version s w = w
 listed_scan (suc k) version s w = cond (eqb w.code 0) (listed_scan k version s (listed_step version s w)) w
 
@@ -84,15 +84,15 @@ abbrev pub reduction_code : ℕ → ℕ → ℕ
 reduction_code kind b = cond (eqb kind 0) (filler_code b) (cond (ltb 255 b) 1 (code_of (b % 128) 5))
 
 -- the same state further on, with so many entries met
-unfoldable pub moved : Progress → ℕ → ℕ → Progress
+unfoldable pub moved : Scan → ℕ → ℕ → Scan
 moved w at reductions = record { code = w.code; at = at; terms = w.terms; paths = w.paths; reductions = reductions; table = w.table }
 
 -- the expressions behind the reduction byte b: "the condition's expression precedes the value's"
-unfoldable pub expressions_scan : ℕ → List ℕ → Progress → Progress
+unfoldable pub expressions_scan : ℕ → List ℕ → Scan → Scan
 expressions_scan b s w = read OfEntry 16 s (cond (leb 128 b) (read OfEntry 16 s w) w)
 
 -- "e entries, each a reduction byte and an expression": one more is met; this 14 is never given, as e was judged
-unfoldable pub entry_scan : ℕ → List ℕ → Progress → Progress
+unfoldable pub entry_scan : ℕ → List ℕ → Scan → Scan
 entry_scan kind s w =
     let b = get_or s w.at 256 in
     let c = reduction_code kind b in
@@ -102,7 +102,7 @@ entry_scan kind s w =
     (blank c))
 
 -- k of them; a refusal is handed on
-unfoldable pub entries_scan : ℕ → ℕ → List ℕ → Progress → Progress
+unfoldable pub entries_scan : ℕ → ℕ → List ℕ → Scan → Scan
 entries_scan zero kind s w = w
 entries_scan (suc k) kind s w = cond (eqb w.code 0) (entries_scan k kind s (entry_scan kind s w)) w
 
@@ -111,11 +111,11 @@ abbrev pub count_code : ℕ → ℕ → ℕ
 count_code kind b = cond (ltb 255 b) 1 (cond (eqb kind 0) (cond (eqb b 1) 0 9) (cond (ltb 8 b) 14 0))
 
 -- "for kind 1 a final expression"
-unfoldable pub final_scan : ℕ → List ℕ → Progress → Progress
+unfoldable pub final_scan : ℕ → List ℕ → Scan → Scan
 final_scan kind s w = cond (eqb kind 0) w (read OfFinal 16 s w)
 
 -- from the entry count on
-unfoldable pub body_scan : ℕ → List ℕ → Progress → Progress
+unfoldable pub body_scan : ℕ → List ℕ → Scan → Scan
 body_scan kind s w =
     let e = get_or s w.at 256 in
     cond (eqb w.code 0)
@@ -125,7 +125,7 @@ body_scan kind s w =
     w
 
 -- the whole reading: header of version 1 or 2, kind, chain count, chains, entries, final expression, left-over bytes
-unfoldable pub plan_scan : List ℕ → Progress
+unfoldable pub plan_scan : List ℕ → Scan
 plan_scan s =
     let kind = get_or s 5 256 in
     let count = get_or s 6 256 in

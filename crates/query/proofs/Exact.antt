@@ -12,7 +12,7 @@ use Rattle.meaning.specs.Plan.{put_all}
 use Rattle.meaning.specs.Query.{Kind, PathReduction, Query, QueryTerm, each, paths, reduction_count, result, single, vertex, written_paths}
 use Rattle.fields.specs.Fields.{opening_code}
 use Rattle.fields.proofs.Opening.{opening_found}
-use Rattle.progress.specs.declared.Progress.{Progress}
+use Rattle.progress.specs.Progress.{Scan}
 use Rattle.terms.specs.declared.TermKind.{TermKind}
 use Rattle.terms.specs.Terms.{read}
 use Rattle.progress.specs.Progress.{blank, ended, started}
@@ -27,7 +27,7 @@ use Rattle.wire.proofs.Header.{header_accepted, header_one}
 use Rattle.query.specs.Query.{encode, query_code, query_scan, term_kind}
 
 -- what the reader knows of an accepted query: its table of different path reductions in order of first writing, its terms and its reductions
-pub record Scanned (w : Progress) (q : Query) : Type 0 where
+pub record Scanned (w : Scan) (q : Query) : Type 0 where
   pub accepted : w.code ≡ 0
   pub terms : w.terms ≡ query_terms q
   pub reductions : w.reductions ≡ query_reductions q
@@ -71,7 +71,7 @@ module _ (κ : Kind) (m : ℕ) (low : m ≤ 1) (kind : term_kind m ≡ of_kind �
       scan_is s m (header_accepted 0x51 1 5 1 (m ∷ query_bytes κ t) (omega arith) (omega arith) (omega arith)) refl low
       ∙ ap (λ (k : TermKind). ended s (read k 16 s (started 6))) kind
       ∙ ended_whole s (read (of_kind κ) 16 s (started 6)) (omega (arith, a.at)) in
-      subst (λ (w : Progress). Scanned w (of t)) (sym (ap query_scan (text t) ∙ whole))
+      subst (λ (w : Scan). Scanned w (of t)) (sym (ap query_scan (text t) ∙ whole))
       (record {
         accepted = a.code;
         terms = omega (arith, a.terms, size t);

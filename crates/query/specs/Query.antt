@@ -2,7 +2,7 @@
 use Rattle.std.specs.Prelude.{ℕ, cond, List, ◌∷◌, ◌++◌, eqb, get_or}
 use Rattle.meaning.specs.Query.{Query, each, result, single, vertex}
 use Rattle.fields.specs.Fields.{opening_code}
-use Rattle.progress.specs.declared.Progress.{Progress}
+use Rattle.progress.specs.Progress.{Scan}
 use Rattle.terms.specs.declared.TermKind.{TermKind}
 use Rattle.terms.specs.declared.TermKind.TheVariants.{OfVertex, OfResult}
 use Rattle.terms.specs.Terms.{read}
@@ -24,7 +24,7 @@ abbrev pub term_kind : ℕ → TermKind
 term_kind b = cond (eqb b 0) OfVertex OfResult
 
 -- the reading: header, kind, the term to a depth of 16, left-over bytes
-unfoldable pub query_scan : List ℕ → Progress
+unfoldable pub query_scan : List ℕ → Scan
 query_scan s =
     cond (eqb (opening_code 0x51 1 s) 0) (ended s (read (term_kind (get_or s 5 256)) 16 s (started 6))) (blank (opening_code 0x51 1 s))
 

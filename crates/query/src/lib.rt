@@ -2,38 +2,43 @@
 #![tactic(auto)]
 
 ghost use Rattle.std.specs.Prelude.{◌≡◌};
+ghost use Rattle.wire.specs.Refusal.{code};
+ghost use Rattle.progress.specs.Progress.{scan_of};
 ghost use Rattle.query.specs.Query.{term_kind, query_scan, query_code};
 
 use progress::Progress;
 use terms::TermKind;
+use wire::Refusal;
 
 // "A question of kind 0 is a place term, of kind 1 a result term."
+// Kept: no TryFrom, since `fields::opening_code` has refused every other byte before: it would have an error that never comes.
 fn term_kind(b: u16) -> TermKind
     ensures { result ≡ term_kind b }
 {
     if b == 0 {
-        return TermKind::OfVertex;
+        TermKind::OfVertex
+    } else {
+        TermKind::OfResult
     }
-    TermKind::OfResult
 }
 
 // The reading of a whole question: its terms counted, with the table of its different path reductions; or a refusal.
-pub fn scan(s: &[u8]) -> Progress
-    ensures { result ≡ query_scan s.now }
+#[tactic(auto, unfolding(crate::specs::Query::query_scan, progress::specs::Progress::ended, progress::specs::Progress::blank))]
+pub fn scan(s: &[u8]) -> Result<Progress, Refusal>
+    ensures { scan_of result ≡ query_scan s.now }
 {
-    let c = fields::opening_code(s, 0x51, 1);
-    if c != 0 {
-        return progress::blank_of(c);
-    }
+    fields::opening_code(s, 0x51, 1)?;
     let kind = term_kind(fields::byte(s, 5));
-    let read = terms::read_term(s, progress::start(6), kind, 16);
-    progress::finish(s, read)
+    let mut w = progress::start(6);
+    terms::read_term(s, &mut w, kind, 16)?;
+    progress::finish(s, &w)?;
+    Ok(w)
 }
 
-// The number of the first refusal, 0 where the bytes are accepted.
-pub fn judge(s: &[u8]) -> u8
-    ensures { result ≡ query_code s.now }
+// The first refusal, where there is one.
+#[tactic(auto, unfolding(progress::specs::Progress::blank))]
+pub fn judge(s: &[u8]) -> Result<(), Refusal>
+    ensures { code result ≡ query_code s.now }
 {
-    let w = scan(s);
-    w.code
+    scan(s).map(|_| ())
 }

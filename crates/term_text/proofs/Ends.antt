@@ -8,7 +8,7 @@ use borrow.Author.Tests.{ltb-false, eqb-false, le-ltb}
 use lib.Dec.{ltb, eqb}
 use lib.ListN.{length, replicate}
 use Rattle.packed_path.specs.Packed.{no_path}
-use Rattle.progress.specs.declared.Progress.{Progress}
+use Rattle.progress.specs.Progress.{Scan}
 use Rattle.progress.specs.Progress.{blank, ended, started}
 use Rattle.term_text.proofs.Table.{Table}
 
@@ -18,7 +18,7 @@ unfolding started
 started_table at = record { legal = tt; count = refl; few = omega arith; rest = replicate 8 no_path; holds = refl; size = refl; few_reductions = omega arith }
 
 -- nothing is left over exactly where the reading has come to the end
-pub ended_whole : (s : List ℕ) (w : Progress) → length s ≤ w.at → ended s w ≡ w
+pub ended_whole : (s : List ℕ) (w : Scan) → length s ≤ w.at → ended s w ≡ w
 unfolding ended
 ended_whole s w h = go (eqb w.code 0)
   where
@@ -26,7 +26,7 @@ ended_whole s w h = go (eqb w.code 0)
     go true = rw (le-ltb w.at (length s) h) refl
     go false = refl
 
-pub ended_code : (s : List ℕ) (w : Progress) → (ended s w).code ≡ 0 → (w.code ≡ 0) × (length s ≤ w.at)
+pub ended_code : (s : List ℕ) (w : Scan) → (ended s w).code ≡ 0 → (w.code ≡ 0) × (length s ≤ w.at)
 unfolding ended blank
 ended_code s w e = go (eqb w.code 0) (ltb w.at (length s)) refl refl e
   where

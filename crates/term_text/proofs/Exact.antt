@@ -13,12 +13,12 @@ use Rattle.meaning.specs.Plan.{Term, apply, leaf, literal}
 use Rattle.meaning.specs.Query.{Kind, PathReduction, QueryTerm, VertexTerm, number, operator, over, over_where, path, path_set, paths}
 use Rattle.meaning.specs.Query.{reduction_count, result, vertex}
 use Rattle.wire.specs.Wire.{Bytes, le16}
-use Rattle.progress.specs.declared.Progress.{Progress}
+use Rattle.progress.specs.Progress.{Scan}
 use Rattle.fields.specs.Fields.{code_of}
 use Rattle.packed_path.specs.declared.PackedPath.{PackedPath}
 use Rattle.packed_path.specs.Packed.{packed}
 use Rattle.path_fields.specs.Paths.{path_at, path_code, set_at, set_code}
-use Rattle.terms.specs.declared.Step.{Step}
+use Rattle.terms.specs.Terms.{Step}
 use Rattle.terms.specs.declared.TermKind.{TermKind}
 use Rattle.terms.specs.declared.TermKind.TheVariants.{OfVertex, OfResult}
 use Rattle.terms.specs.Terms.{advanced, alone, index_step, kept_path, leaf_step, literal_tag, path_step, read, reduce_step, refused_step, set_step}
@@ -26,7 +26,7 @@ use Rattle.terms.specs.Terms.{term_step}
 use Rattle.progress.specs.Progress.{blank}
 use Rattle.terms.proofs.Laws.{accepted_as}
 use Rattle.term_text.specs.Text.{expression_bytes, index_tag, of_kind, path_bytes, query_bytes, set_bytes, start_of, starts_bytes}
-use Rattle.wire.proofs.Past.{get_d_any}
+use Rattle.wire.proofs.Past.{get_or_any}
 use Rattle.term_text.proofs.Fields.{code_range, code_zero, drop_at, nth, present}
 use Rattle.term_text.proofs.Paths.{OneFits, SetFits, path_accepted, path_count, path_found, path_numbered, set_accepted, set_count}
 use Rattle.term_text.proofs.Paths.{set_found, set_keys, set_numbered}
@@ -42,7 +42,7 @@ query_piece κ t =
     record { bytes = query_bytes κ t; size = size_of t; deep = depth_of t; paths = paths t; count = reduction_count t; fine = TermFits 256 t }
 
 -- nothing is asked of the state
-abbrev pub Always : Progress → Type 0
+abbrev pub Always : Scan → Type 0
 Always w = Unit {0}
 
 -- what the reader sees of a path reduction behind its byte
@@ -50,14 +50,14 @@ abbrev chain_piece : ℕ → (PathReduction → List ℕ) → (PathReduction →
 chain_piece tag text Fits c = record { bytes = tag ∷ text c; size = 1; deep = 1; paths = c ∷ []; count = 0; fine = Fits c }
 
 -- A PATH REDUCTION is read by its step, which judges its fields, goes on behind them and keeps it: of each byte by that byte's own fields
-module _ (s : List ℕ) (tag : ℕ) (step : Progress → Step) (code end : Progress → ℕ) (number : Progress → PackedPath)
-    (is_leaf : (w : Progress) → leaf_step OfVertex tag s w ≡ step w)
-    (made : (w : Progress) → step w ≡ cond (eqb (code w) 0) (alone (kept_path (advanced w (end w)) (number w))) (refused_step (code w)))
+module _ (s : List ℕ) (tag : ℕ) (step : Scan → Step) (code end : Scan → ℕ) (number : Scan → PackedPath)
+    (is_leaf : (w : Scan) → leaf_step OfVertex tag s w ≡ step w)
+    (made : (w : Scan) → step w ≡ cond (eqb (code w) 0) (alone (kept_path (advanced w (end w)) (number w))) (refused_step (code w)))
     (no_literal : eqb tag 0x11 ≡ false) (no_operator : eqb tag 0x12 ≡ false) (text : PathReduction → List ℕ) (Fits : PathReduction → Type 0)
     (legal : (c : PathReduction) → Fits c → PathFits 256 c)
-    (accepts : (c : PathReduction) (w : Progress) (rest : List ℕ) → Fits c → drop (w.at + 1) s ≡ text c ++ rest
+    (accepts : (c : PathReduction) (w : Scan) (rest : List ℕ) → Fits c → drop (w.at + 1) s ≡ text c ++ rest
     → (code w ≡ 0) × (number w ≡ packed c) × (end w ≡ w.at + suc (length (text c)))) where
-  chain_read : (d : ℕ) (w : Progress) → w.code ≡ 0 → w.at < length s → w.terms < 64 → get_or s w.at 0 ≡ tag
+  chain_read : (d : ℕ) (w : Scan) → w.code ≡ 0 → w.at < length s → w.terms < 64 → get_or s w.at 0 ≡ tag
       → read OfVertex (suc d) s w ≡ cond (eqb (code w) 0) (kept_path (advanced w (end w)) (number w)) (blank (code w))
   unfolding literal_tag
   chain_read d w z h k first =
@@ -75,15 +75,15 @@ module _ (s : List ℕ) (tag : ℕ) (step : Progress → Step) (code end : Progr
       let i = there s w.at tag (text c ++ rest) e in
       let first = tag_there s w.at tag (text c ++ rest) e in
       let a = accepts c w rest room.fine (drop_on s w.at 1 (tag ∷ []) (text c ++ rest) e refl) in
-      let w1 : Progress = advanced w (end w) in
+      let w1 : Scan = advanced w (end w) in
       let reads : read OfVertex (suc d) s w ≡ kept_path w1 (packed c) =
       chain_read d w z i (omega (arith, room.terms)) first ∙ rw (a.0, a.1) refl in
       let p = kept_room w1 cs (table_advanced w cs (end w) t) c (legal c room.fine) room.paths in
-      subst (λ (v : Progress). After w v cs (chain_piece tag text Fits c)) (sym reads)
+      subst (λ (v : Scan). After w v cs (chain_piece tag text Fits c)) (sym reads)
       (record { code = p.code ∙ z; at = p.at ∙ a.2; terms = p.terms; reductions = omega (arith, p.reductions); table = p.table })
 
-  chain_sound : ((w : Progress) → code w ≡ 0 → (c : PathReduction) × Fits c × ((rest : List ℕ) × (drop (w.at + 1) s ≡ text c ++ rest)))
-      → (d : ℕ) (w : Progress) (cs : List PathReduction) → w.code ≡ 0 → Table w cs → w.at < length s → w.terms < 64
+  chain_sound : ((w : Scan) → code w ≡ 0 → (c : PathReduction) × Fits c × ((rest : List ℕ) × (drop (w.at + 1) s ≡ text c ++ rest)))
+      → (d : ℕ) (w : Scan) (cs : List PathReduction) → w.code ≡ 0 → Table w cs → w.at < length s → w.terms < 64
       → get_or s w.at 0 ≡ tag → (read OfVertex (suc d) s w).code ≡ 0 → Found s Always PathReduction (chain_piece tag text Fits) (suc d) w cs
   unfolding blank
   chain_sound finds d w cs z t h k first e = go (eqb (code w) 0) refl (chain_read d w z h k first)
@@ -100,22 +100,22 @@ module _ (s : List ℕ) (tag : ℕ) (step : Progress → Step) (code end : Progr
           let few = kept_few (advanced w (end w)) cs (table_advanced w cs (end w) t) c (legal c f.1) (accepted_as reads e) in (
             c,
             f.2.0,
-            drop_at s w.at h ∙ ap₂ (λ (x : ℕ) (l : List ℕ). x ∷ l) (get_d_any s w.at 256 0 h ∙ first) f.2.1,
+            drop_at s w.at h ∙ ap₂ (λ (x : ℕ) (l : List ℕ). x ∷ l) (get_or_any s w.at 256 0 h ∙ first) f.2.1,
             record { fine = f.1; shallow = omega arith; terms = omega arith; paths = few; reductions = omega (arith, t.few_reductions) },
           )
 
 module _ (s : List ℕ) where
   -- with one start or from anywhere
-  path_end : Progress → ℕ
+  path_end : Scan → ℕ
   path_end w = w.at + 1 + 3 + get_or s (w.at + 1) 256
 
-  path_made : (w : Progress)
+  path_made : (w : Scan)
       → path_step s w
       ≡ cond (eqb (path_code s (w.at + 1)) 0) (alone (kept_path (advanced w (path_end w)) (path_at s (w.at + 1)))) (refused_step (path_code s (w.at + 1)))
   unfolding path_step path_end
   path_made w = refl
 
-  path_accepts : (c : PathReduction) (w : Progress) (rest : List ℕ) → OneFits c → drop (w.at + 1) s ≡ path_bytes c ++ rest
+  path_accepts : (c : PathReduction) (w : Scan) (rest : List ℕ) → OneFits c → drop (w.at + 1) s ≡ path_bytes c ++ rest
       → (path_code s (w.at + 1) ≡ 0) × (path_at s (w.at + 1) ≡ packed c) × (path_end w ≡ w.at + suc (length (path_bytes c)))
   unfolding path_end
   path_accepts c w rest f e = (
@@ -129,7 +129,7 @@ module _ (s : List ℕ) where
   path_complete = chain_complete s 0x10 (path_step s) (λ w. path_code s (w.at + 1)) path_end (λ w. path_at s (w.at + 1)) (λ w. refl) path_made refl refl
       path_bytes OneFits (λ c f. f.0) path_accepts
 
-  path_sound : Bytes s → (d : ℕ) (w : Progress) (cs : List PathReduction) → w.code ≡ 0 → Table w cs → w.at < length s → w.terms < 64
+  path_sound : Bytes s → (d : ℕ) (w : Scan) (cs : List PathReduction) → w.code ≡ 0 → Table w cs → w.at < length s → w.terms < 64
       → get_or s w.at 0 ≡ 0x10 → (read OfVertex (suc d) s w).code ≡ 0 → Found s Always VertexTerm (query_piece vertex) (suc d) w cs
   unfolding leaf_step
   path_sound bytes d w cs z t h k tag e =
@@ -139,16 +139,16 @@ module _ (s : List ℕ) where
       (path f.0, f.1, f.2, f.3)
 
   -- with a set
-  set_end : Progress → ℕ
+  set_end : Scan → ℕ
   set_end w = let count = w.at + 1 + 1 + get_or s (w.at + 1) 256 in count + 1 + 2 * get_or s count 256
 
-  set_made : (w : Progress)
+  set_made : (w : Scan)
       → set_step s w
       ≡ cond (eqb (set_code s (w.at + 1)) 0) (alone (kept_path (advanced w (set_end w)) (set_at s (w.at + 1)))) (refused_step (set_code s (w.at + 1)))
   unfolding set_step set_end
   set_made w = refl
 
-  set_accepts : (c : PathReduction) (w : Progress) (rest : List ℕ) → SetFits c → drop (w.at + 1) s ≡ set_bytes c ++ rest
+  set_accepts : (c : PathReduction) (w : Scan) (rest : List ℕ) → SetFits c → drop (w.at + 1) s ≡ set_bytes c ++ rest
       → (set_code s (w.at + 1) ≡ 0) × (set_at s (w.at + 1) ≡ packed c) × (set_end w ≡ w.at + suc (length (set_bytes c)))
   unfolding set_end
   set_accepts c w rest f e = (
@@ -163,7 +163,7 @@ module _ (s : List ℕ) where
   set_complete = chain_complete s 0x13 (set_step s) (λ w. set_code s (w.at + 1)) set_end (λ w. set_at s (w.at + 1)) (λ w. refl) set_made refl refl
       set_bytes SetFits (λ c f. f.0) set_accepts
 
-  set_sound : Bytes s → (d : ℕ) (w : Progress) (cs : List PathReduction) → w.code ≡ 0 → Table w cs → w.at < length s → w.terms < 64
+  set_sound : Bytes s → (d : ℕ) (w : Scan) (cs : List PathReduction) → w.code ≡ 0 → Table w cs → w.at < length s → w.terms < 64
       → get_or s w.at 0 ≡ 0x13 → (read OfVertex (suc d) s w).code ≡ 0 → Found s Always VertexTerm (query_piece vertex) (suc d) w cs
   unfolding leaf_step
   set_sound bytes d w cs z t h k tag e =
@@ -173,10 +173,10 @@ module _ (s : List ℕ) where
       (path_set f.0, f.1, f.2, f.3)
 
   -- A REDUCTION: the state behind its own two bytes
-  unfoldable under : Progress → Progress
+  unfoldable under : Scan → Scan
   under w = record { code = w.code; at = w.at + 1 + 1; terms = w.terms + 1; paths = w.paths; reductions = w.reductions + 1; table = w.table }
 
-  under_behind : (w : Progress) (cs : List PathReduction) → w.code ≡ 0 → Table w cs → w.reductions < 8 → Behind s Always w (under w) cs 1
+  under_behind : (w : Scan) (cs : List PathReduction) → w.code ≡ 0 → Table w cs → w.reductions < 8 → Behind s Always w (under w) cs 1
   unfolding under
   under_behind w cs z t h = record {
     code = z;
@@ -189,14 +189,14 @@ module _ (s : List ℕ) where
   }
 
   -- behind each of its tags stand so many vertex terms
-  module _ (tag follow : ℕ) (is_reduction : (w : Progress) → leaf_step OfResult tag s w ≡ reduce_step follow s w) (no_literal : eqb tag 0x21 ≡ false)
-      (no_operator : eqb tag 0x22 ≡ false) (d : ℕ) (w : Progress) (z : w.code ≡ 0) (h : w.at < length s) (k : w.terms < 64)
+  module _ (tag follow : ℕ) (is_reduction : (w : Scan) → leaf_step OfResult tag s w ≡ reduce_step follow s w) (no_literal : eqb tag 0x21 ≡ false)
+      (no_operator : eqb tag 0x22 ≡ false) (d : ℕ) (w : Scan) (z : w.code ≡ 0) (h : w.at < length s) (k : w.terms < 64)
       (first : get_or s w.at 0 ≡ tag) where
     reduce_is : term_step OfResult (suc d) s w ≡ reduce_step follow s w
     unfolding literal_tag
     reduce_is = step_is s OfResult d w h k ∙ rw (first, no_literal, no_operator) (is_reduction w)
 
-    abbrev reduced_to : Progress → Type 0
+    abbrev reduced_to : Scan → Type 0
     reduced_to v = reduce_step follow s w ≡ record { progress = v; follow = follow; inner = OfVertex }
 
     reduce_made : code_of (get_or s (w.at + 1) 256) 5 ≡ 0 → w.reductions < 8 → reduced_to (under w)
@@ -216,14 +216,14 @@ module _ (s : List ℕ) where
         go true true p q = absurd (stops s OfResult d w z 14 (λ n. omega arith) (reduce_is ∙ rw (p, q) refl) e)
         go true false p q = (eqb-true (code_of (get_or s (w.at + 1) 256) 5) 0 p, leb-false 8 w.reductions q)
 
-  over_reads : (d : ℕ) (w : Progress) → w.code ≡ 0 → w.at < length s → w.terms < 64 → get_or s w.at 0 ≡ 0x20
+  over_reads : (d : ℕ) (w : Scan) → w.code ≡ 0 → w.at < length s → w.terms < 64 → get_or s w.at 0 ≡ 0x20
       → code_of (get_or s (w.at + 1) 256) 5 ≡ 0 → w.reductions < 8 → read OfResult (suc d) s w ≡ read OfVertex d s (under w)
   unfolding leaf_step
   over_reads d w z h k tag c r =
       read_by s OfResult d w z (record { progress = under w; follow = 1; inner = OfVertex })
       (reduce_is 0x20 1 (λ w. refl) refl refl d w z h k tag ∙ reduce_made 0x20 1 (λ w. refl) refl refl d w z h k tag c r)
 
-  where_reads : (d : ℕ) (w : Progress) → w.code ≡ 0 → w.at < length s → w.terms < 64 → get_or s w.at 0 ≡ 0x23
+  where_reads : (d : ℕ) (w : Scan) → w.code ≡ 0 → w.at < length s → w.terms < 64 → get_or s w.at 0 ≡ 0x23
       → code_of (get_or s (w.at + 1) 256) 5 ≡ 0 → w.reductions < 8
       → read OfResult (suc d) s w ≡ read OfVertex d s (read OfVertex d s (under w))
   unfolding leaf_step
@@ -270,7 +270,7 @@ module _ (s : List ℕ) where
       (λ w w' cs r b a. tt)
 
   -- what stands behind any other byte: a path reduction with one start or a set; a reduction without or with a condition
-  vertex_leaf : Bytes s → (d : ℕ) (w : Progress) (cs : List PathReduction) → w.code ≡ 0 → Table w cs → w.at < length s → w.terms < 64
+  vertex_leaf : Bytes s → (d : ℕ) (w : Scan) (cs : List PathReduction) → w.code ≡ 0 → Table w cs → w.at < length s → w.terms < 64
       → eqb (get_or s w.at 0) 0x11 ≡ false → eqb (get_or s w.at 0) 0x12 ≡ false → (read OfVertex (suc d) s w).code ≡ 0
       → Found s Always VertexTerm (query_piece vertex) (suc d) w cs
   unfolding leaf_step literal_tag
@@ -282,7 +282,7 @@ module _ (s : List ℕ) where
       go false true x v = set_sound bytes d w cs z t h k (eqb-true (get_or s w.at 0) 0x13 v) e
       go false false x v = absurd (stops s OfVertex d w z 9 (λ n. omega arith) (step_is s OfVertex d w h k ∙ rw (p, q, x, v) refl) e)
 
-  result_leaf : Bytes s → (d : ℕ) → Sound s Always OfVertex VertexTerm (query_piece vertex) d → (w : Progress) (cs : List PathReduction) → w.code
+  result_leaf : Bytes s → (d : ℕ) → Sound s Always OfVertex VertexTerm (query_piece vertex) d → (w : Scan) (cs : List PathReduction) → w.code
       ≡ 0
       → Table w cs → w.at < length s → w.terms < 64 → eqb (get_or s w.at 0) 0x21 ≡ false → eqb (get_or s w.at 0) 0x22 ≡ false
       → (read OfResult (suc d) s w).code ≡ 0 → Found s Always (QueryTerm result) (query_piece result) (suc d) w cs
@@ -327,24 +327,24 @@ expression_piece m count t =
     record { bytes = expression_bytes m t; size = terms t; deep = depth t; paths = []; count = 0; fine = Every (λ i. i < count) t }
 
 -- `held` is the count that the state holds
-module _ (s : List ℕ) (m : TermKind) (count : ℕ) (few : count ≤ 256) (held : Progress → ℕ)
-    (kept : (w w' : Progress) → w'.paths ≡ w.paths → w'.reductions ≡ w.reductions → held w' ≡ held w)
-    (is_index : (w : Progress) → leaf_step m (index_tag m) s w ≡ index_step s w (held w))
-    (no_other : (tag : ℕ) (w : Progress) → eqb tag (index_tag m) ≡ false → leaf_step m tag s w ≡ refused_step 9)
+module _ (s : List ℕ) (m : TermKind) (count : ℕ) (few : count ≤ 256) (held : Scan → ℕ)
+    (kept : (w w' : Scan) → w'.paths ≡ w.paths → w'.reductions ≡ w.reductions → held w' ≡ held w)
+    (is_index : (w : Scan) → leaf_step m (index_tag m) s w ≡ index_step s w (held w))
+    (no_other : (tag : ℕ) (w : Scan) → eqb tag (index_tag m) ≡ false → leaf_step m tag s w ≡ refused_step 9)
     (no_literal : eqb (index_tag m) (literal_tag m) ≡ false) (no_operator : eqb (index_tag m) (literal_tag m + 1) ≡ false) where
-  abbrev pub Counts : Progress → Type 0
+  abbrev pub Counts : Scan → Type 0
   Counts w = held w ≡ count
 
-  counts_on : (w : Progress) (n : ℕ) → Counts w → Counts (advanced w n)
+  counts_on : (w : Scan) (n : ℕ) → Counts w → Counts (advanced w n)
   unfolding advanced
   counts_on w n r = kept w (advanced w n) refl refl ∙ r
 
-  counts_past : (t : Term ℕ) (w w' : Progress) (cs : List PathReduction) → Counts w → Table w cs → After w w' cs (expression_piece m count t)
+  counts_past : (t : Term ℕ) (w w' : Scan) (cs : List PathReduction) → Counts w → Table w cs → After w w' cs (expression_piece m count t)
       → Counts w'
   counts_past t w w' cs r b a = kept w w' (omega (arith, a.table.count, b.count)) (omega (arith, a.reductions)) ∙ r
 
   -- an index is read by its step
-  index_is : (d : ℕ) (w : Progress) → w.at < length s → w.terms < 64 → get_or s w.at 0 ≡ index_tag m → term_step m (suc d) s w
+  index_is : (d : ℕ) (w : Scan) → w.at < length s → w.terms < 64 → get_or s w.at 0 ≡ index_tag m → term_step m (suc d) s w
       ≡ index_step s w (held w)
   index_is d w h k tag = step_is s m d w h k ∙ rw (tag, no_literal, no_operator) (is_index w)
 
@@ -358,7 +358,7 @@ module _ (s : List ℕ) (m : TermKind) (count : ℕ) (few : count ≤ 256) (held
       let below : i < count = room.fine in
       let made : index_step s w (held w) ≡ alone (advanced w (w.at + 1 + 1)) = rw (b, le-ltb 255 i (omega arith), r, lt-leb count i below) refl in
       let reads = read_by s m d w z (alone (advanced w (w.at + 1 + 1))) (index_is d w h (omega (arith, room.terms)) tag ∙ made) in
-      subst (λ (v : Progress). After w v cs (expression_piece m count (leaf i))) (sym reads)
+      subst (λ (v : Scan). After w v cs (expression_piece m count (leaf i))) (sym reads)
       (record { code = z; at = omega arith; terms = refl; reductions = omega arith; table = table_advanced w cs (w.at + 1 + 1) t })
 
   -- THE BYTES OF A LEGAL EXPRESSION ARE READ AS IT
@@ -369,7 +369,7 @@ module _ (s : List ℕ) (m : TermKind) (count : ℕ) (few : count ≤ 256) (held
       apply_complete s m Counts counts_on o (expression_piece m count t) (expression_piece m count u) (expression_complete t) (expression_complete u)
       (counts_past t)
 
-  index_sound : (d : ℕ) (w : Progress) (cs : List PathReduction) → w.code ≡ 0 → Table w cs → Counts w → w.at < length s → w.terms < 64
+  index_sound : (d : ℕ) (w : Scan) (cs : List PathReduction) → w.code ≡ 0 → Table w cs → Counts w → w.at < length s → w.terms < 64
       → eqb (get_or s w.at 0) (literal_tag m) ≡ false → eqb (get_or s w.at 0) (literal_tag m + 1) ≡ false → (read m (suc d) s w).code ≡ 0
       → Found s Counts (Term ℕ) (expression_piece m count) (suc d) w cs
   unfolding index_step
@@ -383,7 +383,7 @@ module _ (s : List ℕ) (m : TermKind) (count : ℕ) (few : count ≤ 256) (held
           let here = present s (w.at + 1) (ltb-false 255 (get_or s (w.at + 1) 256) p) in (
             leaf (get_or s (w.at + 1) 256),
             drop (w.at + 1 + 1) s,
-            drop_at s w.at h ∙ ap₂ (λ (x : ℕ) (l : List ℕ). x ∷ l) (get_d_any s w.at 256 0 h ∙ tag) (drop_at s (w.at + 1) here),
+            drop_at s w.at h ∙ ap₂ (λ (x : ℕ) (l : List ℕ). x ∷ l) (get_or_any s w.at 256 0 h ∙ tag) (drop_at s (w.at + 1) here),
             record {
               fine = let l = leb-false (held w) (get_or s (w.at + 1) 256) q in omega arith;
               shallow = omega arith;

@@ -17,7 +17,7 @@ use Rattle.fields.specs.Fields.{code_of, key_code}
 use Rattle.packed_path.specs.Packed.{keys_number}
 use Rattle.packed_path.proofs.Keys.{digits, known_range, legal_parts}
 use Rattle.path_fields.specs.Paths.{key_fields_code, keys_at, keys_code, used}
-use Rattle.wire.proofs.Past.{get_d_past}
+use Rattle.wire.proofs.Past.{get_or_past}
 
 -- a byte of the rest from i on, by its index there
 pub nth : (s : List ℕ) (i j k d : ℕ) → k ≡ i + j → get_or s k d ≡ get_or (drop i s) j d
@@ -97,7 +97,7 @@ module _ (s : List ℕ) where
     where
       go : Dec (i < length s) → i < length s
       go (yes l) = l
-      go (no l) = absurd (omega (arith, get_d_past s i 256 (omega arith)))
+      go (no l) = absurd (omega (arith, get_or_past s i 256 (omega arith)))
 
   -- the rest from a byte that is there
   pub drop_at : (i : ℕ) → i < length s → drop i s ≡ get_or s i 256 ∷ drop (i + 1) s

@@ -11,7 +11,7 @@ use Rattle.meaning.specs.Query.{PathReduction}
 use Rattle.wire.specs.Header.{then}
 use Rattle.wire.specs.Wire.{Bytes, le16}
 use Rattle.wire.proofs.Codes.{then_both, then_zero}
-use Rattle.wire.proofs.Past.{get_d_any}
+use Rattle.wire.proofs.Past.{get_or_any}
 use Rattle.fields.specs.Fields.{code_of, source_code}
 use Rattle.packed_path.specs.Packed.{packed}
 use Rattle.path_fields.specs.Paths.{key_fields_code, path_at, path_code, set_at, set_code, starts_code}
@@ -42,7 +42,7 @@ module _ (s : List ℕ) where
       let ss = v.1.0 in
       let h1 = present s (i + 1 + n + 1) v.0 in
       let small = bytes (i + 1 + n) in
-      let same = get_d_any s (i + 1 + n) 0 256 (omega arith) in
+      let same = get_or_any s (i + 1 + n) 0 256 (omega arith) in
       let two = two_bytes low high (omega arith) (omega arith) in
       let tail : drop (i + 1 + n) s ≡ le16 (start_of ss) ++ drop (i + 3 + n) s =
       rw (v.1.2, two.0, two.1) (drop_at s (i + 1 + n) (omega arith)

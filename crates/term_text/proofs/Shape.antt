@@ -12,11 +12,11 @@ use Rattle.meaning.specs.Plan.{among, put, put_all}
 use Rattle.meaning.specs.Query.{PathReduction}
 use Rattle.meaning.proofs.Paths.{put_all_append}
 use Rattle.wire.specs.Wire.{Bytes, le32}
-use Rattle.progress.specs.declared.Progress.{Progress}
+use Rattle.progress.specs.Progress.{Scan}
 use Rattle.fields.specs.Fields.{code_of}
 use Rattle.terms.specs.declared.TermKind.{TermKind}
 use Rattle.terms.specs.Terms.{advanced, alone, apply_step, literal_step, literal_tag, read, term_step}
-use Rattle.wire.proofs.Past.{get_d_any}
+use Rattle.wire.proofs.Past.{get_or_any}
 use Rattle.terms.proofs.Laws.{accepted_as, read_accepted}
 use Rattle.term_text.proofs.Fields.{code_range, code_zero, drop_at, nth, present}
 use Rattle.term_text.proofs.Steps.{drop_on, four_bytes, read_by, read_flat, read_starts, step_is, stops, table_advanced, tag_there, there}
@@ -60,7 +60,7 @@ abbrev pub apply_piece : TermKind → ℕ → Piece → Piece → Piece
 apply_piece m o = two_piece (literal_tag m + 1) o 11 ◌+◌
 
 -- the piece is legal after what w has read, with d levels of depth left
-pub record Room (d : ℕ) (w : Progress) (cs : List PathReduction) (P : Piece) : Type 0 where
+pub record Room (d : ℕ) (w : Scan) (cs : List PathReduction) (P : Piece) : Type 0 where
   pub fine : P.fine
   pub shallow : P.deep ≤ d
   pub terms : w.terms + P.size ≤ 64
@@ -68,7 +68,7 @@ pub record Room (d : ℕ) (w : Progress) (cs : List PathReduction) (P : Piece) :
   pub reductions : w.reductions + P.count ≤ 8
 
 -- w' has read the piece after w
-abbrev pub After : Progress → Progress → List PathReduction → Piece → Type 0
+abbrev pub After : Scan → Scan → List PathReduction → Piece → Type 0
 After w w' cs P = Further w w' (put_all cs P.paths) (length P.bytes) (w.terms + P.size) (w.reductions + P.count)
 
 -- with more path reductions put after it a list is no shorter
@@ -80,22 +80,22 @@ put_all_grows cs (d ∷ ds) = omega (arith, grows (among d cs), put_all_grows (p
     grows true = omega arith
     grows false = omega (arith, length-append cs (d ∷ []))
 
-module _ (s : List ℕ) (Ready : Progress → Type 0) where
+module _ (s : List ℕ) (Ready : Scan → Type 0) where
   -- the bytes of the piece are read as it
   abbrev pub Complete : TermKind → Piece → Type 0
   Complete m P =
-      (d : ℕ) (w : Progress) (cs : List PathReduction) (rest : List ℕ) → w.code ≡ 0 → Table w cs → Ready w → drop w.at s ≡ P.bytes ++ rest
+      (d : ℕ) (w : Scan) (cs : List PathReduction) (rest : List ℕ) → w.code ≡ 0 → Table w cs → Ready w → drop w.at s ≡ P.bytes ++ rest
       → Room d w cs P → After w (read m d s w) cs P
 
   -- what has read the piece is as ready as before
   abbrev pub Past : Piece → Type 0
-  Past P = (w w' : Progress) (cs : List PathReduction) → Ready w → Table w cs → After w w' cs P → Ready w'
+  Past P = (w w' : Scan) (cs : List PathReduction) → Ready w → Table w cs → After w w' cs P → Ready w'
 
   -- a legal term of T whose bytes stand next; two of them, behind two bytes
-  abbrev pub Found : (T : Type 0) → (T → Piece) → ℕ → Progress → List PathReduction → Type 0
+  abbrev pub Found : (T : Type 0) → (T → Piece) → ℕ → Scan → List PathReduction → Type 0
   Found T piece d w cs = (t : T) × (rest : List ℕ) × (drop w.at s ≡ (piece t).bytes ++ rest) × Room d w cs (piece t)
 
-  abbrev pub FoundTwo : (T : Type 0) → (T → Piece) → (tag o most : ℕ) → (ℕ → ℕ → ℕ) → ℕ → Progress → List PathReduction → Type 0
+  abbrev pub FoundTwo : (T : Type 0) → (T → Piece) → (tag o most : ℕ) → (ℕ → ℕ → ℕ) → ℕ → Scan → List PathReduction → Type 0
   FoundTwo T piece tag o most count d w cs =
       (t : T) × (u : T) × (rest : List ℕ) × (drop w.at s ≡ (two_piece tag o most count (piece t) (piece u)).bytes ++ rest)
       × Room d w cs (two_piece tag o most count (piece t) (piece u))
@@ -103,10 +103,10 @@ module _ (s : List ℕ) (Ready : Progress → Type 0) where
   -- what is read with d levels of depth is such a term
   abbrev pub Sound : TermKind → (T : Type 0) → (T → Piece) → ℕ → Type 0
   Sound m T piece d =
-      (w : Progress) (cs : List PathReduction) → w.code ≡ 0 → Table w cs → Ready w → (read m d s w).code ≡ 0 → Found T piece d w cs
+      (w : Scan) (cs : List PathReduction) → w.code ≡ 0 → Table w cs → Ready w → (read m d s w).code ≡ 0 → Found T piece d w cs
 
   -- w1 stands behind the first two bytes of a term at w, which is r reductions
-  pub record Behind (w w1 : Progress) (cs : List PathReduction) (r : ℕ) : Type 0 where
+  pub record Behind (w w1 : Scan) (cs : List PathReduction) (r : ℕ) : Type 0 where
     pub code : w1.code ≡ 0
     pub at : w1.at ≡ w.at + 2
     pub terms : w1.terms ≡ w.terms + 1
@@ -115,17 +115,17 @@ module _ (s : List ℕ) (Ready : Progress → Type 0) where
     pub ready : Ready w1
 
   -- two bytes, and a text behind them
-  behind_text : (w w1 : Progress) (cs : List PathReduction) (r tag : ℕ) (l : List ℕ) → Behind w w1 cs r → w.at < length s → get_or s w.at 0 ≡ tag
+  behind_text : (w w1 : Scan) (cs : List PathReduction) (r tag : ℕ) (l : List ℕ) → Behind w w1 cs r → w.at < length s → get_or s w.at 0 ≡ tag
       → w.at + 1 < length s → drop w1.at s ≡ l → drop w.at s ≡ tag ∷ get_or s (w.at + 1) 256 ∷ l
   behind_text w w1 cs r tag l b h first k e =
       drop_at s w.at h
-      ∙ ap₂ (λ (x : ℕ) (l : List ℕ). x ∷ l) (get_d_any s w.at 256 0 h ∙ first)
+      ∙ ap₂ (λ (x : ℕ) (l : List ℕ). x ∷ l) (get_or_any s w.at 256 0 h ∙ first)
       (drop_at s (w.at + 1) k
       ∙ ap (λ (l : List ℕ). get_or s (w.at + 1) 256 ∷ l)
       (ap (λ (i : ℕ). drop i s) (let p : w.at + 1 + 1 ≡ w1.at = omega (arith, b.at) in p) ∙ e))
 
   -- TWO BYTES AND ONE TERM
-  module _ (m inner : TermKind) (tag most r : ℕ) (count : ℕ → ℕ) (adds : (x : ℕ) → count x ≡ r + x) (d : ℕ) (w w1 : Progress)
+  module _ (m inner : TermKind) (tag most r : ℕ) (count : ℕ → ℕ) (adds : (x : ℕ) → count x ≡ r + x) (d : ℕ) (w w1 : Scan)
       (cs : List PathReduction)
       (b : Behind w w1 cs r) (reads : read m (suc d) s w ≡ read inner d s w1) where
     pub one_complete : (o : ℕ) (P : Piece) → Complete inner P → (rest : List ℕ) → drop w.at s ≡ (one_piece tag o most count P).bytes ++ rest
@@ -142,7 +142,7 @@ module _ (s : List ℕ) (Ready : Progress → Type 0) where
           paths = room.paths;
           reductions = omega (arith, room.reductions, b.reductions, more);
         }) in
-        subst (λ (v : Progress). After w v cs (one_piece tag o most count P)) (sym reads)
+        subst (λ (v : Scan). After w v cs (one_piece tag o most count P)) (sym reads)
         (record {
           code = a.code;
           at = omega (arith, a.at, b.at);
@@ -170,7 +170,7 @@ module _ (s : List ℕ) (Ready : Progress → Type 0) where
         )
 
   -- TWO BYTES AND TWO TERMS
-  module _ (m inner : TermKind) (tag most r : ℕ) (count : ℕ → ℕ → ℕ) (adds : (x y : ℕ) → count x y ≡ r + x + y) (d : ℕ) (w w1 : Progress)
+  module _ (m inner : TermKind) (tag most r : ℕ) (count : ℕ → ℕ → ℕ) (adds : (x y : ℕ) → count x y ≡ r + x + y) (d : ℕ) (w w1 : Scan)
       (cs : List PathReduction) (b : Behind w w1 cs r) (reads : read m (suc d) s w ≡ read inner d s (read inner d s w1)) where
     pub two_complete : (o : ℕ) (P Q : Piece) → Complete inner P → Complete inner Q → Past P → (rest : List ℕ)
         → drop w.at s ≡ (two_piece tag o most count P Q).bytes ++ rest
@@ -191,7 +191,7 @@ module _ (s : List ℕ) (Ready : Progress → Type 0) where
           paths = few;
           reductions = omega (arith, room.reductions, b.reductions, more);
         }) in
-        let w2 : Progress = read inner d s w1 in
+        let w2 : Scan = read inner d s w1 in
         let e2 : drop w2.at s ≡ Q.bytes ++ rest =
         ap (λ (i : ℕ). drop i s) a.at ∙ drop_on s w1.at (length P.bytes) P.bytes (Q.bytes ++ rest) e1 refl in
         let c = second d w2 (put_all cs P.paths) rest a.code a.table (past w1 w2 cs b.ready b.table a) e2
@@ -202,7 +202,7 @@ module _ (s : List ℕ) (Ready : Progress → Type 0) where
           paths = omega (arith, room.paths, ap length grow);
           reductions = omega (arith, room.reductions, a.reductions, b.reductions, more);
         }) in
-        subst (λ (v : Progress). After w v cs (two_piece tag o most count P Q)) (sym reads)
+        subst (λ (v : Scan). After w v cs (two_piece tag o most count P Q)) (sym reads)
         (record {
           code = c.code;
           at = omega (arith, c.at, a.at, b.at, length-append P.bytes Q.bytes);
@@ -218,7 +218,7 @@ module _ (s : List ℕ) (Ready : Progress → Type 0) where
         let f = sound w1 cs b.code b.table b.ready (read_accepted inner d s (read inner d s w1) (accepted_as reads e)) in
         second f.0 f.1 f.2 f.3
       where
-        w2 : Progress
+        w2 : Scan
         w2 = read inner d s w1
 
         third : (t u : T) (before rest : List ℕ) → After w1 w2 cs (piece t) → drop w1.at s ≡ (piece t).bytes ++ before → Room d w1 cs (piece t)
@@ -251,9 +251,9 @@ module _ (s : List ℕ) (Ready : Progress → Type 0) where
             let g = sound w2 (put_all cs (piece t).paths) a.code a.table (past t w1 w2 cs b.ready b.table a) (accepted_as reads e) in
             third t g.0 rest g.1 a e1 x g.2 g.3
 
-module _ (s : List ℕ) (m : TermKind) (Ready : Progress → Type 0) (on : (w : Progress) (n : ℕ) → Ready w → Ready (advanced w n)) where
+module _ (s : List ℕ) (m : TermKind) (Ready : Scan → Type 0) (on : (w : Scan) (n : ℕ) → Ready w → Ready (advanced w n)) where
   -- LITERALS: a term with that tag is read by its step
-  literal_step_is : (d : ℕ) (w : Progress) → w.at < length s → w.terms < 64 → get_or s w.at 0 ≡ literal_tag m
+  literal_step_is : (d : ℕ) (w : Scan) → w.at < length s → w.terms < 64 → get_or s w.at 0 ≡ literal_tag m
       → term_step m (suc d) s w ≡ literal_step s w
   literal_step_is d w h k tag = step_is s m d w h k ∙ rw (tag, eq-eqb (literal_tag m) (literal_tag m) refl) refl
 
@@ -266,10 +266,10 @@ module _ (s : List ℕ) (m : TermKind) (Ready : Progress → Type 0) (on : (w : 
       let last : get_or s (w.at + 4) 256 ≡ k / 65536 / 256 % 256 = rw (nth s w.at 4 (w.at + 4) 256 refl, e) refl in
       let made : literal_step s w ≡ alone (advanced w (w.at + 4 + 1)) = rw (last, le-ltb 255 (k / 65536 / 256 % 256) (omega arith)) refl in
       let reads = read_by s m d w z (alone (advanced w (w.at + 4 + 1))) (literal_step_is d w i (omega (arith, room.terms)) tag ∙ made) in
-      subst (λ (v : Progress). After w v cs (literal_piece m k)) (sym reads)
+      subst (λ (v : Scan). After w v cs (literal_piece m k)) (sym reads)
       (record { code = z; at = omega arith; terms = refl; reductions = omega arith; table = table_advanced w cs (w.at + 4 + 1) t })
 
-  literal_found : Bytes s → (d : ℕ) (w : Progress) (cs : List PathReduction) → w.code ≡ 0 → Table w cs → w.at < length s → w.terms < 64
+  literal_found : Bytes s → (d : ℕ) (w : Scan) (cs : List PathReduction) → w.code ≡ 0 → Table w cs → w.at < length s → w.terms < 64
       → get_or s w.at 0 ≡ literal_tag m → (read m (suc d) s w).code ≡ 0 → Found s Ready ℕ (literal_piece m) (suc d) w cs
   unfolding literal_step
   literal_found bytes d w cs z t h k tag e = go (ltb 255 (get_or s (w.at + 4) 256)) refl
@@ -287,7 +287,7 @@ module _ (s : List ℕ) (m : TermKind) (Ready : Progress → Type 0) (on : (w : 
             b1 + 256 * b2 + 65536 * (b3 + 256 * b4),
             drop (w.at + 5) s,
             drop_at s w.at h
-                ∙ ap₂ (λ (x : ℕ) (l : List ℕ). x ∷ l) (get_d_any s w.at 256 0 h ∙ tag)
+                ∙ ap₂ (λ (x : ℕ) (l : List ℕ). x ∷ l) (get_or_any s w.at 256 0 h ∙ tag)
                 (next 1 2 (omega arith) (omega arith)
                 ∙ ap (λ (l : List ℕ). b1 ∷ l) (next 2 3 (omega arith) (omega arith)
                 ∙ ap (λ (l : List ℕ). b2 ∷ l) (next 3 4 (omega arith) (omega arith)
@@ -297,7 +297,7 @@ module _ (s : List ℕ) (m : TermKind) (Ready : Progress → Type 0) (on : (w : 
           )
         where
           small : (i : ℕ) → w.at + i < length s → get_or s (w.at + i) 256 < 256
-          small i l = rw (get_d_any s (w.at + i) 256 0 l) (bytes (w.at + i))
+          small i l = rw (get_or_any s (w.at + i) 256 0 l) (bytes (w.at + i))
 
           next : (i j : ℕ) → w.at + i < length s → w.at + i + 1 ≡ w.at + j → drop (w.at + i) s ≡ get_or s (w.at + i) 256 ∷ drop (w.at + j) s
           next i j l q = drop_at s (w.at + i) l ∙ ap (λ (n : ℕ). get_or s (w.at + i) 256 ∷ drop n s) q
@@ -307,19 +307,19 @@ module _ (s : List ℕ) (m : TermKind) (Ready : Progress → Type 0) (on : (w : 
       go false p = there_is (present s (w.at + 4) (ltb-false 255 (get_or s (w.at + 4) 256) p))
 
   -- OPERATORS: two bytes and two terms of the same kind
-  apply_step_is : (d : ℕ) (w : Progress) → w.at < length s → w.terms < 64 → get_or s w.at 0 ≡ literal_tag m + 1
+  apply_step_is : (d : ℕ) (w : Scan) → w.at < length s → w.terms < 64 → get_or s w.at 0 ≡ literal_tag m + 1
       → term_step m (suc d) s w ≡ apply_step m s w
   apply_step_is d w h k tag =
       step_is s m d w h k
       ∙ rw (tag, ne_eqb (literal_tag m + 1) (literal_tag m) (λ p. omega arith), eq-eqb (literal_tag m + 1) (literal_tag m + 1) refl) refl
 
-  apply_reads : (d : ℕ) (w : Progress) → w.code ≡ 0 → w.at < length s → w.terms < 64 → get_or s w.at 0 ≡ literal_tag m + 1
+  apply_reads : (d : ℕ) (w : Scan) → w.code ≡ 0 → w.at < length s → w.terms < 64 → get_or s w.at 0 ≡ literal_tag m + 1
       → code_of (get_or s (w.at + 1) 256) 11 ≡ 0 → read m (suc d) s w ≡ read m d s (read m d s (advanced w (w.at + 1 + 1)))
   unfolding apply_step
   apply_reads d w z h k tag c =
       read_by s m d w z (record { progress = advanced w (w.at + 1 + 1); follow = 2; inner = m }) (apply_step_is d w h k tag ∙ rw c refl)
 
-  apply_behind : (w : Progress) (cs : List PathReduction) → w.code ≡ 0 → Table w cs → Ready w → Behind s Ready w (advanced w (w.at + 1 + 1)) cs 0
+  apply_behind : (w : Scan) (cs : List PathReduction) → w.code ≡ 0 → Table w cs → Ready w → Behind s Ready w (advanced w (w.at + 1 + 1)) cs 0
   unfolding advanced
   apply_behind w cs z t r = record {
     code = z;
@@ -344,8 +344,8 @@ module _ (s : List ℕ) (m : TermKind) (Ready : Progress → Type 0) (on : (w : 
 
   -- WHAT IS READ IS A LEGAL TERM, of terms that have literals and operators, and where other tags lead to one
   module _ (T : Type 0) (piece : T → Piece) (complete : (t : T) → Complete s Ready m (piece t)) (past : (t : T) → Past s Ready (piece t))
-      (a_literal : (d : ℕ) (w : Progress) (cs : List PathReduction) → Found s Ready ℕ (literal_piece m) d w cs → Found s Ready T piece d w cs)
-      (an_operator : (o d : ℕ) (w : Progress) (cs : List PathReduction) → FoundTwo s Ready T piece (literal_tag m + 1) o 11 ◌+◌ d w cs
+      (a_literal : (d : ℕ) (w : Scan) (cs : List PathReduction) → Found s Ready ℕ (literal_piece m) d w cs → Found s Ready T piece d w cs)
+      (an_operator : (o d : ℕ) (w : Scan) (cs : List PathReduction) → FoundTwo s Ready T piece (literal_tag m + 1) o 11 ◌+◌ d w cs
       → Found s Ready T piece d w cs) (bytes : Bytes s) where
     pub none_found : Sound s Ready m T piece zero
     none_found w cs z t r e = absurd (read_flat s m w z e)
@@ -353,7 +353,7 @@ module _ (s : List ℕ) (m : TermKind) (Ready : Progress → Type 0) (on : (w : 
     -- what stands behind any other tag
     abbrev pub LeafSound : ℕ → Type 0
     LeafSound d =
-        (w : Progress) (cs : List PathReduction) → w.code ≡ 0 → Table w cs → Ready w → w.at < length s → w.terms < 64
+        (w : Scan) (cs : List PathReduction) → w.code ≡ 0 → Table w cs → Ready w → w.at < length s → w.terms < 64
         → eqb (get_or s w.at 0) (literal_tag m) ≡ false → eqb (get_or s w.at 0) (literal_tag m + 1) ≡ false → (read m (suc d) s w).code ≡ 0
         → Found s Ready T piece (suc d) w cs
 

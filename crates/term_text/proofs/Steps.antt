@@ -10,9 +10,9 @@ use lib.ListN.{length, get_or, drop, length-drop}
 use lib.Seq.{drop-drop, drop-append_seam}
 use Rattle.meaning.specs.Query.{PathReduction}
 use Rattle.wire.specs.Wire.{at32, le32}
-use Rattle.terms.specs.declared.Step.{Step}
+use Rattle.terms.specs.Terms.{Step}
 use Rattle.terms.specs.declared.TermKind.{TermKind}
-use Rattle.progress.specs.declared.Progress.{Progress}
+use Rattle.progress.specs.Progress.{Scan}
 use Rattle.terms.specs.Terms.{advanced, apply_step, leaf_step, literal_step, literal_tag, read, refused_step, term_step}
 use Rattle.progress.specs.Progress.{blank}
 use Rattle.terms.proofs.Laws.{accepted_as, read_next}
@@ -44,22 +44,22 @@ drop_on s i n l m e h = sym (drop-drop n i s) ∙ ap (drop n) e ∙ drop_at'
     drop_at' = ap (λ (k : ℕ). drop k (l ++ m)) (sym h) ∙ drop-append_seam l m
 
 -- the table is carried along
-pub table_advanced : (w : Progress) (cs : List PathReduction) (n : ℕ) → Table w cs → Table (advanced w n) cs
+pub table_advanced : (w : Scan) (cs : List PathReduction) (n : ℕ) → Table w cs → Table (advanced w n) cs
 unfolding advanced
 table_advanced w cs n t =
     record { legal = t.legal; count = t.count; few = t.few; rest = t.rest; holds = t.holds; size = t.size; few_reductions = t.few_reductions }
 
 module _ (s : List ℕ) (m : TermKind) where
   -- what the tag of a term says
-  abbrev tagged : ℕ → Progress → Step
+  abbrev tagged : ℕ → Scan → Step
   tagged tag w = cond (eqb tag (literal_tag m)) (literal_step s w) (cond (eqb tag (literal_tag m + 1)) (apply_step m s w) (leaf_step m tag s w))
 
   -- a step within the limits goes by the tag; and a term is read by its step
-  pub step_is : (d : ℕ) (w : Progress) → w.at < length s → w.terms < 64 → term_step m (suc d) s w ≡ tagged (get_or s w.at 0) w
+  pub step_is : (d : ℕ) (w : Scan) → w.at < length s → w.terms < 64 → term_step m (suc d) s w ≡ tagged (get_or s w.at 0) w
   unfolding term_step
   step_is d w h k = rw (lt-leb (length s) w.at h, lt-leb 64 w.terms k, ne_eqb (suc d) 0 (λ e. omega arith)) refl
 
-  pub read_by : (d : ℕ) (w : Progress) → w.code ≡ 0 → (h : Step) → term_step m (suc d) s w ≡ h
+  pub read_by : (d : ℕ) (w : Scan) → w.code ≡ 0 → (h : Step) → term_step m (suc d) s w ≡ h
       → read m (suc d) s w ≡ cond (eqb h.follow 0) h.progress
       (cond (eqb h.follow 1) (read h.inner d s h.progress) (read h.inner d s (read h.inner d s h.progress)))
   read_by d w z h e =
@@ -67,13 +67,13 @@ module _ (s : List ℕ) (m : TermKind) where
       rw (read_next m (suc d) s w (λ n. omega arith), eq-eqb w.code 0 z, e, p) refl
 
   -- a step that stops refuses
-  pub stops : (d : ℕ) (w : Progress) → w.code ≡ 0 → (k : ℕ) → (k ≡ 0 → ⊥) → term_step m (suc d) s w ≡ refused_step k
+  pub stops : (d : ℕ) (w : Scan) → w.code ≡ 0 → (k : ℕ) → (k ≡ 0 → ⊥) → term_step m (suc d) s w ≡ refused_step k
       → (read m (suc d) s w).code ≡ 0 → ⊥
   unfolding blank
   stops d w z k n p e = n (accepted_as (read_by d w z (refused_step k) p) e)
 
   -- nothing is read without depth, past the end, or beyond 64 terms
-  pub read_flat : (w : Progress) → w.code ≡ 0 → (read m zero s w).code ≡ 0 → ⊥
+  pub read_flat : (w : Scan) → w.code ≡ 0 → (read m zero s w).code ≡ 0 → ⊥
   unfolding read term_step blank
   read_flat w z e = go (leb (length s) w.at) (leb 64 w.terms) (rw (eq-eqb w.code 0 z) at e)
     where
@@ -82,7 +82,7 @@ module _ (s : List ℕ) (m : TermKind) where
       go false true e = omega arith
       go false false e = omega arith
 
-  pub read_starts : (d : ℕ) (w : Progress) → w.code ≡ 0 → (read m (suc d) s w).code ≡ 0 → (w.at < length s) × (w.terms < 64)
+  pub read_starts : (d : ℕ) (w : Scan) → w.code ≡ 0 → (read m (suc d) s w).code ≡ 0 → (w.at < length s) × (w.terms < 64)
   unfolding term_step
   read_starts d w z e = go (leb (length s) w.at) (leb 64 w.terms) refl refl
     where

@@ -16,7 +16,7 @@ use Rattle.meaning.proofs.Lists.{all_append, map_append}
 use Rattle.meaning.proofs.Paths.{position_at, position_below}
 use Rattle.walks.specs.Lists.{All}
 use Rattle.walks.proofs.Tests.{T_of}
-use Rattle.progress.specs.declared.Progress.{Progress}
+use Rattle.progress.specs.Progress.{Scan}
 use Rattle.terms.specs.Terms.{kept_path, slot_of}
 use Rattle.progress.specs.Progress.{blank}
 use Rattle.terms.proofs.Laws.{accepted_as}
@@ -25,7 +25,7 @@ use Rattle.packed_path.specs.Packed.{no_path, packed}
 use Rattle.packed_path.proofs.Packed.{same_as}
 
 -- the state w holds the path reductions cs, and has met at most eight reductions
-pub record Table (w : Progress) (cs : List PathReduction) : Type 0 where
+pub record Table (w : Scan) (cs : List PathReduction) : Type 0 where
   pub legal : All (PathFits 256) cs
   pub count : w.paths ≡ length cs
   pub few : length cs ≤ 8
@@ -35,11 +35,11 @@ pub record Table (w : Progress) (cs : List PathReduction) : Type 0 where
   pub few_reductions : w.reductions ≤ 8
 
 -- its numbers come first in the table
-pub numbers_held : (w : Progress) (cs : List PathReduction) → Table w cs → take w.paths w.table ≡ map packed cs
+pub numbers_held : (w : Scan) (cs : List PathReduction) → Table w cs → take w.paths w.table ≡ map packed cs
 numbers_held w cs t = rw t.holds (take_at (map packed cs) t.rest w.paths (length-map cs packed ∙ sym t.count))
 
 -- w' stands n bytes after w, not refused, with z terms and e reductions, and holds the path reductions cs
-pub record Further (w w' : Progress) (cs : List PathReduction) (n z e : ℕ) : Type 0 where
+pub record Further (w w' : Scan) (cs : List PathReduction) (n z e : ℕ) : Type 0 where
   pub code : w'.code ≡ 0
   pub at : w'.at ≡ w.at + n
   pub terms : w'.terms ≡ z
@@ -93,14 +93,14 @@ position_none c (d ∷ cs) e = go (same_path c d) (position_none c cs) e
     go false f e = ap suc (f e)
 
 -- one path reduction more: the other fields stay
-pub record Put (w w' : Progress) (cs : List PathReduction) : Type 0 where
+pub record Put (w w' : Scan) (cs : List PathReduction) : Type 0 where
   pub code : w'.code ≡ w.code
   pub at : w'.at ≡ w.at
   pub terms : w'.terms ≡ w.terms
   pub reductions : w'.reductions ≡ w.reductions
   pub table : Table w' cs
 
-module _ (w : Progress) (cs : List PathReduction) (t : Table w cs) (c : PathReduction) (f : PathFits 256 c) where
+module _ (w : Scan) (cs : List PathReduction) (t : Table w cs) (c : PathReduction) (f : PathFits 256 c) where
   slot_is : slot_of 8 w.paths w.table (packed c) 0 ≡ position c cs
   slot_is =
       subst (λ (p : ℕ). slot_of 8 p w.table (packed c) 0 ≡ 0 + position c cs) (zero-add (length cs) ∙ sym t.count)
@@ -108,7 +108,7 @@ module _ (w : Progress) (cs : List PathReduction) (t : Table w cs) (c : PathRedu
       ∙ zero-add (position c cs)
 
   -- the state with the path reduction in slot i
-  abbrev stored : ℕ → Progress
+  abbrev stored : ℕ → Scan
   stored i =
       record {
         code = w.code;
@@ -170,7 +170,7 @@ module _ (w : Progress) (cs : List PathReduction) (t : Table w cs) (c : PathRedu
     where
       made : (ds : List PathReduction) → position c cs < 8 → Table (stored (position c cs)) ds → Put w (kept_path w (packed c)) ds
       made ds h s =
-          subst (λ (v : Progress). Put w v ds) (sym (kept_is ∙ rw (lt-leb 8 (position c cs) h) refl))
+          subst (λ (v : Scan). Put w v ds) (sym (kept_is ∙ rw (lt-leb 8 (position c cs) h) refl))
           (record { code = refl; at = refl; terms = refl; reductions = refl; table = s })
 
       go : (b : Bool) → among c cs ≡ b → length (cond b cs (cs ++ (c ∷ []))) ≤ 8

@@ -1,39 +1,42 @@
 -- The definitions step by step, as the code goes: a loop with one index less left, a call with one level of depth less. Assumes nothing.
-use Prim.Native.Nat.{ℕ, zero, suc, ◌+◌, ◌-◌, ◌<◌}
+use Prim.Native.Nat.{ℕ, zero, suc, ◌+◌, ◌-◌, ◌≤◌, ◌<◌}
 use mathlib.Core.Path.{◌≡◌, refl, sym, ap, ◌∙◌}
 use mathlib.Core.Bool.{Bool, true, false, cond}
 use mathlib.Core.List.{List}
 use native.Mathlib.Omega.{arith}
-use native.Mathlib.Nat.{not-suc-le-zero}
 use borrow.Author.Tests.{eqb-true, eqb-false, ne_eqb}
 use lib.Dec.{leb, eqb}
 use lib.ListN.{get_or}
 use Rattle.packed_path.specs.declared.PackedPath.{PackedPath}
 use Rattle.packed_path.specs.Packed.{no_path, same_packed}
-use Rattle.terms.specs.declared.Step.{Step}
+use Rattle.progress.specs.Progress.{Scan}
+use Rattle.terms.specs.Terms.{Step, read}
+use Rattle.terms.specs.Terms.{slot_of, term_step}
 use Rattle.terms.specs.declared.TermKind.{TermKind}
-use Rattle.progress.specs.declared.Progress.{Progress}
-use Rattle.terms.specs.Terms.{read, slot_of, term_step}
 
 -- one index of the table
-pub slot_next : (k paths : ℕ) (table : List PackedPath) (path : PackedPath) (i : ℕ) → 0 < k
-    → slot_of k paths table path i
-    ≡ cond (leb paths i) i (cond (same_packed (get_or table i no_path) path) i (slot_of (k - 1) paths table path (i + 1)))
+pub slot_next : (i paths : ℕ) (table : List PackedPath) (path : PackedPath) → i < 8
+    → slot_of (8 - i) paths table path i
+    ≡ cond (leb paths i) i (cond (same_packed (get_or table i no_path) path) i (slot_of (8 - (i + 1)) paths table path (i + 1)))
 unfolding slot_of
-slot_next zero paths table path i h = absurd (not-suc-le-zero h)
-slot_next (suc k) paths table path i h =
-    ap (λ (m : ℕ). cond (leb paths i) i (cond (same_packed (get_or table i no_path) path) i (slot_of m paths table path (i + 1))))
-    (let e : k ≡ suc k - 1 = omega arith in e)
+slot_next i paths table path h = let e : 8 - i ≡ suc (8 - (i + 1)) = omega arith in rw e refl
+
+-- and behind the last one
+pub slot_none : (i paths : ℕ) (table : List PackedPath) (path : PackedPath) → 8 ≤ i → slot_of (8 - i) paths table path i ≡ i
+unfolding slot_of
+slot_none i paths table path h = let e : 8 - i ≡ 0 = omega arith in rw e refl
+
+pub ruleset slots = (slot_next, slot_none)
 
 -- no depth left: the term alone
-pub read_none : (kind : TermKind) (left : ℕ) (s : List ℕ) (w : Progress) → left ≡ 0
+pub read_none : (kind : TermKind) (left : ℕ) (s : List ℕ) (w : Scan) → left ≡ 0
     → read kind left s w ≡ cond (eqb w.code 0) (term_step kind left s w).progress w
 unfolding read
 read_none kind zero s w e = refl
 read_none kind (suc left) s w e = absurd (omega arith)
 
 -- else the term and, with one level less, those that follow it
-pub read_next : (kind : TermKind) (left : ℕ) (s : List ℕ) (w : Progress) → (left ≡ 0 → ⊥)
+pub read_next : (kind : TermKind) (left : ℕ) (s : List ℕ) (w : Scan) → (left ≡ 0 → ⊥)
     → read kind left s w
     ≡ cond (eqb w.code 0)
     (let h = term_step kind left s w in
@@ -66,17 +69,17 @@ read_next kind (suc left) s w n = go (eqb w.code 0) (eqb h.follow 0) (eqb h.foll
     go false b c e = refl
 
 -- a refusal is handed on
-pub handed_on : (kind : TermKind) (left : ℕ) (s : List ℕ) (w : Progress) → (w.code ≡ 0 → ⊥) → read kind left s w ≡ w
+pub handed_on : (kind : TermKind) (left : ℕ) (s : List ℕ) (w : Scan) → (w.code ≡ 0 → ⊥) → read kind left s w ≡ w
 unfolding read
 handed_on kind zero s w n = rw (ne_eqb w.code 0 n) refl
 handed_on kind (suc left) s w n = rw (ne_eqb w.code 0 n, read) refl
 
 -- of two equal states one is accepted where the other is
-pub accepted_as : {v w : Progress} → v ≡ w → v.code ≡ 0 → w.code ≡ 0
-accepted_as p e = sym (ap (λ (x : Progress). x.code) p) ∙ e
+pub accepted_as : {v w : Scan} → v ≡ w → v.code ≡ 0 → w.code ≡ 0
+accepted_as p e = sym (ap (λ (x : Scan). x.code) p) ∙ e
 
 -- so what is read to its end was not refused before
-pub read_accepted : (kind : TermKind) (left : ℕ) (s : List ℕ) (w : Progress) → (read kind left s w).code ≡ 0 → w.code ≡ 0
+pub read_accepted : (kind : TermKind) (left : ℕ) (s : List ℕ) (w : Scan) → (read kind left s w).code ≡ 0 → w.code ≡ 0
 read_accepted kind left s w e = go (eqb w.code 0) refl
   where
     go : (b : Bool) → eqb w.code 0 ≡ b → w.code ≡ 0

@@ -1,4 +1,4 @@
--- Refusals in turn (`then`): which number comes first, and when there is none. Assumes nothing.
+-- Refusals: their numbers, and in turn (`then`): which number comes first, and when there is none. Assumes nothing.
 use Prim.Native.Nat.{ℕ, suc}
 use mathlib.Core.Path.{◌≡◌, refl}
 use mathlib.Core.Bool.{Bool, true, false, cond}
@@ -6,6 +6,10 @@ use native.Mathlib.Omega.{arith}
 use borrow.Author.Tests.{eqb-true, eqb-false, eq-eqb, ne_eqb}
 use lib.Dec.{eqb}
 use Rattle.wire.specs.Header.{then}
+use Rattle.wire.specs.Refusal.{number}
+use Rattle.wire.specs.declared.Refusal.{Refusal}
+use Rattle.wire.specs.declared.Refusal.TheVariants.{Short, Mark, Version, Vertices, Edges, Length, NoVertex, Capacity, Code, KeyOrder, Deep, Terms}
+use Rattle.wire.specs.declared.Refusal.TheVariants.{Source, Full, Room, NoRow, SourceOrder}
 
 -- where the first judgement refuses nothing the second counts; else the first
 pub then_none : (a b : ℕ) → a ≡ 0 → then a b ≡ b
@@ -41,3 +45,7 @@ past false k x e = (refl, e)
 pub held : (t : Bool) (k x : ℕ) → cond t x (suc k) ≡ 0 → (t ≡ true) × (x ≡ 0)
 held true k x e = (refl, e)
 held false k x e = absurd (let z : suc k ≡ 0 = e in omega arith)
+
+-- no refusal has the number 0
+pub number_some : (e : Refusal) → number e ≡ 0 → ⊥
+number_some e z = grind arith

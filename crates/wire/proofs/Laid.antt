@@ -1,19 +1,16 @@
--- Bytes laid at the front of a buffer: k is how many of the first n there are. What the proof of `lay` cites. Assumes nothing.
-use Prim.Native.Nat.{ℕ, ◌≤◌, ◌<◌, min}
+-- Bytes laid at the front of a buffer: k is how many of the first n there are. Assumes nothing.
+use Prim.Native.Nat.{ℕ, ◌≤◌, min}
 use mathlib.Core.Path.{◌≡◌, refl, sym, ap, ◌∙◌}
 use mathlib.Core.List.{List, ◌++◌}
 use native.Mathlib.Decide.{dec_le}
 use native.Mathlib.Omega.{arith}
-use borrow.Author.Tests.{lt-ltb, le-ltb}
+use borrow.Author.Tests.{le-ltb}
 use lib.ListN.{length, take, drop, length-take}
 use lib.Seq.{take_all, take-length}
-use Rattle.wire.specs.Wire.{done, refused, reply_number, reply_buffer, fitted}
+use Rattle.wire.specs.Wire.{done, reply_number, reply_buffer, fitted}
 
 module _ (s : List ℕ) (n k : ℕ) (e : k ≡ min n (length s)) where
-  -- the first k bytes are k, and are the first n
-  pub front_length : length (take k s) ≡ k
-  front_length = omega (arith, length-take k s)
-
+  -- the first n bytes are k, and are the first k
   whole_length : length (take n s) ≡ k
   whole_length = omega (arith, length-take n s)
 
@@ -24,10 +21,7 @@ module _ (s : List ℕ) (n k : ℕ) (e : k ≡ min n (length s)) where
       go (yes h) = ap (λ (j : ℕ). take j s) (let p : k ≡ n = omega arith in p)
       go (no h) = take_all k s (omega arith) ∙ sym (take_all n s (omega arith))
 
-  -- 15 where they exceed the buffer; else the number is k, and the buffer begins with them
-  pub laid_short : (out : List ℕ) → length out < k → fitted (take n s) (length out) ≡ refused 15
-  laid_short out h = rw (whole_length, lt-ltb (length out) k h) refl
-
+  -- where they fit the number is k, and the buffer begins with them
   laid_done : (out : List ℕ) → k ≤ length out → fitted (take n s) (length out) ≡ done (take n s)
   laid_done out h = rw (whole_length, le-ltb (length out) k h) refl
 

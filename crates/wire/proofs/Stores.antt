@@ -1,5 +1,5 @@
 -- Bytes stored into a buffer, one piece behind the other. Assumes nothing.
-use Prim.Native.Nat.{ℕ, suc, ◌+◌, ◌*◌, ◌/◌, ◌%◌, ◌≤◌, ◌<◌}
+use Prim.Native.Nat.{ℕ, suc, ◌+◌, ◌*◌, ◌≤◌, ◌<◌}
 use mathlib.Core.Path.{◌≡◌, refl, sym, ap, ◌∙◌}
 use mathlib.Core.List.{List, [], ◌∷◌, ◌++◌}
 use native.Mathlib.Numerals.{add-one}
@@ -7,7 +7,6 @@ use native.Mathlib.Omega.{arith}
 use native.Mathlib.Nat.{add-zero, add-suc, suc-add, zero-add}
 use lib.ListN.{length, get_or, take, drop, set}
 use lib.Seq.{take-suc, length-take-le, sets, sets-eq}
-use Rattle.wire.specs.Wire.{le16}
 
 -- two pieces
 pub sets_append : (out : List ℕ) (i : ℕ) (xs ys : List ℕ) → sets (sets out i xs) (i + length xs) ys ≡ sets out i (xs ++ ys)
@@ -24,18 +23,6 @@ sets_front out xs ys n e h =
     ∙ sets_append out 0 xs ys
     ∙ sets-eq (xs ++ ys) out 0 (omega arith)
     ∙ ap (λ (k : ℕ). (xs ++ ys) ++ drop k out) (zero-add (length (xs ++ ys)))
-
--- a 16-bit number, and four of them
-abbrev stored16 : List ℕ → ℕ → ℕ → List ℕ
-stored16 out i x = set (set out i (x % 256)) (i + 1) (x / 256 % 256)
-
-pub four_stored : (out : List ℕ) (i a b c d : ℕ) → stored16 (stored16 (stored16 (stored16 out i a) (i + 2) b) (i + 4) c) (i + 6) d
-    ≡ sets out i (le16 a ++ le16 b ++ le16 c ++ le16 d)
-four_stored out i a b c d =
-    let e2 : i + 2 ≡ suc (suc i) = omega arith in
-    let e4 : i + 4 ≡ suc (suc (suc (suc i))) = omega arith in
-    let e6 : i + 6 ≡ suc (suc (suc (suc (suc (suc i))))) = omega arith in
-    rw (add-one i, add-one (i + 2), add-one (i + 4), add-one (i + 6), e2, e4, e6)
 
 -- things of as many bytes each: one more behind the first i
 module _ {A : Type 0} (size : ℕ) (bytes : List A → List ℕ) (sized : (l : List A) → length (bytes l) ≡ size * length l)

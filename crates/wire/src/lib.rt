@@ -2,57 +2,72 @@
 // "Numbers at the desk").
 #![tactic(auto)]
 
-ghost use Rattle.std.specs.Prelude.{◌≡◌, ◌≤◌, min, length, get_or, take};
+ghost use Rattle.std.specs.Prelude.{◌≡◌, ◌≤◌, length, get_or, take};
 ghost use Rattle.wire.specs.Header.{header_code, version_code};
+ghost use Rattle.wire.specs.Refusal.{code, number_of};
 ghost use Rattle.wire.specs.Wire.{at16, at32, fitted, Returned};
 
-// A version that is not known: 3.
-fn version_code(version: u32, newest: u8) -> u8
-    ensures { result ≡ version_code newest version }
-{
-    if version == 0 {
-        return 3;
-    }
-    if (newest as u32) < version {
-        return 3;
-    }
-    0
+// Why a call refuses: its numbers are those of document 01, "Numbers at the desk", and 17 of document 02, b.
+#[derive(Clone, Copy, Debug, PartialEq, Eq)]
+pub enum Refusal {
+    Short = 1,
+    Mark = 2,
+    Version = 3,
+    Vertices = 4,
+    Edges = 5,
+    Length = 6,
+    NoVertex = 7,
+    Capacity = 8,
+    Code = 9,
+    KeyOrder = 10,
+    Deep = 11,
+    Terms = 12,
+    Source = 13,
+    Full = 14,
+    Room = 15,
+    NoRow = 16,
+    SourceOrder = 17,
 }
 
-// The refusal of a file's first five bytes, or 0: short (under five bytes, or under `least`), other letters, a version other than 1 to `newest`.
-pub fn judge_header(s: &[u8], letter: u8, newest: u8, least: usize) -> u8
-    ensures { result ≡ header_code letter newest least s.now }
+// How a call ends, as the one number that C is given: the bytes written, or 65,536 and the number of the refusal.
+pub fn number_of(end: Result<u16, Refusal>) -> u32
+    ensures { result ≡ number_of end }
 {
-    if s.len() < 5 {
-        return 1;
+    match end {
+        Ok(n) => u32::from(n),
+        Err(refusal) => 65536 + refusal as u32,
     }
-    if s.len() < least {
-        return 1;
+}
+
+// A version that is not known is refused.
+fn judge_version(version: u32, newest: u8) -> Result<(), Refusal>
+    ensures { code result ≡ version_code newest version }
+{
+    if version == 0 || u32::from(newest) < version {
+        return Err(Refusal::Version);
     }
-    if s[0] != 0x4c {
-        return 2;
+    Ok(())
+}
+
+// Judges a file's first five bytes: short (under five bytes, or under `least`), other letters, a version other than 1 to `newest`.
+#[tactic(auto, unfolding(crate::specs::Header::header_code))]
+pub fn judge_header(s: &[u8], letter: u8, newest: u8, least: usize) -> Result<(), Refusal>
+    ensures { code result ≡ header_code letter newest least s.now }
+{
+    if s.len() < 5 || s.len() < least {
+        return Err(Refusal::Short);
     }
-    if s[1] != 0x50 {
-        return 2;
+    if s[0] != 0x4c || s[1] != 0x50 || s[2] != letter {
+        return Err(Refusal::Mark);
     }
-    if s[2] != letter {
-        return 2;
-    }
-    version_code(half(s, 3), newest)
+    judge_version(half(s, 3), newest)
 }
 
 // The byte at i, or 0 past the end.
 pub fn byte(s: &[u8], i: usize) -> u8
     ensures { result ≡ get_or s.now i 0 }
 {
-    if i < s.len() { s[i] } else { 0 }
-}
-
-// A byte as a wider number.
-fn wide(b: u8) -> u32
-    ensures { (result ≡ b) × (result ≤ 255) }
-{
-    b as u32
+    s.get(i).copied().unwrap_or(0)
 }
 
 // 16 bits at i; bytes past the end read as 0.
@@ -62,7 +77,7 @@ pub fn half(s: &[u8], i: usize) -> u32
     if s.len() <= i {
         return 0;
     }
-    wide(s[i]) + 256 * wide(byte(s, i + 1))
+    u32::from(s[i]) + 256 * u32::from(byte(s, i + 1))
 }
 
 // 32 bits at i.
@@ -75,21 +90,14 @@ pub fn word(s: &[u8], i: usize) -> u32
     half(s, i) + 65536 * half(s, i + 2)
 }
 
-// The lesser of two.
-pub fn lesser(a: usize, b: usize) -> usize
-    ensures { (result ≡ min a b) × (result ≤ b) }
+// The first n bytes of src (all, where it has fewer) at the front of out, or 15 where they exceed it. How many they are.
+pub fn lay(src: &[u8], n: u16, out: &mut [u8]) -> Result<u16, Refusal>
+    ensures { Returned (fitted (take n src.now) (length out.old)) (number_of result) out.old out.new }
 {
-    if a <= b { a } else { b }
-}
-
-// The first n bytes of src (all, where it has fewer) at the front of out, or 15 where they exceed it.
-pub fn lay(src: &[u8], n: u16, out: &mut [u8]) -> u32
-    ensures { Returned (fitted (take n src.now) (length out.old)) result out.old out.new }
-{
-    let count = lesser(n as usize, src.len());
+    let count = src.len().min(n as usize);
     if out.len() < count {
-        return 65551;
+        return Err(Refusal::Room);
     }
     out[..count].copy_from_slice(&src[..count]);
-    count as u32
+    Ok(count as u16)
 }

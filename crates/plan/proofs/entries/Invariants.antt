@@ -1,13 +1,9 @@
-use mathlib.Core.Path.{◌≡◌}
-use mathlib.Core.List.{List}
-use Rattle.packed_path.specs.declared.PackedPath.{PackedPath}
-use Rattle.terms.specs.Steps.{held}
+use Rattle.std.proofs.Common.{◌≡◌, ◌-◌}
+use Rattle.progress.specs.Progress.{going}
 use Rattle.plan.specs.Plan.{entries_scan}
+use Rattle.plan.specs.Steps.{kind_byte}
 use Rattle.plan.proofs.entries.Given as goal
 
-abbrev pub invariant-loop-left : goal.invariant-loop-left
-invariant-loop-left l = (table : List PackedPath) → entries_scan l.k l.kind l.s (held l.initial.state table)
-    ≡ entries_scan l.left l.kind l.s (held l.state table)
-
-abbrev pub decreases-loop-left : goal.decreases-loop-left
-decreases-loop-left l = l.left
+abbrev pub invariant-loop : goal.invariant-loop
+invariant-loop l =
+    entries_scan l.k (kind_byte l.kind) l.s (going l.initial.w) ≡ entries_scan (l.k - l.counter) (kind_byte l.kind) l.s (going l.w)

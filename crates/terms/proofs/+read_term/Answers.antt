@@ -1,41 +1,25 @@
-use mathlib.Core.Path.{sym}
-use borrow.Author.Tests.{eq-eqb, ne_eqb}
-use Rattle.terms.proofs.Laws.{handed_on, read_none, read_next}
+use Prim.Native.Nat.{◌-◌}
+use mathlib.Core.Path.{◌≡◌, refl, sym, ap}
+use native.Mathlib.Omega.{arith}
+use lib.ListN.{get_or}
+use Rattle.progress.specs.Progress.{going}
+use Rattle.terms.specs.Terms.{Step, advanced}
+use Rattle.terms.proofs.Reading.{read_several, tagged_counts}
 use Rattle.terms.proofs.+read_term.Goals as goal
 
-pub returns-then-w-ne0 : goal.returns-then-w-ne0
-returns-then-w-ne0 t c = let a = c.args in sym (handed_on a.kind a.left a.s.now a.w c.if-w-ne0.true)
+pub overflow_add-w : goal.overflow_add-w
+unfolding advanced
+overflow_add-w t c =
+    let a = c.args in
+    let e = c.in_ok-term.ensures in
+    let counts = (tagged_counts (going a.w.now) a.kind (get_or a.s.now a.w.now.at 0) a.s.now (ap (λ (x : Step). x.progress.code) (sym e))).0 in
+    let terms = ap (λ (x : Step). x.progress.terms) e in
+    omega (arith, counts, terms)
 
-pub returns-then-left-eq0 : goal.returns-then-left-eq0
-returns-then-left-eq0 t c = rw (
-  read_none _ _ _ _ c.if-left-eq0.true,
-  eq-eqb _ _ c.if-w-ne0.false,
-  ← c.term_step_of-step.ensures,
-)
-
-pub returns-then-follow-eq0 : goal.returns-then-follow-eq0
-returns-then-follow-eq0 t c = rw (
-  read_next _ _ _ _ c.if-left-eq0.false,
-  eq-eqb _ _ c.if-w-ne0.false,
-  ← c.term_step_of-step.ensures,
-  eq-eqb _ _ c.if-follow-eq0.true,
-)
-
-pub returns-then-follow-eq1 : goal.returns-then-follow-eq1
-returns-then-follow-eq1 t c = rw (
-  read_next _ _ _ _ c.if-left-eq0.false,
-  eq-eqb _ _ c.if-w-ne0.false,
-  ← c.term_step_of-step.ensures,
-  ne_eqb _ _ c.if-follow-eq0.false,
-  eq-eqb _ _ c.if-follow-eq1.true,
-) c.read_term-first.ensures
-
-pub returns : goal.returns
-returns t c = rw (
-  read_next _ _ _ _ c.if-left-eq0.false,
-  eq-eqb _ _ c.if-w-ne0.false,
-  ← c.term_step_of-step.ensures,
-  ne_eqb _ _ c.if-follow-eq0.false,
-  ne_eqb _ _ c.if-follow-eq1.false,
-  ← c.read_term-first.ensures,
-) c.read_term.ensures
+pub loop-init : goal.loop-init
+unfolding advanced
+loop-init t c =
+    let a = c.args in
+    let f = c.in_ok-term.term.follow in
+    let all : f - 0 ≡ f = omega arith in
+    rw all (read_several a.kind a.left a.s.now (going a.w.now) refl c.if-s-w.false c.if-w-ge64.false c.if-left-eq0.false _ c.in_ok-term.ensures refl)

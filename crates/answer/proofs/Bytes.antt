@@ -1,18 +1,22 @@
 -- The bytes of answers: how many there are, and rows stored one behind the other. Assumes nothing.
-use Prim.Native.Nat.{ℕ, ◌+◌, ◌*◌, ◌≤◌, ◌<◌}
-use mathlib.Core.Path.{◌≡◌, refl, sym, ◌∙◌}
+use Prim.Native.Nat.{ℕ, ◌+◌, ◌-◌, ◌*◌, ◌/◌, ◌≤◌, ◌<◌}
+use mathlib.Core.Path.{◌≡◌, refl, sym, ap, ◌∙◌}
 use mathlib.Core.Bool.{Bool, true, false, cond}
 use mathlib.Core.List.{List, [], ◌∷◌, ◌++◌, append_assoc, append-nil}
 use native.Mathlib.Omega.{arith}
+use borrow.Rule.Slice.PartMut.{Post-is, put_mid}
 use lib.Dec.{eqb}
-use lib.ListN.{length, get_or, take, length-append, length-map, get_or-map}
-use lib.Seq.{length-take-le, sets}
+use lib.ListN.{length, get_or, take, drop, length-append, length-map}
+use lib.Seq.{length-take-le, sets, sets-eq}
 use Rattle.meaning.specs.Meaning.{Outcome}
+use Rattle.std.specs.Int.{to_le_bytes, w64}
 use Rattle.value.specs.declared.Row.{Row}
 use Rattle.value.specs.declared.Value.{Value}
 use Rattle.value.specs.declared.Value.TheVariants.{Absent, Number}
 use Rattle.value.specs.Value.{values}
+use Rattle.wire.specs.Wire.{le64}
 use Rattle.wire.proofs.Stores.{sets_more}
+use Rattle.meaning.proofs.Lists.{map_append}
 use Rattle.answer.specs.Answer.{answer_bytes, answer_rows, answer_size, encode, head_bytes, row_bytes, row_count, rows_bytes}
 
 -- ---- how many
@@ -47,6 +51,22 @@ answer_length n rounds kind vs h =
 
 -- ---- stored in turn
 
+-- bytes copied into a part of a buffer
+pub put_sets : (out : List ℕ) (a e : ℕ) (vs : List ℕ) → e ≡ a + length vs → e ≤ length out → put_mid a (e - a) out vs ≡ sets out a vs
+put_sets out a e vs p h =
+    ap (λ (t : List ℕ). take a out ++ (vs ++ t)) (Post-is a e out (omega arith))
+    ∙ rw p (sym (append_assoc (take a out) vs (drop (a + length vs) out)) ∙ sym (sets-eq vs out a (omega arith)))
+
+-- the library's bytes of 64 bits are those of the layout
+pub le64_bytes : (x : ℕ) → to_le_bytes w64 x ≡ le64 x
+le64_bytes x =
+    let y : ℕ = x / 4294967296 in
+    let a : x / 16777216 ≡ x / 65536 / 256 = omega arith in
+    let b : x / 1099511627776 ≡ y / 256 = omega arith in
+    let c : x / 281474976710656 ≡ y / 65536 = omega arith in
+    let d : x / 72057594037927936 ≡ y / 65536 / 256 = omega arith in
+    rw (a, b, c, d) refl
+
 -- the bytes of two lists are one behind the other
 rows_append : (us vs : List Value) → rows_bytes (us ++ vs) ≡ rows_bytes us ++ rows_bytes vs
 unfolding rows_bytes
@@ -55,9 +75,10 @@ rows_append (u ∷ us) vs = rw (rows_append us vs) (sym (append_assoc (row_bytes
 
 -- ROW i STORED BEHIND THOSE BEFORE IT
 pub row_more : (out : List ℕ) (rows : List Row) (i : ℕ) (d : Row) → i < length rows →
-    sets (sets out 10 (rows_bytes (take i (values rows)))) (10 + 9 * i) (row_bytes (get_or rows i d).value)
-    ≡ sets out 10 (rows_bytes (take (i + 1) (values rows)))
+    sets (sets out 10 (rows_bytes (values (take i rows)))) (10 + 9 * i) (row_bytes (get_or rows i d).value)
+    ≡ sets out 10 (rows_bytes (values (take (i + 1) rows)))
 unfolding rows_bytes
 row_more out rows i d h =
-    rw (← get_or-map (λ (r : Row). r.value) rows i d, ← append-nil (row_bytes (get_or (values rows) i d.value)))
-    (sets_more 9 rows_bytes rows_length rows_append out 10 (values rows) i d.value (omega (arith, length-map rows (λ (r : Row). r.value))))
+    rw (← append-nil (row_bytes (get_or rows i d).value))
+    (sets_more 9 (λ (l : List Row). rows_bytes (values l)) (λ l. rows_length (values l) ∙ rw (length-map l (λ (r : Row). r.value)))
+    (λ l k. ap rows_bytes (map_append (λ (r : Row). r.value) l k) ∙ rows_append (values l) (values k)) out 10 rows i d h)

@@ -1,5 +1,5 @@
 -- The writer's reply: by what is judged before there are values, and by the encoding of an outcome. Assumes nothing.
-use Prim.Native.Nat.{ℕ, ◌≤◌, ◌<◌}
+use Prim.Native.Nat.{ℕ, ◌≤◌, ◌<◌, min}
 use mathlib.Core.Path.{◌≡◌, refl, sym, ap, ◌∙◌}
 use mathlib.Core.Bool.{Bool, true, false, cond}
 use mathlib.Core.List.{List, [], ◌∷◌, ◌++◌}
@@ -109,9 +109,9 @@ module _ (n rounds kind : ℕ) (vs : List Value) (enough : Fields n kind → row
   pub reply_done : (room : ℕ) → answer_code n kind room ≡ 0 → answer_reply n rounds kind vs room ≡ done (answer_bytes n rounds kind vs)
   reply_done room z = reply_judged room ∙ rw (eq-eqb _ _ z)
 
--- 256 values are enough, of any kind
-pub enough_rows : (n kind : ℕ) (vs : List Value) → length vs ≡ 256 → Fields n kind → row_count n kind ≤ length vs
-enough_rows n kind vs full f = omega (arith, count_most n kind 256 f.few_vertices (omega arith))
+-- as many values as there are rows are enough, and 256 of any kind
+pub enough_rows : (n kind : ℕ) (vs : List Value) → min (row_count n kind) 256 ≤ length vs → Fields n kind → row_count n kind ≤ length vs
+enough_rows n kind vs h f = omega (arith, h, count_most n kind 256 f.few_vertices (omega arith))
 
 -- of kind 1 the first value alone is written
 pub reply_one : (n rounds : ℕ) (v : Value) (vs : List Value) (room : ℕ) → answer_reply n rounds 1 (v ∷ vs) room

@@ -1,11 +1,11 @@
 -- THE ACCEPTED BYTES ARE EXACTLY THE ENCODINGS OF LEGAL GRAPHS, and writing what was read yields the bytes read. Assumes nothing.
 use Prim.Native.Nat.{ℕ, zero, suc, ◌+◌, ◌*◌, ◌≤◌, ◌<◌, suc-le-suc}
-use mathlib.Core.Path.{◌≡◌, refl, sym, ap, ◌∙◌}
-use mathlib.Core.Bool.{Bool, true, false, cond}
+use mathlib.Core.Path.{◌≡◌, refl, ap, ◌∙◌}
+use mathlib.Core.Bool.{cond}
 use mathlib.Core.List.{List, [], ◌∷◌, ◌++◌}
 use native.Mathlib.Omega.{arith}
 use native.Mathlib.Nat.{le_of_suc-le-suc}
-use borrow.Author.Tests.{leb-false, eqb-false, eqb-true, le-ltb, lt-leb, eq-eqb, ne_eqb}
+use borrow.Author.Tests.{leb-false, eqb-false, le-ltb, lt-leb, eq-eqb, ne_eqb}
 use lib.Dec.{leb, eqb}
 use lib.ListN.{length, length-append}
 use Rattle.meaning.specs.Limits.{GraphLegal}
@@ -63,28 +63,18 @@ all_right n (e ∷ es) f = then_none (edge_code n e) (edges_code n es) (f 0 (ome
 
 -- ---- the typed form
 
--- the reader's number is the first refusal
-pub reading_code : (s : List ℕ) → (graph_reading s).code ≡ graph_code s
-unfolding graph_reading
-reading_code s = go (eqb (graph_code s) 0) refl
-  where
-    go : (b : Bool) → eqb (graph_code s) 0 ≡ b → (graph_reading s).code ≡ graph_code s
-    go true e = rw e (sym (eqb-true _ _ e))
-    go false e = rw e
-
 -- of accepted bytes the reader gives the typed form of their graph
-pub graph_read : (s : List ℕ) → graph_code s ≡ 0 → (graph_reading s).graph ≡ table_of (graph_of s)
-unfolding graph_reading
-graph_read s z = rw (eq-eqb _ _ z)
+pub graph_read : (s : List ℕ) → graph_code s ≡ 0 → graph_reading s ≡ table_of (graph_of s)
+graph_read s z = refl
 
 -- which means that graph
-pub table_read : (s : List ℕ) → graph_code s ≡ 0 → table_graph (graph_reading s).graph ≡ graph_of s
+pub table_read : (s : List ℕ) → graph_code s ≡ 0 → table_graph (graph_reading s) ≡ graph_of s
 table_read s z = ap table_graph (graph_read s z) ∙ typed (graph_of s)
 
 -- and has at most 1,024 rows
-pub read_few : (s : List ℕ) → graph_code s ≡ 0 → (graph_reading s).graph.count ≤ 1024
+pub read_few : (s : List ℕ) → graph_code s ≡ 0 → (graph_reading s).count ≤ 1024
 unfolding table_of
-read_few s z = rw (graph_read s z, edges_count s) (accepted s z).sizes.few_edges
+read_few s z = rw (edges_count s) (accepted s z).sizes.few_edges
 
 -- the bytes of the typed form of a graph are the graph's
 pub table_encoded : (g : Graph) → table_bytes (table_of g) ≡ encode g
@@ -126,7 +116,7 @@ legal_fits g l i h =
 
 -- THE READER ACCEPTS EVERY LEGAL GRAPH, and reads it back
 pub read_complete : (g : Graph) → GraphLegal g →
-    (graph_code (encode g) ≡ 0) × (graph_of (encode g) ≡ g) × (table_graph (graph_reading (encode g)).graph ≡ g)
+    (graph_code (encode g) ≡ 0) × (graph_of (encode g) ≡ g) × (table_graph (graph_reading (encode g)) ≡ g)
 read_complete g l =
     let m : ℕ = length g.edges in
     let hn : g.vertices < 65536 = omega (arith, l.few_vertices) in
@@ -148,7 +138,7 @@ read_complete g l =
 
 -- WHAT THE READER ACCEPTS IS THE ENCODING OF A LEGAL GRAPH
 pub read_sound : (s : List ℕ) → Bytes s → graph_code s ≡ 0 →
-    GraphLegal (graph_of s) × (encode (graph_of s) ≡ s) × (table_graph (graph_reading s).graph ≡ graph_of s)
+    GraphLegal (graph_of s) × (encode (graph_of s) ≡ s) × (table_graph (graph_reading s) ≡ graph_of s)
 read_sound s b z =
     let a = accepted s z in
     let n : ℕ = at16 s 5 in
@@ -165,11 +155,11 @@ read_sound s b z =
     (legal, rw (edges_count s) (bytes_of s b a), table_read s z)
 
 -- WRITING WHAT WAS READ YIELDS THE BYTES READ
-pub write_read : (s : List ℕ) → Bytes s → graph_code s ≡ 0 → (room : ℕ) → length s ≤ room → write_reply (graph_reading s).graph room
+pub write_read : (s : List ℕ) → Bytes s → graph_code s ≡ 0 → (room : ℕ) → length s ≤ room → write_reply (graph_reading s) room
     ≡ done s
 unfolding write_reply
 write_read s b z room h =
-    let back : table_bytes (graph_reading s).graph ≡ s = ap table_bytes (graph_read s z) ∙ table_encoded (graph_of s) ∙ (read_sound s b z).1 in
+    let back : table_bytes (graph_reading s) ≡ s = ap table_bytes (graph_read s z) ∙ table_encoded (graph_of s) ∙ (read_sound s b z).1 in
     rw (back, eq-eqb _ _ z, le-ltb _ _ h)
 
 -- THE BYTES OF A LEGAL GRAPH ARE WRITTEN FROM ITS TYPED FORM, where they fit

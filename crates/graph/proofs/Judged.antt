@@ -3,15 +3,15 @@ use Prim.Native.Nat.{ℕ, ◌+◌, ◌*◌, ◌≤◌, ◌<◌}
 use mathlib.Core.Path.{◌≡◌, refl, sym, ap, ◌∙◌}
 use mathlib.Core.List.{List, ◌++◌}
 use native.Mathlib.Omega.{arith}
-use borrow.Author.Tests.{lt-ltb, le-ltb, eq-eqb, ne_eqb}
+use borrow.Author.Tests.{lt-ltb, le-ltb, ne_eqb}
 use lib.ListN.{length, drop, length-append}
 use lib.Seq.{sets}
 use Rattle.wire.specs.Wire.{done, refused}
-use Rattle.wire.proofs.Codes.{then_both}
+use Rattle.wire.proofs.Codes.{then_both, then_some}
 use Rattle.wire.proofs.Stores.{sets_front}
 use Rattle.graph.specs.declared.EdgeTable.{EdgeTable}
 use Rattle.graph.specs.Encode.{edges_bytes, encode, head_bytes, table_bytes, table_graph, write_reply}
-use Rattle.graph.specs.Graph.{counts_code, graph_code, graph_of}
+use Rattle.graph.specs.Graph.{counts_code, edges_code, graph_code, graph_of}
 use Rattle.graph.specs.Steps.{table_code}
 use Rattle.graph.proofs.Accepted.{counts}
 use Rattle.graph.proofs.Bytes.{EdgesFit, edges_length, edges_read, word_back}
@@ -54,10 +54,15 @@ module _ (t : EdgeTable) (f : TableFits t) where
       let m = edges_few (table_few z) in
       rw (word_back t.vertices f.vertices, edges_read t.vertices t.count (table_graph t).edges f.count m table_edges_fit)
 
-  -- the writer refuses what is judged wrong, by its number
-  pub write_refused : (room k : ℕ) → k ≡ graph_code (table_bytes t) → (k ≡ 0 → ⊥) → write_reply t room ≡ refused k
-  unfolding write_reply
-  write_refused room k e h = rw (← e, ne_eqb k 0 h)
+  -- as the judge goes: the counts are refused; or they are not, and the rows are judged
+  pub counts_refused : (k : ℕ) → k ≡ counts_code t.vertices t.count → (k ≡ 0 → ⊥) → k ≡ graph_code (table_bytes t)
+  unfolding table_code
+  counts_refused k e h = sym (judged ∙ rw (← e) (then_some k _ h))
+
+  pub rows_judged : (k : ℕ) → 0 ≡ counts_code t.vertices t.count → k ≡ edges_code t.vertices (table_graph t).edges
+      → k ≡ graph_code (table_bytes t)
+  unfolding table_code
+  rows_judged k z e = sym (judged ∙ rw (← z, ← e) refl)
 
   -- how many bytes there are
   pub table_size : t.count ≤ 1024 → length (table_bytes t) ≡ 9 + 8 * t.count
@@ -66,19 +71,26 @@ module _ (t : EdgeTable) (f : TableFits t) where
       length-append (head_bytes t.vertices t.count) (edges_bytes (table_graph t).edges)
       ∙ omega (arith, edges_length (table_graph t).edges, edges_few h)
 
-  -- 15 where they do not fit
-  pub write_short : (room : ℕ) → graph_code (table_bytes t) ≡ 0 → room < 9 + 8 * t.count → write_reply t room ≡ refused 15
+-- THE WRITER'S THREE WAYS OUT
+module _ (t : EdgeTable) where
+  -- it refuses what is judged wrong, by its number
+  pub write_refused : (room k : ℕ) → k ≡ graph_code (table_bytes t) → (k ≡ 0 → ⊥) → write_reply t room ≡ refused k
   unfolding write_reply
-  write_short room z h = rw (eq-eqb _ _ z, table_size (table_few z), lt-ltb _ _ h)
+  write_refused room k e h = rw (← e, ne_eqb k 0 h)
 
-  -- and writes them where they do
-  pub write_done : (room : ℕ) → graph_code (table_bytes t) ≡ 0 → 9 + 8 * t.count ≤ room → write_reply t room ≡ done (table_bytes t)
-  unfolding write_reply
-  write_done room z h = rw (eq-eqb _ _ z, table_size (table_few z), le-ltb _ _ h)
+  module _ (z : 0 ≡ graph_code (table_bytes t)) (size : ℕ) (sized : size ≡ length (table_bytes t)) where
+    -- 15 where the bytes do not fit
+    pub write_short : (room : ℕ) → room < size → write_reply t room ≡ refused 15
+    unfolding write_reply
+    write_short room h = rw (← z, ← sized, lt-ltb _ _ h) refl
 
-  -- the rows stored behind the header are the bytes
-  pub table_laid : (out : List ℕ) → graph_code (table_bytes t) ≡ 0 → 9 + 8 * t.count ≤ length out →
-      sets (sets out 0 (head_bytes t.vertices t.count)) 9 (edges_bytes (table_graph t).edges) ≡ table_bytes t ++ drop (length (table_bytes t)) out
-  unfolding table_bytes
-  table_laid out z h = sets_front out (head_bytes t.vertices t.count) (edges_bytes (table_graph t).edges) 9 refl
-      (omega (arith, table_size (table_few z)))
+    -- and writes them where they do
+    pub write_done : (room : ℕ) → size ≤ room → write_reply t room ≡ done (table_bytes t)
+    unfolding write_reply
+    write_done room h = rw (← z, ← sized, le-ltb _ _ h) refl
+
+    -- the rows stored behind the header are the bytes
+    pub table_laid : (out : List ℕ) → size ≤ length out →
+        sets (sets out 0 (head_bytes t.vertices t.count)) 9 (edges_bytes (table_graph t).edges) ≡ table_bytes t ++ drop (length (table_bytes t)) out
+    unfolding table_bytes
+    table_laid out h = sets_front out (head_bytes t.vertices t.count) (edges_bytes (table_graph t).edges) 9 refl (omega (arith, sized))

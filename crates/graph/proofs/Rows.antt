@@ -13,6 +13,7 @@ use Rattle.walks.specs.Walks.{Edge, edge, edge_at}
 use Rattle.wire.specs.Header.{then}
 use Rattle.wire.specs.Wire.{at16}
 use Rattle.wire.proofs.Codes.{then_none, then_some}
+use Rattle.graph.specs.declared.EdgeRow.{EdgeRow}
 use Rattle.graph.specs.Graph.{blank_row, edge_code, edge_in, edges_code, edges_in, filled, row_of}
 
 -- ---- edges judged in turn: those before edge i were right
@@ -49,6 +50,10 @@ unfolding edges_in
 edge_there s i h = tabulate_at (at16 s 7) i (edge_in s) (edge 0 0 0 0) h
 
 -- ---- rows stored in turn
+
+-- a row of zeros is the blank one
+pub zeros : (r : EdgeRow) → (r.from ≡ 0) × ((r.to ≡ 0) × ((r.weight ≡ 0) × (r.capacity ≡ 0))) → r ≡ blank_row
+zeros r z = λ i. record { from = z.0 i; to = z.1.0 i; weight = z.1.1.0 i; capacity = z.1.1.1 i }
 
 -- one more at the end
 tabulate_more : (n i : ℕ) (f : ℕ → Edge) → tabulate (suc n) i f ≡ tabulate n i f ++ (f (i + n) ∷ [])

@@ -6,7 +6,6 @@ use Rattle.wire.specs.Header.{header_code, then}
 use Rattle.wire.specs.Wire.{at16}
 use Rattle.graph.specs.declared.EdgeRow.{EdgeRow}
 use Rattle.graph.specs.declared.EdgeTable.{EdgeTable}
-use Rattle.graph.specs.declared.Reading.{Reading}
 
 -- "then m rows of four 16-bit numbers: from, to, seconds, crate size": row i, behind nine bytes
 abbrev pub edge_in : List ℕ → ℕ → Edge
@@ -59,13 +58,6 @@ filled es = map row_of es ++ replicate (1024 - length es) blank_row
 unfoldable pub table_of : Graph → EdgeTable
 table_of g = record { vertices = g.vertices; count = length g.edges; rows = filled g.edges }
 
--- what is left of refused bytes
-abbrev pub blank_table : EdgeTable
-blank_table = record { vertices = 0; count = 0; rows = replicate 1024 blank_row }
-
--- 0 and the typed form; or the refusal, and one blank table for all refusals
-unfoldable pub graph_reading : List ℕ → Reading
-graph_reading s =
-    cond (eqb (graph_code s) 0)
-    (record { code = 0; graph = table_of (graph_of s) })
-    (record { code = graph_code s; graph = blank_table })
+-- the typed form of accepted bytes
+abbrev pub graph_reading : List ℕ → EdgeTable
+graph_reading s = table_of (graph_of s)

@@ -1,9 +1,10 @@
 // Graphs (document 01, map `LPM`): judged on their bytes, read into a typed form, and written from it.
 #![tactic(auto)]
 
-ghost use Rattle.std.specs.Prelude.{◌≡◌, map, ◌+◌, ◌*◌, ◌/◌, ◌%◌, ◌<◌, ◌≤◌, length, take, set};
+ghost use Rattle.wire.specs.Refusal.{code, number_of};
+ghost use Rattle.std.specs.Prelude.{◌≡◌, IfOk, map, ◌+◌, ◌*◌, ◌<◌, ◌≤◌, length, take};
 ghost use Rattle.std.proofs.lemmas.List.Edits.{sets};
-ghost use Rattle.wire.specs.Wire.{at16, Returned};
+ghost use Rattle.wire.specs.Wire.{at16, le16, Returned};
 ghost use Rattle.graph.specs.Graph.{
   edge_in,
   edges_in,
@@ -14,13 +15,14 @@ ghost use Rattle.graph.specs.Graph.{
   graph_of,
   row_of,
   table_of,
-  blank_table,
   graph_reading,
 };
 ghost use Rattle.graph.specs.Encode.{row_edge, edge_bytes, edges_bytes, head_bytes, table_bytes, write_reply};
 
+use wire::Refusal;
+
 // An edge: "from, to, seconds, crate size".
-#[derive(Clone, Copy)]
+#[derive(Clone, Copy, Debug, Default, PartialEq, Eq)]
 pub struct EdgeRow {
     pub from: u16,
     pub to: u16,
@@ -29,33 +31,12 @@ pub struct EdgeRow {
 }
 
 // The typed form of a graph: how many vertices it has, and its edges, the first `count` rows.
-#[derive(Clone, Copy)]
+// Kept: an array with a count beside it, in place of a Vec: no heap, fixed memory.
+#[derive(Clone, Copy, Debug, PartialEq, Eq)]
 pub struct EdgeTable {
     pub vertices: u16,
     pub count: u16,
     pub rows: [EdgeRow; 1024],
-}
-
-// What was read: 0 and the graph, or the number of the first refusal and a table of nothing.
-#[derive(Clone, Copy)]
-pub struct Reading {
-    pub code: u8,
-    pub graph: EdgeTable,
-}
-
-// A byte as a 16-bit number: the cast in an expression would ask for a proof each time.
-fn wide(b: u8) -> u16
-    ensures { (result ≡ b) × (result ≤ 255) }
-{
-    b as u16
-}
-
-// A 16-bit number, low byte first.
-fn read16(s: &[u8], i: usize) -> u16
-    requires { i + 1 < length s.now }
-    ensures { result ≡ at16 s.now i }
-{
-    wide(s[i]) + 256 * wide(s[i + 1])
 }
 
 // Row i of the bytes.
@@ -65,83 +46,66 @@ fn edge_at(s: &[u8], i: usize) -> EdgeRow
 {
     let at = 9 + 8 * i;
     EdgeRow {
-        from: read16(s, at),
-        to: read16(s, at + 2),
-        weight: read16(s, at + 4),
-        capacity: read16(s, at + 6),
+        from: wire::half(s, at) as u16,
+        to: wire::half(s, at + 2) as u16,
+        weight: wire::half(s, at + 4) as u16,
+        capacity: wire::half(s, at + 6) as u16,
     }
 }
 
-// The refusal of a row of a graph of n vertices, or 0.
-fn edge_code(n: u16, row: EdgeRow) -> u8
-    ensures { result ≡ edge_code n (row_edge row) }
+// A row of a graph of n vertices.
+#[tactic(auto, unfolding(crate::specs::Graph::edge_code))]
+fn judge_edge(n: u16, row: &EdgeRow) -> Result<(), Refusal>
+    ensures { code result ≡ edge_code n (row_edge row.now) }
 {
-    if n <= row.from {
-        return 7;
+    if n <= row.from || n <= row.to {
+        return Err(Refusal::NoVertex);
     }
-    if n <= row.to {
-        return 7;
+    if row.capacity == 0 || row.capacity == 65535 {
+        return Err(Refusal::Capacity);
     }
-    if row.capacity == 0 {
-        return 8;
-    }
-    if row.capacity == 65535 {
-        return 8;
-    }
-    0
+    Ok(())
 }
 
-// The refusal of the numbers of vertices and of edges, or 0.
-fn counts_code(n: u16, m: u16) -> u8
-    ensures { result ≡ counts_code n m }
+// The numbers of vertices and of edges.
+#[tactic(auto, unfolding(crate::specs::Graph::counts_code))]
+fn judge_counts(n: u16, m: u16) -> Result<(), Refusal>
+    ensures { code result ≡ counts_code n m }
 {
-    if n == 0 {
-        return 4;
-    }
-    if 256 < n {
-        return 4;
+    if n == 0 || 256 < n {
+        return Err(Refusal::Vertices);
     }
     if 1024 < m {
-        return 5;
+        return Err(Refusal::Edges);
     }
-    0
+    Ok(())
 }
 
-// The refusal of the first wrong row of the bytes, or 0.
-fn bytes_code(s: &[u8], n: u16, m: usize) -> u8
+// The rows of the bytes, in turn.
+fn judge_rows_in(s: &[u8], n: u16, m: usize) -> Result<(), Refusal>
     requires { (9 + 8 * m ≤ length s.now) × (m ≡ at16 s.now 7) }
-    ensures { result ≡ edges_code n (edges_in s.now) }
+    ensures { code result ≡ edges_code n (edges_in s.now) }
 {
-    let mut i: usize = 0;
-    while i < m {
-        let k = edge_code(n, edge_at(s, i));
-        if k != 0 {
-            return k;
-        }
-        i += 1;
+    for i in 0..m {
+        judge_edge(n, &edge_at(s, i))?;
     }
-    0
+    Ok(())
 }
 
-// The number of the first refusal of a graph's bytes, or 0.
-pub fn judge(s: &[u8]) -> u8
-    ensures { result ≡ graph_code s.now }
+// The first refusal of a graph's bytes.
+#[tactic(auto, unfolding(crate::specs::Graph::graph_code))]
+pub fn judge(s: &[u8]) -> Result<(), Refusal>
+    ensures { code result ≡ graph_code s.now }
 {
-    let h = wire::judge_header(s, 0x4d, 1, 9);
-    if h != 0 {
-        return h;
-    }
-    let n = read16(s, 5);
-    let m = read16(s, 7);
-    let k = counts_code(n, m);
-    if k != 0 {
-        return k;
-    }
+    wire::judge_header(s, 0x4d, 1, 9)?;
+    let n = wire::half(s, 5) as u16;
+    let m = wire::half(s, 7) as u16;
+    judge_counts(n, m)?;
     let count = m as usize;
     if s.len() != 9 + 8 * count {
-        return 6;
+        return Err(Refusal::Length);
     }
-    bytes_code(s, n, count)
+    judge_rows_in(s, n, count)
 }
 
 // The typed form of accepted bytes.
@@ -149,105 +113,79 @@ fn load(s: &[u8]) -> EdgeTable
     requires { graph_code s.now ≡ 0 }
     ensures { result ≡ table_of (graph_of s.now) }
 {
-    let m = read16(s, 7);
-    let count = m as usize;
-    let mut rows = [EdgeRow {
-        from: 0,
-        to: 0,
-        weight: 0,
-        capacity: 0,
-    }; 1024];
-    let mut i: usize = 0;
-    while i < count {
+    let count = wire::half(s, 7) as u16;
+    let mut rows = [EdgeRow::default(); 1024];
+    for i in 0..count as usize {
         rows[i] = edge_at(s, i);
-        i += 1;
     }
     EdgeTable {
-        vertices: read16(s, 5),
-        count: m,
-        rows,
-    }
-}
-
-// Nothing, after a refusal.
-fn blank() -> EdgeTable
-    ensures { result ≡ blank_table }
-{
-    let rows = [EdgeRow {
-        from: 0,
-        to: 0,
-        weight: 0,
-        capacity: 0,
-    }; 1024];
-    EdgeTable {
-        vertices: 0,
-        count: 0,
+        vertices: wire::half(s, 5) as u16,
+        count,
         rows,
     }
 }
 
 // The reader of graphs: the typed form, or the refusal.
-pub fn read(s: &[u8]) -> Reading
-    ensures { result ≡ graph_reading s.now }
+pub fn read(s: &[u8]) -> Result<EdgeTable, Refusal>
+    ensures code { code result ≡ graph_code s.now }
+    ensures ok { IfOk result (λ t. t ≡ graph_reading s.now) }
 {
-    let k = judge(s);
-    if k != 0 {
-        return Reading {
-            code: k,
-            graph: blank(),
-        };
-    }
-    Reading {
-        code: 0,
-        graph: load(s),
+    judge(s)?;
+    Ok(load(s))
+}
+
+impl EdgeTable {
+    // The edges: the rows that count.
+    pub fn edges(&self) -> &[EdgeRow]
+        ensures rows { result.now ≡ take self.now.count self.now.rows }
+        ensures few { length result.now ≤ 1024 }
+    {
+        &self.rows[..(self.count as usize).min(1024)]
     }
 }
 
-// The refusal of the first wrong row of the first m, or 0.
-fn rows_code(n: u16, m: u16, rows: [EdgeRow; 1024]) -> u8
-    requires { m ≤ 1024 }
-    ensures { result ≡ edges_code n (map row_edge (take m rows)) }
+// The rows of a typed form, in turn.
+fn judge_rows(n: u16, rows: &[EdgeRow]) -> Result<(), Refusal>
+    ensures { code result ≡ edges_code n (map row_edge rows.now) }
 {
-    let count = m as usize;
-    let mut i: usize = 0;
-    while i < count {
-        let row = rows[i];
-        let k = edge_code(n, row);
-        if k != 0 {
-            return k;
-        }
-        i += 1;
+    for row in rows {
+        judge_edge(n, row)?;
     }
-    0
+    Ok(())
 }
 
-// The number of the first refusal of a typed form, or 0: that of its bytes, without writing them.
-pub fn judge_table(graph: EdgeTable) -> u8
-    ensures { result ≡ graph_code (table_bytes graph) }
+// How many bytes a typed form has; or the first refusal of these bytes, without writing them.
+#[tactic(auto, using(crate::proofs::Accepted::counts))]
+fn judged_size(graph: &EdgeTable) -> Result<u16, Refusal>
+    ensures code { code result ≡ graph_code (table_bytes graph.now) }
+    ensures ok { IfOk result (λ size. (size ≡ 9 + 8 * graph.now.count) × (size ≡ length (table_bytes graph.now))) }
 {
     let n = graph.vertices;
-    let m = graph.count;
-    let rows = graph.rows;
-    let k = counts_code(n, m);
-    if k != 0 {
-        return k;
-    }
-    rows_code(n, m, rows)
+    judge_counts(n, graph.count)?;
+    judge_rows(n, graph.edges())?;
+    Ok(9 + 8 * graph.count)
+}
+
+// The first refusal of a typed form: that of its bytes, without writing them.
+pub fn judge_table(graph: &EdgeTable) -> Result<(), Refusal>
+    ensures { code result ≡ graph_code (table_bytes graph.now) }
+{
+    judged_size(graph)?;
+    Ok(())
 }
 
 // 16 bits, low byte first.
 fn put16(out: &mut [u8], at: usize, x: u16)
-    requires { at + 1 < length out.old }
-    ensures { out.new ≡ set (set out.old at (x % 256)) (at + 1) (x / 256 % 256) }
+    requires { at + 2 ≤ length out.old }
+    ensures { out.new ≡ sets out.old at (le16 x) }
 {
-    out[at] = (x % 256) as u8;
-    out[at + 1] = (x / 256 % 256) as u8;
+    out[at..at + 2].copy_from_slice(&x.to_le_bytes());
 }
 
 // A row: four times 16 bits.
-fn put_edge(out: &mut [u8], at: usize, row: EdgeRow)
+fn put_edge(out: &mut [u8], at: usize, row: &EdgeRow)
     requires { at + 8 ≤ length out.old }
-    ensures { out.new ≡ sets out.old at (edge_bytes (row_edge row)) }
+    ensures { out.new ≡ sets out.old at (edge_bytes (row_edge row.now)) }
 {
     put16(out, at, row.from);
     put16(out, at + 2, row.to);
@@ -260,51 +198,32 @@ fn put_head(out: &mut [u8], n: u16, m: u16)
     requires { 9 ≤ length out.old }
     ensures { out.new ≡ sets out.old 0 (head_bytes n m) }
 {
-    out[0] = 0x4c;
-    out[1] = 0x50;
-    out[2] = 0x4d;
-    out[3] = 1;
-    out[4] = 0;
+    out[..5].copy_from_slice(&[0x4c, 0x50, 0x4d, 1, 0]);
     put16(out, 5, n);
     put16(out, 7, m);
 }
 
 // The rows, behind nine bytes.
-fn put_rows(out: &mut [u8], count: usize, rows: [EdgeRow; 1024])
-    requires { (count ≤ 1024) × (9 + 8 * count ≤ length out.old) }
-    ensures { out.new ≡ sets out.old 9 (edges_bytes (map row_edge (take count rows))) }
+// Kept: a loop of its own, as answer::put_rows has: a trait for what is put, with its laws, would be longer than the two loops.
+#[tactic(auto, unfolding(crate::specs::Encode::edges_bytes))]
+fn put_rows(out: &mut [u8], rows: &[EdgeRow])
+    requires { 9 + 8 * length rows.now ≤ length out.old }
+    ensures { out.new ≡ sets out.old 9 (edges_bytes (map row_edge rows.now)) }
 {
-    let mut i: usize = 0;
-    while i < count {
-        let row = rows[i];
+    for (i, row) in rows.iter().enumerate() {
         put_edge(out, 9 + 8 * i, row);
-        i += 1;
     }
-}
-
-// A refusal as an answer to the caller: 65,536 and its number.
-fn refusal(k: u8) -> u32
-    ensures { result ≡ 65536 + k }
-{
-    65536 + k as u32
 }
 
 // The writer of graphs: it judges what it is handed as the reader of its bytes would, then 15.
-pub fn write(graph: EdgeTable, out: &mut [u8]) -> u32
-    ensures { Returned (write_reply graph (length out.old)) result out.old out.new }
+pub fn write(graph: &EdgeTable, out: &mut [u8]) -> Result<u16, Refusal>
+    ensures { Returned (write_reply graph.now (length out.old)) (number_of result) out.old out.new }
 {
-    let k = judge_table(graph);
-    if k != 0 {
-        return refusal(k);
+    let size = judged_size(graph)?;
+    if out.len() < size as usize {
+        return Err(Refusal::Room);
     }
-    let m = graph.count;
-    let count = m as usize;
-    let n = 9 + 8 * count;
-    if out.len() < n {
-        return refusal(15);
-    }
-    put_head(out, graph.vertices, m);
-    let rows = graph.rows;
-    put_rows(out, count, rows);
-    n as u32
+    put_head(out, graph.vertices, graph.count);
+    put_rows(out, graph.edges());
+    Ok(size)
 }

@@ -1,4 +1,3 @@
 pub mod Laws
 pub mod ByNumber
-mod Merging
-mod Halves
+pub mod Library

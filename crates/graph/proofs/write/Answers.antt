@@ -1,45 +1,25 @@
-use mathlib.Core.Path.{sym, ap, ◌∙◌}
+use mathlib.Core.Path.{refl, ◌∙◌}
 use native.Mathlib.Omega.{arith}
 use lib.ListN.{length}
-use Rattle.wire.specs.Wire.{Reply, reply_buffer, reply_number}
-use Rattle.graph.proofs.Fits.{table_fits}
-use Rattle.graph.proofs.Judged.{table_few, table_laid, table_size, write_done, write_refused, write_short}
+use Rattle.std.proofs.Common.{rules}
+use Rattle.graph.proofs.Judged.{table_laid, write_done, write_refused, write_short}
+use Rattle.wire.proofs.Codes.{number_some}
 use Rattle.graph.proofs.write.Goals as goal
 
-pub returns-then-k-ne0 : goal.returns-then-k-ne0
-returns-then-k-ne0 c =
-    let a = c.args in
-    let f = table_fits a.graph _ c.well_formed.0 in
-    let e = write_refused a.graph f (length a.out.now) _ c.judge_table-k.ensures c.if-k-ne0.true in
-    (c.refusal.ensures ∙ ap reply_number (sym e), ap (λ (r : Reply). reply_buffer r a.out.now) (sym e))
+pub returns-in_err-size : goal.returns-in_err-size
+returns-in_err-size c =
+    rw (write_refused c.args.graph.now (length c.args.out.now) _ c.in_err-size.ensures.code (number_some _)) (search rules)
 
-pub returns-then-out-n : goal.returns-then-out-n
-returns-then-out-n c =
-    let a = c.args in
-    let f = table_fits a.graph _ c.well_formed.0 in
-    let z = sym c.judge_table-k.ensures ∙ c.if-k-ne0.false in
-    let e = write_short a.graph f (length a.out.now) z c.if-out-n.true in
-    (c.refusal-then-out-n.ensures ∙ ap reply_number (sym e), ap (λ (r : Reply). reply_buffer r a.out.now) (sym e))
-
-pub put_rows-requires : goal.put_rows-requires
-put_rows-requires c =
-    let a = c.args in
-    let f = table_fits a.graph _ c.well_formed.0 in
-    let z = sym c.judge_table-k.ensures
-    ∙ c.if-k-ne0.false in
-    (table_few a.graph f z, omega arith)
+pub returns-then-out-size : goal.returns-then-out-size
+returns-then-out-size c =
+    let s = c.in_ok-size.ensures in
+    rw (write_short c.args.graph.now s.code _ s.ok.1 (length c.args.out.now) c.if-out-size.true) (refl, refl)
 
 pub returns : goal.returns
 returns c =
-    let a = c.args in
-    let g = a.graph in
-    let f = table_fits g _ c.well_formed.0 in
-    let z = sym c.judge_table-k.ensures
-    ∙ c.if-k-ne0.false in
-    let e = write_done g f (length a.out.now) z c.if-out-n.false in
-    let size = table_size g f (table_few g f z) in (
-      sym (ap reply_number e ∙ size),
-      c.put_rows.ensures
-          ∙ rw c.put_head.ensures (table_laid g f a.out.now z (omega arith))
-          ∙ ap (λ (r : Reply). reply_buffer r a.out.now) (sym e),
+    let t = c.args.graph.now in
+    let s = c.in_ok-size.ensures in
+    rw (write_done t s.code _ s.ok.1 (length c.args.out.now) c.if-out-size.false) (
+      s.ok.1,
+      c.put_rows.ensures ∙ rw (c.put_head.ensures, c.edges.ensures.rows) (table_laid t s.code _ s.ok.1 c.args.out.now (omega arith)),
     )

@@ -1,24 +1,19 @@
 -- Things put into a draft one after the other, each by its text. Assumes nothing.
-use Prim.Native.Nat.{ℕ, suc, ◌+◌, ◌-◌, ◌*◌, ◌≤◌, ◌<◌, min}
+use Prim.Native.Nat.{ℕ, ◌+◌, ◌*◌, ◌≤◌, ◌<◌, min}
 use mathlib.Core.Path.{◌≡◌, refl, sym, ap, ◌∙◌}
-use mathlib.Core.List.{List, [], ◌∷◌, ◌++◌, append_assoc}
-use native.Mathlib.Numerals.{add-one}
+use mathlib.Core.List.{List, [], ◌∷◌, ◌++◌, append_assoc, append-nil}
 use native.Mathlib.Omega.{arith}
-use native.Mathlib.Decide.{dec_le}
-use lib.ListN.{length, get_or, take, drop, length-append}
-use lib.Seq.{take_all, drop-cons}
+use lib.ListN.{length, get_or, take, length-append}
+use lib.Seq.{take_all}
+use Rattle.std.proofs.lemmas.List.{take_min, take_more}
 use Rattle.wire.specs.Wire.{fitted, unless}
 use Rattle.draft.specs.Steps.{Draft, put_list}
 use Rattle.draft.specs.Texts.{texts}
 use Rattle.draft.proofs.Drafts.{put_append}
 
 -- the first of them, where the count is cut to what there is
-pub take_least : {A : Type 0} (count most n : ℕ) (l : List A) → length l ≡ most → n ≡ min count most → take n l ≡ take count l
-take_least {A} count most n l h e = go (dec_le count most)
-  where
-    go : Dec (count ≤ most) → take n l ≡ take count l
-    go (yes k) = ap (λ (j : ℕ). take j l) (let p : n ≡ count = omega arith in p)
-    go (no k) = take_all n l (omega arith) ∙ sym (take_all count l (omega arith))
+pub take_least : {A : Type 0} (count n : ℕ) (l : List A) → n ≡ min count (length l) → take n l ≡ take count l
+take_least {A} count n l e = ap (λ (k : ℕ). take k l) e ∙ take_min count l
 
 module _ {A : Type 0} (text : A → List ℕ) where
   -- texts of at most so many bytes each
@@ -33,27 +28,16 @@ module _ {A : Type 0} (text : A → List ℕ) where
   text_append [] k = refl
   text_append (a ∷ l) k = ap (λ (t : List ℕ). text a ++ t) (text_append l k) ∙ sym (append_assoc (text a) (texts text l) (texts text k))
 
-  -- what is left of the text of n of them from the i-th on
-  abbrev pub left : List A → ℕ → ℕ → List ℕ
-  left l n i = texts text (take (n - i) (drop i l))
-
-  module _ (d : Draft) (l : List A) (n i : ℕ) where
-    -- one more is put, of those that are left
-    pub put_more : (z : A) → i < n → n ≤ length l → put_list d (left l n i) ≡ put_list (put_list d (text (get_or l i z))) (left l n (i + 1))
-    unfolding texts
-    put_more z h k =
-        let e : n - i ≡ suc (n - (i + 1)) = omega arith in
-        ap (put_list d) (rw (e, drop-cons l i z (omega arith), ← add-one i) refl)
-        ∙ put_append (text (get_or l i z)) (left l n (i + 1)) d
-
-    -- when none is left, the text of the first `count` has been put, or that of all where there are fewer
-    pub put_done : (count most : ℕ) (d₀ : Draft) → n ≤ i → length l ≡ most → n ≡ min count most → put_list d (left l n i)
-        ≡ put_list d₀ (texts text (take n l))
-        → d ≡ put_list d₀ (texts text (take count l))
-    unfolding texts put_list
-    put_done count most d₀ h k least e =
-        let none : n - i ≡ 0 = omega arith in
-        (rw none at e) ∙ ap (λ (t : List A). put_list d₀ (texts text t)) (take_least count most n l k least)
+  -- one more of them is put
+  pub put_next : (d : Draft) (l : List A) (i : ℕ) (z : A) → i < length l
+      → put_list (put_list d (texts text (take i l))) (text (get_or l i z)) ≡ put_list d (texts text (take (i + 1) l))
+  unfolding texts
+  put_next d l i z h =
+      let done = take i l in
+      let x = get_or l i z in
+      let more : texts text (take (i + 1) l) ≡ texts text done ++ text x =
+      ap (texts text) (take_more l i z h) ∙ text_append done (x ∷ []) ∙ ap (λ (t : List ℕ). texts text done ++ t) (append-nil (text x)) in
+      sym (ap (put_list d) more ∙ put_append (texts text done) (text x) d)
 
 -- of bytes that a layout has, all are laid
 pub delivered : (b : List ℕ) (code room : ℕ) → length b ≤ 65535 → unless code (fitted (take 65535 b) room) ≡ unless code (fitted b room)

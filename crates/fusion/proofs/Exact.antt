@@ -13,9 +13,8 @@ use Rattle.meaning.specs.Plan.{Plan, entries, expression, final, fuse}
 use Rattle.meaning.specs.Query.{Query, each, paths, result, single, vertex}
 use Rattle.meaning.proofs.Limits.{entries_length, fuse_legal}
 use Rattle.meaning.proofs.Paths.{put_all_has}
-use Rattle.nodes.specs.declared.Node.{Node}
+use Rattle.nodes.specs.declared.Term.{Term}
 use Rattle.nodes.specs.declared.Term.TheVariants.{Entry}
-use Rattle.nodes.specs.Nodes.{node}
 use Rattle.nodes.specs.Tree.{entry_nodes, final_nodes, query_nodes}
 use Rattle.nodes.proofs.Exact.{query_size}
 use Rattle.nodes.proofs.Held.{first_nodes}
@@ -41,7 +40,7 @@ use Rattle.packed_path.specs.Packed.{packed}
 use Rattle.wire.specs.Wire.{Bytes, done, fitted, refused, reply_number}
 use Rattle.fusion.specs.declared.Written.{Written}
 use Rattle.fusion.specs.Fusion.{fuse_reply}
-use Rattle.fusion.specs.Steps.{entries_of, first_written, fused_form, put_part, steps_reply}
+use Rattle.fusion.specs.Steps.{entries_of, entries_term, final_term, first_written, fused_form, put_part, steps_reply}
 use Rattle.fusion.proofs.Fused.{result_entries, result_final, vertex_entry, vertex_final}
 use Rattle.fusion.proofs.Selected.{Holds, holds_part, selected}
 
@@ -50,18 +49,19 @@ body_short : (n : ℕ) (p : Plan) → PlanLegal n p → length (body_nodes p.bod
 body_short n p l = omega (arith, body_size p.body, l.few_terms, few_entries (length p.paths) p.body l.body_legal)
 
 -- the two parts one behind the other
-both_parts : (table : List PackedPath) (nodes : List Node) (d : Written) (l a b : List Node) → Holds d l → selected 0 table 0 nodes ≡ a
-    → selected 1 table 0 nodes ≡ b
-    → length (l ++ a ++ b) ≤ 72 → Holds (put_part 1 table 0 (put_part 0 table 0 d nodes) nodes) (l ++ a ++ b)
+both_parts : (table : List PackedPath) (nodes : List Term) (d : Written) (l a b : List Term) → Holds d l → selected (entries_term table) 0 nodes ≡ a
+    → selected final_term 0 nodes ≡ b
+    → length (l ++ a ++ b) ≤ 72 → Holds (put_part final_term 0 (put_part (entries_term table) 0 d nodes) nodes) (l ++ a ++ b)
 both_parts table nodes d l a b h p q r =
     let m = length-append l a in
     let n = length-append (l ++ a) b in
-    let one = subst (λ (x : List Node). Holds (put_part 0 table 0 d nodes) (l ++ x)) p (holds_part 0 table nodes 0 d l h (omega (arith, m, n, ap length p))) in
-    subst (λ (x : List Node). Holds (put_part 1 table 0 (put_part 0 table 0 d nodes) nodes) (l ++ a ++ x)) q
-    (holds_part 1 table nodes 0 (put_part 0 table 0 d nodes) (l ++ a) one (omega (arith, n, ap length q)))
+    let first = put_part (entries_term table) 0 d nodes in
+    let one = subst (λ (x : List Term). Holds first (l ++ x)) p (holds_part (entries_term table) nodes 0 d l h (omega (arith, m, n, ap length p))) in
+    subst (λ (x : List Term). Holds (put_part final_term 0 first nodes) (l ++ a ++ x)) q
+    (holds_part final_term nodes 0 first (l ++ a) one (omega (arith, n, ap length q)))
 
 -- a query's nodes and kind, the table of its path reductions, and the nodes that fusing makes of them
-abbrev nodes_of : Query → List Node
+abbrev nodes_of : Query → List Term
 nodes_of (each t) = query_nodes vertex t
 nodes_of (single t) = query_nodes result t
 
@@ -72,8 +72,8 @@ query_kind (single t) = 1
 abbrev table_of : Query → List PackedPath → List PackedPath
 table_of q rest = map packed (fuse q).paths ++ rest
 
-abbrev both : List PackedPath → ℕ → List Node → Written
-both table kind nodes = put_part 1 table 0 (put_part 0 table 0 (first_written kind) nodes) nodes
+abbrev both : List PackedPath → ℕ → List Term → Written
+both table kind nodes = put_part final_term 0 (put_part (entries_term table) 0 (first_written kind) nodes) nodes
 
 -- which are those of the fused plan
 parts_held : (q : Query) → QueryLegal 256 q → (rest : List PackedPath)
@@ -83,11 +83,11 @@ parts_held (each t) h rest =
     let l = fuse_legal 256 (each t) h in
     let cs = (fuse (each t)).paths in
     let a = entry_nodes (expression cs t) in
-    let s : Holds (first_written 0) (node (Entry 0) ∷ []) = record { list = refl; len = refl } in
-    let e : (node (Entry 0) ∷ []) ++ a ++ [] ≡ node (Entry 0) ∷ a = append-nil (node (Entry 0) ∷ a) in
+    let s : Holds (first_written 0) (Entry 0 ∷ []) = record { list = refl; len = refl } in
+    let e : (Entry 0 ∷ []) ++ a ++ [] ≡ Entry 0 ∷ a = append-nil (Entry 0 ∷ a) in
     subst (Holds (both (table_of (each t) rest) 0 (query_nodes vertex t))) e
-    (both_parts (table_of (each t) rest) (query_nodes vertex t) (first_written 0) (node (Entry 0) ∷ []) a [] s
-    (vertex_entry cs l.paths_legal rest 0 t h.legal (put_all_has [] (paths t))) (vertex_final (table_of (each t) rest) 0 t)
+    (both_parts (table_of (each t) rest) (query_nodes vertex t) (first_written 0) (Entry 0 ∷ []) a [] s
+    (vertex_entry cs l.paths_legal rest 0 t h.legal (put_all_has [] (paths t))) (vertex_final 0 t)
     (omega (arith, ap length e, body_short 256 (fuse (each t)) l)))
 parts_held (single t) h rest =
     let l = fuse_legal 256 (single t) h in
@@ -95,7 +95,7 @@ parts_held (single t) h rest =
     let s : Holds (first_written 1) [] = record { list = refl; len = refl } in
     both_parts (table_of (single t) rest) (query_nodes result t) (first_written 1) [] (entries_nodes (entries cs t)) (final_nodes (final 0 t)) s
     (result_entries cs l.paths_legal rest 0 t h.legal (put_all_has [] (paths t)))
-    (result_final (table_of (single t) rest) 0 t) (body_short 256 (fuse (single t)) l)
+    (result_final 0 t) (body_short 256 (fuse (single t)) l)
 
 -- the fields of the query's typed form
 kind_read : (q : Query) → (form_of q).kind ≡ query_kind q
@@ -144,7 +144,7 @@ fused_accepted q h = (reader.read_complete (fuse q) (fuse_legal 256 q h)).accept
 written : (q : Query) → QueryLegal 256 q → (room : ℕ) → write_reply (fused_form (query_reading (encode q))) room ≡ fitted (plan.encode (fuse q)) room
 unfolding write_reply
 written q h room =
-    let a = read_form q h in
+    let a = (read_form q h).1 in
     let l = fuse_legal 256 q h in
     let f = fused_as q h (query_reading (encode q)) a in
     let e : form_bytes (fused_form (query_reading (encode q))) ≡ plan.encode (fuse q) = ap form_bytes f ∙ write_form (fuse q) l a.rest in

@@ -1,4 +1,3 @@
-pub mod Arms
 pub mod Parts
 pub mod Refusal
 pub mod Selected

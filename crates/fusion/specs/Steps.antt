@@ -1,11 +1,10 @@
 -- Fusing as the program goes, from the nodes of the query to those of the plan. Nothing to believe: `fuse_steps` (proofs/Exact) says that of all bytes its
 -- reply is `fuse_reply`.
-use Rattle.std.specs.Prelude.{ℕ, suc, ◌+◌, ◌%◌, min, cond, List, [], ◌∷◌, leb, eqb, set, take}
-use Rattle.nodes.specs.declared.Node.{Node}
+use Rattle.std.specs.Prelude.{ℕ, suc, ◌≡◌, ◌+◌, ◌%◌, min, cond, List, [], ◌∷◌, leb, eqb, set, take}
 use Rattle.nodes.specs.declared.Term.{Term}
 use Rattle.nodes.specs.declared.Term.TheVariants.{Empty, Path, PathSet, Literal, Apply, Reduce, ReduceWhere, ResultLiteral, ResultApply, PathIndex}
 use Rattle.nodes.specs.declared.Term.TheVariants.{EntryIndex, Entry}
-use Rattle.nodes.specs.Nodes.{node, padded}
+use Rattle.nodes.specs.Nodes.{padded}
 use Rattle.plan_form.specs.declared.Form.{Form}
 use Rattle.packed_path.specs.declared.PackedPath.{PackedPath}
 use Rattle.packed_path.specs.Packed.{same_packed}
@@ -54,9 +53,9 @@ final_term k (PathIndex i) = Empty
 final_term k (EntryIndex i) = Empty
 final_term k (Entry o) = Empty
 
--- part 0 are the entries, part 1 the final expression
-unfoldable pub fused_term : ℕ → List PackedPath → ℕ → Term → Term
-fused_term part table k t = cond (eqb part 0) (entry_term table t) (final_term k t)
+-- what it is in the entries, whichever reductions were written before it
+abbrev pub entries_term : List PackedPath → ℕ → Term → Term
+entries_term table k t = entry_term table t
 
 -- how many nodes a term takes: an empty one none
 unfoldable pub size : Term → ℕ
@@ -90,16 +89,24 @@ reduces (Entry o) = 0
 
 -- a term behind those written, while there is room; the next one overwrites an empty one
 unfoldable pub put_term : Written → Term → Written
-put_term d t = cond (leb 72 d.len) d (record { list = set d.list d.len (node t); len = d.len + size t })
+put_term d t = cond (leb 72 d.len) d (record { list = set d.list d.len t; len = d.len + size t })
 
--- one part of the plan, from nodes of the query before which k reductions were written
-unfoldable pub put_part : ℕ → List PackedPath → ℕ → Written → List Node → Written
-put_part part table k d [] = d
-put_part part table k d (n ∷ l) = put_part part table (k + reduces n.term) (put_term d (fused_term part table k n.term)) l
+-- one part of the plan, from nodes of the query before which k reductions were written; `part` says what a node is there
+unfoldable pub put_part : (ℕ → Term → Term) → ℕ → Written → List Term → Written
+put_part part k d [] = d
+put_part part k d (n ∷ l) = put_part part (k + reduces n) (put_term d (part k n)) l
+
+-- what a function that fuses nodes may answer, said as a function of the reductions before the node and the node
+abbrev pub Computes : (Term → ℕ → Term → Type 0) → (ℕ → Term → Term) → Type 0
+Computes answers part = (t : Term) (k : ℕ) (r : Term) → answers t k r → r ≡ part k t
+
+-- the part that such a function puts behind `start`
+abbrev pub PutsPart : (Term → ℕ → Term → Type 0) → Written → List Term → Written → Type 0
+PutsPart answers start nodes written = (part : ℕ → Term → Term) → Computes answers part → written ≡ put_part part 0 start nodes
 
 -- what stands before the entries: "Kind 0 has e = 1 and reduction byte 0"
 unfoldable pub first_written : ℕ → Written
-first_written kind = cond (eqb kind 0) (record { list = padded (node (Entry 0) ∷ []); len = 1 }) (record { list = padded []; len = 0 })
+first_written kind = cond (eqb kind 0) (record { list = padded (Entry 0 ∷ []); len = 1 }) (record { list = padded []; len = 0 })
 
 -- "Kind 0 has e = 1"; for kind 1 "reductions in order of writing"
 unfoldable pub entries_of : ℕ → ℕ → ℕ
@@ -109,7 +116,7 @@ entries_of kind reductions = cond (eqb kind 0) 1 (min reductions 8)
 unfoldable pub fused_form : Reading → Form
 fused_form r =
     let l = take r.form.count r.form.nodes in
-    let w = put_part 1 r.table 0 (put_part 0 r.table 0 (first_written r.form.kind) l) l in
+    let w = put_part final_term 0 (put_part (entries_term r.table) 0 (first_written r.form.kind) l) l in
     record {
       version = cond (any_set (take r.paths r.table)) 2 1;
       kind = r.form.kind;

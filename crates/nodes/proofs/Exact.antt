@@ -10,10 +10,9 @@ use Rattle.meaning.specs.Query.{Kind, QueryTerm, number, operator, over, over_wh
 use Rattle.terms.specs.declared.TermKind.{TermKind}
 use Rattle.terms.specs.declared.TermKind.TheVariants.{OfEntry, OfFinal}
 use Rattle.term_text.specs.Text.{expression_bytes, index_tag, of_kind, query_bytes}
-use Rattle.nodes.specs.declared.Node.{Node}
+use Rattle.nodes.specs.declared.Term.{Term as Node}
 use Rattle.nodes.specs.declared.Term.TheVariants.{EntryIndex, PathIndex, Reduce, ReduceWhere}
 use Rattle.nodes.specs.Text.{term_text}
-use Rattle.nodes.specs.Nodes.{node}
 use Rattle.nodes.specs.Tree.{entry_nodes, expression_nodes, final_nodes, query_nodes}
 use Rattle.nodes.proofs.Fields.{One, apply_one, byte_one, literal_one, path_one, set_one}
 use Rattle.nodes.proofs.Shape.{Written, both_written, more_written, one_written}
@@ -68,18 +67,18 @@ module _ (kind : TermKind) (N : ℕ → Node) where
 
 pub entry_written : (count : ℕ) (t : Term ℕ) → Every (λ i. i < count) t → Written (terms t) (expression_bytes OfEntry t) (entry_nodes t)
 unfolding term_text
-entry_written = expression_written OfEntry (λ i. node (PathIndex i)) (λ i. byte_one 0x30 i PathIndex (λ s j. refl) (λ s j. refl) refl)
+entry_written = expression_written OfEntry PathIndex (λ i. byte_one 0x30 i PathIndex (λ s j. refl) (λ s j. refl) refl)
 
 -- a node for each of its terms
 pub entry_size : (t : Term ℕ) → length (entry_nodes t) ≡ terms t
-entry_size = expression_size OfEntry (λ i. node (PathIndex i))
+entry_size = expression_size OfEntry PathIndex
 
 -- ---- final expressions, over the indices of entries
 
 pub final_written : (count : ℕ) (t : Term ℕ) → Every (λ i. i < count) t → Written (terms t) (expression_bytes OfFinal t) (final_nodes t)
 unfolding term_text
-final_written = expression_written OfFinal (λ i. node (EntryIndex i)) (λ i. byte_one 0x31 i EntryIndex (λ s j. refl) (λ s j. refl) refl)
+final_written = expression_written OfFinal EntryIndex (λ i. byte_one 0x31 i EntryIndex (λ s j. refl) (λ s j. refl) refl)
 
 -- a node for each of its terms
 pub final_size : (t : Term ℕ) → length (final_nodes t) ≡ terms t
-final_size = expression_size OfFinal (λ i. node (EntryIndex i))
+final_size = expression_size OfFinal EntryIndex

@@ -24,11 +24,9 @@ use Rattle.term_text.proofs.Paths.{path_numbered, set_numbered}
 use Rattle.term_text.proofs.Steps.{byte_there, drop_on, tag_there, there, word_there}
 use Rattle.path_fields.specs.Paths.{path_at, set_at}
 use Rattle.wire.specs.Wire.{at32, le16, le32}
-use Rattle.nodes.specs.declared.Node.{Node}
 use Rattle.nodes.specs.declared.Term.{Term}
 use Rattle.nodes.specs.declared.Term.TheVariants.{Apply, Entry, Literal, Path, PathSet, ResultApply, ResultLiteral}
-use Rattle.nodes.specs.Text.{key_text, keys_text, node_text, set_text, start_field, start_text, term_text}
-use Rattle.nodes.specs.Nodes.{node}
+use Rattle.nodes.specs.Text.{key_text, keys_text, set_text, start_field, start_text, term_text}
 use Rattle.nodes.specs.Steps.{behind_set, collected, next_at, passed, reduction_tag, tagged, term_at}
 use Rattle.nodes.specs.Tree.{apply_node, literal_node}
 
@@ -82,14 +80,14 @@ module _ (s : List ℕ) (i x : ℕ) (l : List ℕ) (e : drop i s ≡ x ∷ l) wh
   next_is = rw (lt-leb (length s) i (there s i x l e), tag_there s i x l e) refl
 
   -- the collection goes on behind it
-  collected_on : (k : ℕ) (n : Node) (j : ℕ) → node (tagged x s i) ≡ n → passed x s i ≡ j → collected (suc k) s i ≡ n ∷ collected k s j
+  collected_on : (k : ℕ) (n : Term) (j : ℕ) → tagged x s i ≡ n → passed x s i ≡ j → collected (suc k) s i ≡ n ∷ collected k s j
   unfolding collected
   collected_on k n j p q = rw (term_is, next_is, p, q) refl
 
 -- ONE TERM AND ITS BYTES: where the bytes stand the term is collected, and the terms behind it; its text is the bytes
-pub record One (b : List ℕ) (n : Node) : Type 0 where
+pub record One (b : List ℕ) (n : Term) : Type 0 where
   pub collects : (s : List ℕ) (i k : ℕ) (rest : List ℕ) → drop i s ≡ b ++ rest → collected (suc k) s i ≡ n ∷ collected k s (i + length b)
-  pub text : node_text n ≡ b
+  pub text : term_text n ≡ b
 
 -- a tag and a field behind it: what the tag is read as, what the field is and where the next term starts
 tagged_one : {X : Type 0} (tag : ℕ) (x : X) (b : List ℕ) (made : X → Term) (field : List ℕ → ℕ → X)
@@ -97,23 +95,23 @@ tagged_one : {X : Type 0} (tag : ℕ) (x : X) (b : List ℕ) (made : X → Term)
     → ((s : List ℕ) (i : ℕ) (rest : List ℕ) → drop i s ≡ tag ∷ (b ++ rest)
     → (field s (i + 1) ≡ x) × (passed tag s i ≡ i + length (tag ∷ b)))
     → term_text (made x) ≡ tag ∷ b
-    → One (tag ∷ b) (node (made x))
+    → One (tag ∷ b) (made x)
 tagged_one tag x b made field is on text = record {
   collects = λ s i k rest e.
       let f = on s i rest e in
-      collected_on s i tag (b ++ rest) e k (node (made x)) (i + length (tag ∷ b)) (ap node (is s i ∙ ap made f.0)) f.1;
+      collected_on s i tag (b ++ rest) e k (made x) (i + length (tag ∷ b)) (is s i ∙ ap made f.0) f.1;
   text = text;
 }
 
 -- a tag and a byte
 pub byte_one : (tag o : ℕ) (made : ℕ → Term) → ((s : List ℕ) (i : ℕ) → tagged tag s i ≡ made (get_or s (i + 1) 0))
-    → ((s : List ℕ) (i : ℕ) → passed tag s i ≡ i + 2) → term_text (made o) ≡ tag ∷ o ∷ [] → One (tag ∷ o ∷ []) (node (made o))
+    → ((s : List ℕ) (i : ℕ) → passed tag s i ≡ i + 2) → term_text (made o) ≡ tag ∷ o ∷ [] → One (tag ∷ o ∷ []) (made o)
 byte_one tag o made is on text =
     tagged_one tag o (o ∷ []) made (λ s j. get_or s j 0) is (λ s i rest e. (byte_there s i tag o rest e, on s i)) text
 
 -- and 32 bits
 word_one : (tag x : ℕ) (made : ℕ → Term) → x < 2 ^ 32 → ((s : List ℕ) (i : ℕ) → tagged tag s i ≡ made (at32 s (i + 1)))
-    → ((s : List ℕ) (i : ℕ) → passed tag s i ≡ i + 5) → term_text (made x) ≡ tag ∷ le32 x → One (tag ∷ le32 x) (node (made x))
+    → ((s : List ℕ) (i : ℕ) → passed tag s i ≡ i + 5) → term_text (made x) ≡ tag ∷ le32 x → One (tag ∷ le32 x) (made x)
 word_one tag x made h is on text = tagged_one tag x (le32 x) made at32 is (λ s i rest e. (word_there s i tag x rest h e, on s i)) text
 
 -- a literal
@@ -135,7 +133,7 @@ apply_one kind o = go (literal_tags kind)
     go (inr p) = rw p (byte_one 0x22 o ResultApply (λ s i. refl) (λ s i. refl) refl)
 
 -- a path reduction with at most one source
-pub path_one : (c : PathReduction) → TermFits 256 (path c) → One (0x10 ∷ path_bytes c) (node (Path (packed c)))
+pub path_one : (c : PathReduction) → TermFits 256 (path c) → One (0x10 ∷ path_bytes c) (Path (packed c))
 unfolding term_text
 path_one c f =
     let ks = c.keys in
@@ -153,7 +151,7 @@ starts_length [] = refl
 starts_length (s ∷ ss) = omega (arith, starts_length ss)
 
 -- a path reduction with a set of sources
-pub set_one : (c : PathReduction) → TermFits 256 (path_set c) → One (0x13 ∷ set_bytes c) (node (PathSet (packed c)))
+pub set_one : (c : PathReduction) → TermFits 256 (path_set c) → One (0x13 ∷ set_bytes c) (PathSet (packed c))
 unfolding term_text
 set_one c f =
     tagged_one 0x13 (packed c) (set_bytes c) PathSet set_at (λ s i. refl)
@@ -179,11 +177,11 @@ set_one c f =
         rw (count, at, sources) (omega (arith, length-append ks set, starts_length ss))
 
 -- the reduction byte of an entry
-pub entry_one : (r : ℕ) → reduction_tag r ≡ true → One (r ∷ []) (node (Entry r))
+pub entry_one : (r : ℕ) → reduction_tag r ≡ true → One (r ∷ []) (Entry r)
 unfolding term_text
 entry_one r is = record {
   collects = λ s i k rest e.
-      collected_on s i r rest e k (node (Entry r)) (i + 1)
+      collected_on s i r rest e k (Entry r) (i + 1)
       (rw (
         is,
         no 0x10 refl,

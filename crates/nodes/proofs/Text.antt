@@ -9,11 +9,10 @@ use lib.ListN.{length, take, length-append, length-take}
 use Rattle.packed_path.specs.declared.PackedPath.{PackedPath}
 use Rattle.packed_path.specs.Packed.{sources_of}
 use Rattle.draft.proofs.Texts.{texts_short}
-use Rattle.nodes.specs.declared.Node.{Node}
 use Rattle.nodes.specs.declared.Term.{Term}
 use Rattle.nodes.specs.declared.Term.TheVariants.{Apply, Empty, Entry, EntryIndex, Literal, Path, PathIndex, PathSet, Reduce, ReduceWhere}
 use Rattle.nodes.specs.declared.Term.TheVariants.{ResultApply, ResultLiteral}
-use Rattle.nodes.specs.Text.{key_text, keys_text, node_text, nodes_text, set_text, start_text, term_text}
+use Rattle.nodes.specs.Text.{key_text, keys_text, nodes_text, set_text, start_text, term_text}
 use Rattle.nodes.proofs.Fields.{starts_length}
 
 -- a key takes at most one byte, the key count and the keys four, a set of sources 33, a term 38
@@ -59,5 +58,5 @@ term_short (EntryIndex i) = omega arith
 term_short (Entry r) = omega arith
 
 -- 72 nodes take at most 2,736 bytes
-pub nodes_short : (count : ℕ) (l : List Node) → length l ≡ 72 → length (nodes_text (take count l)) ≤ 2736
-nodes_short count l h = omega (arith, texts_short node_text 38 (λ n. term_short n.term) (take count l), length-take count l)
+pub nodes_short : (count : ℕ) (l : List Term) → length l ≡ 72 → length (nodes_text (take count l)) ≤ 2736
+nodes_short count l h = omega (arith, texts_short term_text 38 term_short (take count l), length-take count l)

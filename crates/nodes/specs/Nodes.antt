@@ -1,13 +1,8 @@
--- The typed form of terms (document 01, "Layouts"): an array of 72 nodes.
+-- The typed form of terms (document 01, "Layouts"): an array of 72 nodes, each a term without those that it contains.
 use Rattle.std.specs.Prelude.{◌-◌, List, ◌++◌, length, replicate}
-use Rattle.nodes.specs.declared.Node.{Node}
 use Rattle.nodes.specs.declared.Term.{Term}
 use Rattle.nodes.specs.declared.Term.TheVariants.{Empty}
 
--- a term as an element of the array
-abbrev pub node : Term → Node
-node t = record { term = t }
-
 -- the terms in front, the rest of 72 nodes empty
-abbrev pub padded : List Node → List Node
-padded l = l ++ replicate (72 - length l) (node Empty)
+abbrev pub padded : List Term → List Term
+padded l = l ++ replicate (72 - length l) Empty

@@ -3,11 +3,10 @@
 use Rattle.std.specs.Prelude.{ℕ, zero, suc, ◌+◌, ◌*◌, min, Bool, cond, ◌||◌, List, [], ◌∷◌, leb, ltb, eqb, length, get_or}
 use Rattle.path_fields.specs.Paths.{path_at, set_at}
 use Rattle.wire.specs.Wire.{at32}
-use Rattle.nodes.specs.declared.Node.{Node}
 use Rattle.nodes.specs.declared.Term.{Term}
 use Rattle.nodes.specs.declared.Term.TheVariants.{Empty, Path, PathSet, Literal, Apply, Reduce, ReduceWhere, ResultLiteral, ResultApply, PathIndex}
 use Rattle.nodes.specs.declared.Term.TheVariants.{EntryIndex, Entry}
-use Rattle.nodes.specs.Nodes.{node, padded}
+use Rattle.nodes.specs.Nodes.{padded}
 
 -- the reduction byte of an entry, "1 to 5" or 128 more: no term starts with a byte below 0x10 or from 128 on
 abbrev pub reduction_tag : ℕ → Bool
@@ -56,10 +55,10 @@ unfoldable pub next_at : List ℕ → ℕ → ℕ
 next_at s i = cond (leb (length s) i) i (passed (get_or s i 0) s i)
 
 -- so many terms from index i on
-unfoldable pub collected : ℕ → List ℕ → ℕ → List Node
+unfoldable pub collected : ℕ → List ℕ → ℕ → List Term
 collected zero s i = []
-collected (suc k) s i = node (term_at s i) ∷ collected k s (next_at s i)
+collected (suc k) s i = term_at s i ∷ collected k s (next_at s i)
 
 -- the typed form: 64 terms, and 8 reduction bytes of entries
-unfoldable pub nodes_read : ℕ → List ℕ → ℕ → List Node
+unfoldable pub nodes_read : ℕ → List ℕ → ℕ → List Term
 nodes_read count s i = padded (collected (min count 72) s i)

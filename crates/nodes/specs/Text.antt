@@ -5,7 +5,6 @@ use Rattle.packed_path.specs.Packed.{sources_of}
 use Rattle.term_text.specs.Text.{starts_bytes}
 use Rattle.draft.specs.Texts.{texts}
 use Rattle.wire.specs.Wire.{le16, le32}
-use Rattle.nodes.specs.declared.Node.{Node}
 use Rattle.nodes.specs.declared.Term.{Term}
 use Rattle.nodes.specs.declared.Term.TheVariants.{Empty, Path, PathSet, Literal, Apply, Reduce, ReduceWhere, ResultLiteral, ResultApply, PathIndex}
 use Rattle.nodes.specs.declared.Term.TheVariants.{EntryIndex, Entry}
@@ -57,10 +56,6 @@ term_text (PathIndex i) = 0x30 ∷ i ∷ []
 term_text (EntryIndex i) = 0x31 ∷ i ∷ []
 term_text (Entry r) = r ∷ []
 
--- the bytes of a node
-abbrev pub node_text : Node → List ℕ
-node_text n = term_text n.term
-
 -- "written operator first"
-abbrev pub nodes_text : List Node → List ℕ
-nodes_text = texts node_text
+abbrev pub nodes_text : List Term → List ℕ
+nodes_text = texts term_text

@@ -1,16 +1,17 @@
 // The typed form of terms (document 01, "Layouts"): one after the other in written order, read from bytes and put into a draft.
 #![tactic(auto)]
 
-ghost use Rattle.std.specs.Prelude.{◌≡◌, ◌+◌, ◌*◌, ◌≤◌, ◌<◌, length, take, ◌∷◌};
+ghost use Rattle.std.specs.Prelude.{◌≡◌, ◌≤◌, ◌<◌, length, take, ◌∷◌};
 ghost use Rattle.wire.specs.Wire.{le32};
 ghost use Rattle.nodes.specs.Steps.{behind_set, entry_tagged, reduction_tag, term_at, next_at, nodes_read};
-ghost use Rattle.nodes.specs.Text.{key_text, keys_text, nodes_text, path_text, path_set_text, set_text, start_field, start_text, term_text};
+ghost use Rattle.nodes.specs.Text.{key_text, keys_text, nodes_text, set_text, start_field, start_text, term_text};
 ghost use Rattle.draft.specs.Steps.{draft, put_list};
 
 use packed_path::PackedPath;
 
 // A term without those that it contains, or the reduction byte before an entry of a plan. A path reduction with one source or from anywhere (0x10) and one with
 // a set of sources (0x13) are different terms.
+// Kept: operators and reductions as bytes, since `put_term` promises `term_text` of any byte, also of one that is no operator.
 #[derive(Clone, Copy)]
 pub enum Term {
     Empty,
@@ -27,20 +28,11 @@ pub enum Term {
     Entry(u8),
 }
 
-// A term in a struct: a field of a struct can be an array of structs, and none of enums.
-#[derive(Clone, Copy)]
-pub struct Node {
-    pub term: Term,
-}
-
 // Is it the reduction byte of an entry? No term starts with a byte below 0x10 or from 128 on.
 fn reduction_byte(tag: u8) -> bool
     ensures { result ≡ reduction_tag tag }
 {
-    if tag < 0x10 {
-        return true;
-    }
-    128 <= tag
+    tag < 0x10 || 128 <= tag
 }
 
 // What another byte is than a term's first: an entry's reduction byte, or nothing.
@@ -48,20 +40,21 @@ fn entry_of(tag: u8) -> Term
     ensures { result ≡ entry_tagged tag }
 {
     if reduction_byte(tag) {
-        return Term::Entry(tag);
+        Term::Entry(tag)
+    } else {
+        Term::Empty
     }
-    Term::Empty
 }
 
 // The term that starts at i, by its tag.
+#[tactic(auto, unfolding(crate::specs::Steps::term_at))]
 fn term_of(s: &[u8], i: usize) -> Term
     ensures { result ≡ term_at s.now i }
 {
     if s.len() <= i {
         return Term::Empty;
     }
-    let tag = s[i];
-    match tag {
+    match s[i] {
         0x10 => Term::Path(path_fields::path_at(s, i + 1)),
         0x11 => Term::Literal(wire::word(s, i + 1)),
         0x12 => Term::Apply(wire::byte(s, i + 1)),
@@ -72,7 +65,7 @@ fn term_of(s: &[u8], i: usize) -> Term
         0x23 => Term::ReduceWhere(wire::byte(s, i + 1)),
         0x30 => Term::PathIndex(wire::byte(s, i + 1)),
         0x31 => Term::EntryIndex(wire::byte(s, i + 1)),
-        _ => entry_of(tag),
+        tag => entry_of(tag),
     }
 }
 
@@ -81,56 +74,44 @@ fn set_end(s: &[u8], i: usize) -> usize
     requires { i < length s.now }
     ensures { result ≡ behind_set s.now i }
 {
-    let keys = wire::byte(s, i + 1) as usize;
-    let sources = wire::byte(s, i + 2 + keys) as usize;
+    let keys = usize::from(wire::byte(s, i + 1));
+    let sources = usize::from(wire::byte(s, i + 2 + keys));
     i + 3 + keys + 2 * sources
 }
 
 // Where the term after the one at i starts.
+#[tactic(auto, unfolding(crate::specs::Steps::next_at))]
 fn next_of(s: &[u8], i: usize) -> usize
     ensures { result ≡ next_at s.now i }
 {
     if s.len() <= i {
         return i;
     }
-    let tag = s[i];
-    if tag == 0x10 {
-        return i + 4 + (wire::byte(s, i + 1) as usize);
+    match s[i] {
+        0x10 => i + 4 + usize::from(wire::byte(s, i + 1)),
+        0x13 => set_end(s, i),
+        0x11 | 0x21 => i + 5,
+        tag if reduction_byte(tag) => i + 1,
+        _ => i + 2,
     }
-    if tag == 0x13 {
-        return set_end(s, i);
-    }
-    if tag == 0x11 {
-        return i + 5;
-    }
-    if tag == 0x21 {
-        return i + 5;
-    }
-    if reduction_byte(tag) {
-        return i + 1;
-    }
-    i + 2
 }
 
 // The first `count` terms from `at` on, one after the other as written; at most 72 (64 terms, and 8 entries), and empty ones after them.
-pub fn read_nodes(s: &[u8], at: usize, count: usize) -> [Node; 72]
+// Kept: an array with a count beside it in place of a Vec (no heap).
+pub fn read_nodes(s: &[u8], at: usize, count: usize) -> [Term; 72]
     ensures { result ≡ nodes_read count s.now at }
 {
-    let empty = Node { term: Term::Empty };
-    let mut nodes = [empty; 72];
-    let n = wire::lesser(count, 72);
+    let mut nodes = [Term::Empty; 72];
     let mut next = at;
-    let mut i: usize = 0;
-    while i < n {
-        let term = term_of(s, next);
-        nodes[i] = Node { term };
+    for i in 0..count.min(72) {
+        nodes[i] = term_of(s, next);
         next = next_of(s, next);
-        i += 1;
     }
     nodes
 }
 
 // Key byte j of a path reduction of n keys.
+#[tactic(auto, unfolding(draft::specs::Steps::put_list))]
 fn put_key(d: &mut [u8], at: usize, n: u32, j: u32, b: u8) -> usize
     ensures { draft d.new result ≡ put_list (draft d.old at) (key_text n j b) }
 {
@@ -138,6 +119,7 @@ fn put_key(d: &mut [u8], at: usize, n: u32, j: u32, b: u8) -> usize
 }
 
 // A tag, the key count, and as many keys as that says.
+#[tactic(auto, using(draft::proofs::Drafts::put_append), unfolding(crate::specs::Text::keys_text, draft::specs::Steps::put_list))]
 fn put_keys(d: &mut [u8], at: usize, tag: u8, keys: u32) -> usize
     ensures { draft d.new result ≡ put_list (draft d.old at) (tag ∷ keys_text keys) }
 {
@@ -149,16 +131,15 @@ fn put_keys(d: &mut [u8], at: usize, tag: u8, keys: u32) -> usize
 }
 
 // The one source, 65,535 for anywhere; 256, which no reader accepts, where there are more.
+#[tactic(auto, unfolding(crate::specs::Text::start_field))]
 fn start_of(p: PackedPath) -> u64
     ensures { result ≡ start_field p }
 {
-    if p.count == 0 {
-        return 65535;
+    match p.count {
+        0 => 65535,
+        1 => p.low,
+        _ => 256,
     }
-    if p.count == 1 {
-        return p.low;
-    }
-    256
 }
 
 // The source of a path reduction that has one or starts anywhere: 16 bits.
@@ -174,49 +155,37 @@ pub fn put_set(d: &mut [u8], at: usize, p: PackedPath) -> usize
 {
     let mut next = draft::put(d, at, p.count);
     let mut rest = p;
-    let mut left = wire::lesser(16, p.count as usize);
-    while 0 < left {
+    for _ in 0..p.count.min(16) {
         next = draft::put16(d, next, packed_path::first(rest));
         rest = packed_path::rest(rest);
-        left -= 1;
     }
     next
 }
 
-// A path reduction as a query has it: its key count, as many keys as that says, and its source.
-fn put_path(d: &mut [u8], at: usize, p: PackedPath) -> usize
-    ensures { draft d.new result ≡ put_list (draft d.old at) (0x10 ∷ path_text p) }
-{
-    let start = put_keys(d, at, 0x10, p.keys);
-    put_start(d, start, p)
-}
-
-// The same with a set of sources.
-fn put_path_set(d: &mut [u8], at: usize, p: PackedPath) -> usize
-    ensures { draft d.new result ≡ put_list (draft d.old at) (0x13 ∷ path_set_text p) }
-{
-    let set = put_keys(d, at, 0x13, p.keys);
-    put_set(d, set, p)
-}
-
 // A tag and 32 bits, low byte first.
+#[tactic(auto, unfolding(draft::specs::Steps::put_list))]
 fn put_literal(d: &mut [u8], at: usize, tag: u8, x: u32) -> usize
     ensures { draft d.new result ≡ put_list (draft d.old at) (tag ∷ le32 x) }
 {
-    let wide = x as u64;
-    let low = draft::put(d, at, tag);
-    let high = draft::put16(d, low, wide);
-    draft::put16(d, high, wide / 65536)
+    let literal = draft::put(d, at, tag);
+    draft::put32(d, literal, x)
 }
 
 // A term without those that it contains. An empty one is a byte that no term starts with.
+#[tactic(auto, using(draft::proofs::Drafts::put_append), unfolding(crate::specs::Text::term_text, draft::specs::Steps::put_list))]
 fn put_term(d: &mut [u8], at: usize, t: Term) -> usize
     ensures { draft d.new result ≡ put_list (draft d.old at) (term_text t) }
 {
     match t {
         Term::Empty => draft::put(d, at, 0),
-        Term::Path(p) => put_path(d, at, p),
-        Term::PathSet(p) => put_path_set(d, at, p),
+        Term::Path(p) => {
+            let source = put_keys(d, at, 0x10, p.keys);
+            put_start(d, source, p)
+        }
+        Term::PathSet(p) => {
+            let set = put_keys(d, at, 0x13, p.keys);
+            put_set(d, set, p)
+        }
         Term::Literal(x) => put_literal(d, at, 0x11, x),
         Term::Apply(o) => draft::put_two(d, at, 0x12, o),
         Term::Reduce(o) => draft::put_two(d, at, 0x20, o),
@@ -230,18 +199,14 @@ fn put_term(d: &mut [u8], at: usize, t: Term) -> usize
 }
 
 // The first `count` terms, in written order: at most 38 bytes each.
-pub fn put_nodes(d: &mut [u8], at: usize, nodes: [Node; 72], count: usize) -> usize
+#[tactic(auto, unfolding(draft::specs::Steps::put_list, draft::specs::Texts::texts))]
+pub fn put_nodes(d: &mut [u8], at: usize, nodes: [Term; 72], count: usize) -> usize
     ensures { (draft d.new result ≡ put_list (draft d.old at) (nodes_text (take count nodes)))
         × (length (nodes_text (take count nodes)) ≤ 2736) }
 {
-    let most = wire::lesser(count, 72);
     let mut next = at;
-    let mut k: usize = 0;
-    while k < most {
-        let node = nodes[k];
-        let term = node.term;
-        next = put_term(d, next, term);
-        k += 1;
+    for term in &nodes[..count.min(72)] {
+        next = put_term(d, next, *term);
     }
     next
 }

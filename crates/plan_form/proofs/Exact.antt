@@ -5,14 +5,14 @@ use mathlib.Core.Bool.{Bool, true, false, cond}
 use mathlib.Core.List.{List, [], ◌∷◌, ◌++◌, map, append_assoc, append-nil}
 use mathlib.Core.Option.{Option, none, some}
 use native.Mathlib.Omega.{arith}
-use borrow.Author.Tests.{le-leb, le-ltb, lt-ltb, eq-eqb, eqb-true}
+use borrow.Author.Tests.{le-leb, le-ltb, lt-ltb, eqb-true}
 use lib.Dec.{eqb}
 use lib.ListN.{length, drop, take, length-append, length-map}
 use lib.Seq.{drop_at, take_at}
 use Rattle.meaning.specs.Limits.{BodyLegal, EntryLegal, Expression, Optional, PlanLegal, condition_terms, entry_terms, plan_terms, terms}
 use Rattle.meaning.specs.Plan.{Body, Plan, Term, VertexReduction, each_vertex, one_result}
 use Rattle.meaning.specs.Query.{PathReduction}
-use Rattle.nodes.specs.declared.Node.{Node}
+use Rattle.nodes.specs.declared.Term.{Term as Node}
 use Rattle.draft.specs.Texts.{texts}
 use Rattle.nodes.specs.Text.{nodes_text, set_text, start_text}
 use Rattle.nodes.specs.Nodes.{padded}
@@ -31,7 +31,7 @@ use Rattle.plan.specs.Tree.{plan_of}
 use Rattle.plan.proofs.Exact.{read_complete}
 use Rattle.plan.proofs.ListedPaths.{Listed, all_listed}
 use Rattle.plan.proofs.Tree.{body_there, plan_back, plan_read}
-use Rattle.progress.specs.declared.Progress.{Progress}
+use Rattle.progress.specs.Progress.{Scan}
 use Rattle.terms.specs.declared.TermKind.TheVariants.{OfEntry, OfFinal}
 use Rattle.term_text.specs.Text.{expression_bytes, start_of, starts_bytes}
 use Rattle.term_text.proofs.Steps.{drop_on}
@@ -41,7 +41,7 @@ use Rattle.wire.specs.Wire.{Bytes, done, le16}
 use Rattle.plan_form.specs.declared.Form.{Form}
 use Rattle.plan_form.specs.Form.{all_listed_text, body_nodes, condition_nodes, entries_nodes, form_bytes, form_of, held_code, listed_text}
 use Rattle.plan_form.specs.Form.{plan_reading, write_reply}
-use Rattle.plan_form.specs.Steps.{form_after, read_after}
+use Rattle.plan_form.specs.Steps.{form_after}
 use Rattle.plan_form.proofs.Written.{held_legal}
 
 -- the bytes behind the entry count
@@ -117,10 +117,10 @@ nodes_are p l =
     ((body_written (length p.paths) p.body l.body_legal).collects s i 0 [] there)
 
 -- what the table holds behind the path reductions
-abbrev behind : Progress → List PackedPath
+abbrev behind : Scan → List PackedPath
 behind w = drop w.paths w.table
 
-table_is : (w : Progress) (cs : List PathReduction) → Table w cs → w.table ≡ map packed cs ++ behind w
+table_is : (w : Scan) (cs : List PathReduction) → Table w cs → w.table ≡ map packed cs ++ behind w
 table_is w cs t =
     let n : length (map packed cs) ≡ w.paths = length-map cs packed ∙ sym t.count in
     t.holds ∙ ap (λ (l : List PackedPath). map packed cs ++ l) (sym (ap (drop w.paths) t.holds ∙ drop_at (map packed cs) t.rest w.paths n))
@@ -147,30 +147,24 @@ form_made p l =
     })
 
 -- what is made of accepted bytes
-reading_is : (s : List ℕ) → plan_code s ≡ 0 → ((plan_reading s).code ≡ 0) × ((plan_reading s).form ≡ form_of (plan_of s) (behind (plan_scan s)))
+reading_is : (s : List ℕ) → plan_reading s ≡ form_of (plan_of s) (behind (plan_scan s))
 unfolding plan_reading
-reading_is s z = rw (eq-eqb (plan_code s) 0 z) (refl, refl)
+reading_is s = refl
 
--- THE BYTES OF A LEGAL PLAN ARE READ AS ITS TYPED FORM
-pub read_form : (p : Plan) → PlanLegal 256 p → ((plan_reading (encode p)).code ≡ 0)
-    × ((rest : List PackedPath) × ((plan_reading (encode p)).form ≡ form_of p rest))
+-- THE BYTES OF A LEGAL PLAN ARE ACCEPTED, AND READ AS ITS TYPED FORM
+pub read_form : (p : Plan) → PlanLegal 256 p → (plan_code (encode p) ≡ 0)
+    × ((rest : List PackedPath) × (plan_reading (encode p) ≡ form_of p rest))
 read_form p l =
-    let r = reading_is (encode p) (read_complete p l).accepted in
-    let rest = behind (plan_scan (encode p)) in
-    (r.0, (rest, r.1 ∙ ap (λ (q : Plan). form_of q rest) (plan_back p l)))
+    let s = encode p in
+    let rest = behind (plan_scan s) in
+    ((read_complete p l).accepted, (rest, reading_is s ∙ ap (λ (q : Plan). form_of q rest) (plan_back p l)))
 
--- THE PROGRAM READS AS IS SAID, all bytes
-pub read_steps : (s : List ℕ) → Bytes s → read_after s (plan_scan s) ≡ plan_reading s
-unfolding read_after plan_reading
-read_steps s b = go (eqb (plan_code s) 0) refl
-  where
-    go : (t : Bool) → eqb (plan_code s) 0 ≡ t → read_after s (plan_scan s) ≡ plan_reading s
-    go false e = rw e refl
-    go true e =
-        let p = plan_read s b (eqb-true (plan_code s) 0 e) in
-        let made : form_after s (plan_scan s) ≡ form_of (plan_of s) (behind (plan_scan s)) =
-        subst (λ (t : List ℕ). form_after t (plan_scan t) ≡ form_of (plan_of s) (behind (plan_scan t))) p.1 (form_made (plan_of s) p.0) in
-        rw (e, made) refl
+-- THE PROGRAM READS AS IS SAID, all accepted bytes
+pub read_steps : (s : List ℕ) → Bytes s → plan_code s ≡ 0 → form_after s (plan_scan s) ≡ plan_reading s
+unfolding plan_reading
+read_steps s b z =
+    let p = plan_read s b z in
+    subst (λ (t : List ℕ). form_after t (plan_scan t) ≡ form_of (plan_of s) (behind (plan_scan t))) p.1 (form_made (plan_of s) p.0)
 
 -- a node for each term and each entry
 condition_size : (c : Option (Term ℕ)) → length (condition_nodes c) ≡ condition_terms c
@@ -235,11 +229,11 @@ held_form p l rest =
     ap (held_code p.version) (take_at (map packed p.paths) rest (length p.paths) (length-map p.paths packed)) ∙ held_legal p l
 
 -- WRITING WHAT WAS READ GIVES THE BYTES READ
-pub write_read : (s : List ℕ) → Bytes s → plan_code s ≡ 0 → (room : ℕ) → length s ≤ room → write_reply (plan_reading s).form room ≡ done s
+pub write_read : (s : List ℕ) → Bytes s → plan_code s ≡ 0 → (room : ℕ) → length s ≤ room → write_reply (plan_reading s) room ≡ done s
 unfolding write_reply
 write_read s b z room h =
     let p = plan_read s b z in
-    let r = (reading_is s z).1 in
-    let e : form_bytes (plan_reading s).form ≡ s = ap form_bytes r ∙ write_form (plan_of s) p.0 (behind (plan_scan s)) ∙ p.1 in
+    let r = reading_is s in
+    let e : form_bytes (plan_reading s) ≡ s = ap form_bytes r ∙ write_form (plan_of s) p.0 (behind (plan_scan s)) ∙ p.1 in
     let held = ap (λ (f : Form). held_code f.version (take f.paths f.table)) r ∙ held_form (plan_of s) p.0 (behind (plan_scan s)) in
     rw (held, e, z, le-ltb room (length s) h) refl

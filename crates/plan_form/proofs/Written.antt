@@ -1,21 +1,19 @@
 -- How long the text of path reductions is, and whether any of them is a set. Assumes nothing.
-use Prim.Native.Nat.{ℕ, suc, ◌+◌, ◌-◌, ◌≤◌, ◌<◌}
+use Prim.Native.Nat.{ℕ, suc, ◌≤◌, ◌<◌}
 use mathlib.Core.Path.{◌≡◌, refl}
 use mathlib.Core.Bool.{Bool, true, false, cond, ◌||◌}
 use mathlib.Core.List.{List, [], ◌∷◌, map}
-use native.Mathlib.Numerals.{add-one}
 use native.Mathlib.Omega.{arith}
 use borrow.Author.Tests.{eqb-true, lt-leb}
 use lib.Dec.{leb, eqb}
-use lib.ListN.{length, get_or, take, drop, length-take}
-use lib.Seq.{drop-cons}
+use lib.ListN.{length, take, length-take}
 use Rattle.draft.proofs.Texts.{texts_short}
 use Rattle.meaning.specs.Limits.{HeldBy, PlanLegal}
 use Rattle.meaning.specs.Plan.{Plan, version_of}
 use Rattle.meaning.specs.Query.{PathReduction}
 use Rattle.nodes.specs.Text.{set_text, start_text}
 use Rattle.packed_path.specs.declared.PackedPath.{PackedPath}
-use Rattle.packed_path.specs.Packed.{no_path, packed, sources_of}
+use Rattle.packed_path.specs.Packed.{packed, sources_of}
 use Rattle.term_text.proofs.Sources.{starts_size}
 use Rattle.walks.specs.Lists.{All}
 use Rattle.plan_form.specs.Form.{all_listed_text, any_set, held_code, listed_text}
@@ -31,19 +29,6 @@ row_short version p = go (eqb version 1)
 -- eight take at most 296 bytes
 pub rows_short : (version count : ℕ) (l : List PackedPath) → length l ≡ 8 → length (all_listed_text version (take count l)) ≤ 296
 rows_short version count l h = omega (arith, texts_short (listed_text version) 37 (row_short version) (take count l), length-take count l)
-
--- sets from the i-th on, of the first n
-abbrev pub sets_left : List PackedPath → ℕ → ℕ → Bool
-sets_left table n i = any_set (take (n - i) (drop i table))
-
-module _ (table : List PackedPath) (n i : ℕ) where
-  pub set_next : i < n → n ≤ length table → sets_left table n i ≡ (leb 2 (get_or table i no_path).count || sets_left table n (i + 1))
-  set_next h k =
-      let e : n - i ≡ suc (n - (i + 1)) = omega arith in
-      rw (e, drop-cons table i no_path (omega arith), ← add-one i) refl
-
-  pub set_none : n ≤ i → sets_left table n i ≡ false
-  set_none h = let e : n - i ≡ 0 = omega arith in rw e refl
 
 -- FUSING TAKES VERSION 2 EXACTLY WHERE THERE IS A SET
 pub version_is : (cs : List PathReduction) → version_of cs ≡ cond (any_set (map packed cs)) 2 1

@@ -1,23 +1,23 @@
 -- Plans in their typed form, and what reading and writing them says (document 01: worksheet `LPW`).
-use Rattle.std.specs.Prelude.{ℕ, ◌+◌, Bool, false, cond, ◌||◌, List, [], ◌∷◌, ◌++◌, map, leb, eqb, length, drop, take, replicate}
+use Rattle.std.specs.Prelude.{ℕ, ◌+◌, Bool, cond, List, [], ◌∷◌, ◌++◌, map, leb, eqb, length, drop, take}
+use Rattle.std.specs.List.{list_any}
 use Rattle.std.proofs.Math.Option.{Option, none, some}
 use Rattle.meaning.specs.Limits.{plan_terms}
 use Rattle.meaning.specs.Plan.{Body, Plan, Term, VertexReduction, each_vertex, one_result}
-use Rattle.nodes.specs.declared.Node.{Node}
-use Rattle.nodes.specs.declared.Term.TheVariants.{Empty, Entry}
+use Rattle.nodes.specs.declared.Term.{Term as Node}
+use Rattle.nodes.specs.declared.Term.TheVariants.{Entry}
 use Rattle.draft.specs.Texts.{texts}
 use Rattle.nodes.specs.Text.{nodes_text, set_text, start_text}
-use Rattle.nodes.specs.Nodes.{node, padded}
+use Rattle.nodes.specs.Nodes.{padded}
 use Rattle.nodes.specs.Tree.{entry_nodes, final_nodes}
 use Rattle.plan.specs.Plan.{plan_code, plan_scan}
 use Rattle.plan.specs.Text.{entry_count, kind_of, reduction_byte}
 use Rattle.plan.specs.Tree.{plan_of}
 use Rattle.packed_path.specs.declared.PackedPath.{PackedPath}
-use Rattle.packed_path.specs.Packed.{no_path, packed}
+use Rattle.packed_path.specs.Packed.{packed}
 use Rattle.wire.specs.Header.{header_bytes}
 use Rattle.wire.specs.Wire.{Reply, fitted, le32, unless}
 use Rattle.plan_form.specs.declared.Form.{Form}
-use Rattle.plan_form.specs.declared.Reading.{Reading}
 
 -- the nodes of a condition where there is one: "the condition's expression precedes the value's"
 abbrev pub condition_nodes : Option (Term ℕ) → List Node
@@ -28,11 +28,11 @@ condition_nodes (some c) = entry_nodes c
 abbrev pub entries_nodes : List (VertexReduction ℕ) → List Node
 entries_nodes [] = []
 entries_nodes (e ∷ es) =
-    node (Entry (reduction_byte e.reduction e.condition)) ∷ (condition_nodes e.condition ++ (entry_nodes e.body ++ entries_nodes es))
+    Entry (reduction_byte e.reduction e.condition) ∷ (condition_nodes e.condition ++ (entry_nodes e.body ++ entries_nodes es))
 
 -- and of a plan: "for kind 1 a final expression"; "Kind 0 has e = 1 and reduction byte 0"
 abbrev pub body_nodes : Body → List Node
-body_nodes (each_vertex t) = node (Entry 0) ∷ entry_nodes t
+body_nodes (each_vertex t) = Entry 0 ∷ entry_nodes t
 body_nodes (one_result es t) = entries_nodes es ++ final_nodes t
 
 -- THE TYPED FORM OF A PLAN; behind its path reductions the table may hold anything, `rest`
@@ -58,8 +58,7 @@ all_listed_text version = texts (listed_text version)
 
 -- has any of them two sources or more?
 abbrev pub any_set : List PackedPath → Bool
-any_set [] = false
-any_set (p ∷ ps) = leb 2 p.count || any_set ps
+any_set = list_any (λ p. leb 2 p.count)
 
 -- "What that version has no bytes for is refused 3, where a reader judges the version." (document 02, b): version 1 has none for a set of two or more
 abbrev pub held_code : ℕ → List PackedPath → ℕ
@@ -76,15 +75,6 @@ unfoldable pub write_reply : Form → ℕ → Reply
 write_reply f room =
     unless (held_code f.version (take f.paths f.table)) (unless (plan_code (form_bytes f)) (fitted (form_bytes f) room))
 
--- after a refusal: its number, and nothing else
-abbrev pub blank_reading : ℕ → Reading
-blank_reading code = record {
-  code = code;
-  form = record { version = 0; kind = 0; paths = 0; table = replicate 8 no_path; entries = 0; count = 0; nodes = replicate 72 (node Empty) };
-}
-
--- THE READING OF BYTES: of accepted ones the typed form of the plan that they write; behind its path reductions the table holds what the scan leaves there
-unfoldable pub plan_reading : List ℕ → Reading
-plan_reading s =
-    let w = plan_scan s in
-    cond (eqb w.code 0) (record { code = 0; form = form_of (plan_of s) (drop w.paths w.table) }) (blank_reading w.code)
+-- THE READING OF ACCEPTED BYTES: the typed form of the plan that they write; behind its path reductions the table holds what the scan leaves there
+unfoldable pub plan_reading : List ℕ → Form
+plan_reading s = let w = plan_scan s in form_of (plan_of s) (drop w.paths w.table)

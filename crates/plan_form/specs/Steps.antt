@@ -1,14 +1,12 @@
--- The reader as the program goes. Nothing to believe: `read_steps` (proofs/Exact) says that of all bytes it gives `plan_reading`.
-use Rattle.std.specs.Prelude.{ℕ, ◌+◌, min, cond, List, eqb, get_or}
+-- The reader as the program goes. Nothing to believe: `read_steps` (proofs/Exact) says that of accepted bytes it gives `plan_reading`.
+use Rattle.std.specs.Prelude.{ℕ, ◌+◌, min, List, get_or}
 use Rattle.nodes.specs.Steps.{nodes_read}
 use Rattle.plan.specs.Plan.{count_at}
-use Rattle.progress.specs.declared.Progress.{Progress}
+use Rattle.progress.specs.Progress.{Scan}
 use Rattle.plan_form.specs.declared.Form.{Form}
-use Rattle.plan_form.specs.declared.Reading.{Reading}
-use Rattle.plan_form.specs.Form.{blank_reading}
 
 -- the typed form, from what the scan of the bytes has found
-unfoldable pub form_after : List ℕ → Progress → Form
+unfoldable pub form_after : List ℕ → Scan → Form
 form_after s w =
     let count = min w.terms 64 + min w.reductions 8 in
     record {
@@ -20,7 +18,3 @@ form_after s w =
       count = count;
       nodes = nodes_read count s (count_at s + 1);
     }
-
--- the whole reading
-unfoldable pub read_after : List ℕ → Progress → Reading
-read_after s w = cond (eqb w.code 0) (record { code = 0; form = form_after s w }) (blank_reading w.code)

@@ -1,16 +1,14 @@
 -- READING GIVES THE TYPED FORM OF A QUERY, AND WRITING IT GIVES ITS BYTES. Assumes nothing.
 use Prim.Native.Nat.{ℕ, ◌+◌, ◌≤◌}
 use mathlib.Core.Path.{◌≡◌, refl, sym, ap, ◌∙◌}
-use mathlib.Core.Bool.{Bool, true, false}
 use mathlib.Core.List.{List, [], ◌∷◌, ◌++◌, map, append-nil}
 use native.Mathlib.Omega.{arith}
-use borrow.Author.Tests.{le-ltb, eq-eqb, eqb-true}
-use lib.Dec.{eqb}
+use borrow.Author.Tests.{le-ltb}
 use lib.ListN.{length}
 use Rattle.meaning.specs.Limits.{QueryLegal, query_reductions, query_terms}
 use Rattle.meaning.specs.Plan.{put_all}
 use Rattle.meaning.specs.Query.{Query, each, result, single, vertex, written_paths}
-use Rattle.nodes.specs.declared.Node.{Node}
+use Rattle.nodes.specs.declared.Term.{Term}
 use Rattle.nodes.specs.Text.{nodes_text}
 use Rattle.nodes.specs.Steps.{nodes_read}
 use Rattle.nodes.specs.Tree.{query_nodes}
@@ -42,12 +40,11 @@ nodes_are (single t) l =
 -- the form made of the bytes of a legal query is the query's
 form_made : (q : Query) → QueryLegal 256 q → form_after (encode q) (query_terms q) ≡ form_of q
 unfolding form_of form_after
-form_made (each t) l = ap (λ (n : List Node). record { kind = 0; count = query_terms (each t); nodes = n }) (nodes_are (each t) l)
-form_made (single t) l = ap (λ (n : List Node). record { kind = 1; count = query_terms (single t); nodes = n }) (nodes_are (single t) l)
+form_made (each t) l = ap (λ (n : List Term). record { kind = 0; count = query_terms (each t); nodes = n }) (nodes_are (each t) l)
+form_made (single t) l = ap (λ (n : List Term). record { kind = 1; count = query_terms (single t); nodes = n }) (nodes_are (single t) l)
 
 -- what is read of a query: its typed form, and its different path reductions in order of first writing, by their numbers
 pub record ReadAs (r : Reading) (q : Query) : Type 0 where
-  pub code : r.code ≡ 0
   pub form : r.form ≡ form_of q
   pub paths : r.paths ≡ length (put_all [] (written_paths q))
   pub rest : List PackedPath
@@ -55,38 +52,34 @@ pub record ReadAs (r : Reading) (q : Query) : Type 0 where
   pub reductions : r.reductions ≡ query_reductions q
 
 -- what is made of accepted bytes: the typed form of the query that they write
-pub reading_is : (s : List ℕ) → query_code s ≡ 0 → ((query_reading s).code ≡ 0) × ((query_reading s).form ≡ form_of (query_of s))
+pub reading_is : (s : List ℕ) → (query_reading s).form ≡ form_of (query_of s)
 unfolding query_reading
-reading_is s z = rw (eq-eqb (query_code s) 0 z) (refl, refl)
+reading_is s = refl
 
--- THE BYTES OF A LEGAL QUERY ARE READ AS ITS TYPED FORM
-pub read_form : (q : Query) → QueryLegal 256 q → ReadAs (query_reading (encode q)) q
+-- THE BYTES OF A LEGAL QUERY ARE ACCEPTED, AND READ AS ITS TYPED FORM
+pub read_form : (q : Query) → QueryLegal 256 q → (query_code (encode q) ≡ 0) × ReadAs (query_reading (encode q)) q
 unfolding query_reading
 read_form q l =
-    let a = read_complete q l in
-    rw (eq-eqb (query_scan (encode q)).code 0 a.accepted)
-    (record {
-      code = refl;
-      form = ap form_of (query_back q l);
-      paths = a.table.count;
-      rest = a.table.rest;
-      table = a.table.holds;
-      reductions = a.reductions;
-    })
+    let a = read_complete q l in (
+      a.accepted,
+      record {
+        form = ap form_of (query_back q l);
+        paths = a.table.count;
+        rest = a.table.rest;
+        table = a.table.holds;
+        reductions = a.reductions;
+      },
+    )
 
--- THE PROGRAM READS AS IS SAID, all bytes
-pub read_steps : (s : List ℕ) → Bytes s → read_after s (query_scan s) ≡ query_reading s
+-- THE PROGRAM READS AS IS SAID, all accepted bytes
+pub read_steps : (s : List ℕ) → Bytes s → query_code s ≡ 0 → read_after s (query_scan s) ≡ query_reading s
 unfolding read_after query_reading
-read_steps s b = go (eqb (query_code s) 0) refl
-  where
-    go : (t : Bool) → eqb (query_code s) 0 ≡ t → read_after s (query_scan s) ≡ query_reading s
-    go false e = rw e refl
-    go true e =
-        let q = query_read s b (eqb-true (query_code s) 0 e) in
-        let n = query_terms (query_of s) in
-        let count : (query_scan s).terms ≡ n = ap (λ (t : List ℕ). (query_scan t).terms) (sym q.1) ∙ (read_complete (query_of s) q.0).terms in
-        let made : form_after s n ≡ form_of (query_of s) = ap (λ (t : List ℕ). form_after t n) (sym q.1) ∙ form_made (query_of s) q.0 in
-        rw (e, count, made) refl
+read_steps s b z =
+    let q = query_read s b z in
+    let n = query_terms (query_of s) in
+    let count : (query_scan s).terms ≡ n = ap (λ (t : List ℕ). (query_scan t).terms) (sym q.1) ∙ (read_complete (query_of s) q.0).terms in
+    let made : form_after s n ≡ form_of (query_of s) = ap (λ (t : List ℕ). form_after t n) (sym q.1) ∙ form_made (query_of s) q.0 in
+    rw (count, made) refl
 
 -- WRITTEN, THE TYPED FORM IS THE BYTES
 pub write_form : (q : Query) → QueryLegal 256 q → form_bytes (form_of q) ≡ encode q
@@ -104,5 +97,5 @@ pub write_read : (s : List ℕ) → Bytes s → query_code s ≡ 0 → (room : �
 unfolding write_reply
 write_read s b z room h =
     let q = query_read s b z in
-    let e : form_bytes (query_reading s).form ≡ s = ap form_bytes (reading_is s z).1 ∙ write_form (query_of s) q.0 ∙ q.1 in
+    let e : form_bytes (query_reading s).form ≡ s = ap form_bytes (reading_is s) ∙ write_form (query_of s) q.0 ∙ q.1 in
     rw (e, z, le-ltb room (length s) h) refl

@@ -1,14 +1,12 @@
 -- Queries in their typed form, and what reading and writing them says (document 01: question `LPQ`).
-use Rattle.std.specs.Prelude.{ℕ, cond, List, ◌∷◌, ◌++◌, eqb, take, replicate}
+use Rattle.std.specs.Prelude.{ℕ, List, ◌∷◌, ◌++◌, take}
 use Rattle.meaning.specs.Limits.{query_terms}
 use Rattle.meaning.specs.Query.{Query, each, result, single, vertex}
-use Rattle.nodes.specs.declared.Term.TheVariants.{Empty}
 use Rattle.nodes.specs.Text.{nodes_text}
-use Rattle.nodes.specs.Nodes.{node, padded}
+use Rattle.nodes.specs.Nodes.{padded}
 use Rattle.nodes.specs.Tree.{query_nodes}
 use Rattle.query.specs.Query.{query_code, query_scan}
 use Rattle.query.specs.Tree.{query_of}
-use Rattle.packed_path.specs.Packed.{no_path}
 use Rattle.wire.specs.Header.{header_bytes}
 use Rattle.wire.specs.Wire.{Reply, fitted, unless}
 use Rattle.query_form.specs.declared.Form.{Form}
@@ -27,21 +25,9 @@ form_bytes f = header_bytes 0x51 1 ++ (f.kind ∷ nodes_text (take f.count f.nod
 unfoldable pub write_reply : Form → ℕ → Reply
 write_reply f room = unless (query_code (form_bytes f)) (fitted (form_bytes f) room)
 
--- after a refusal: its number, and nothing else
-abbrev pub blank_reading : ℕ → Reading
-blank_reading code = record {
-  code = code;
-  form = record { kind = 0; count = 0; nodes = replicate 72 (node Empty) };
-  paths = 0;
-  table = replicate 8 no_path;
-  reductions = 0;
-}
-
--- THE READING OF BYTES: of accepted ones the typed form of the query that they write, its different path reductions in order of first writing (`table`) and how
+-- THE READING OF ACCEPTED BYTES: the typed form of the query that they write, its different path reductions in order of first writing (`table`) and how
 -- many reductions it has, as the scan finds them
 unfoldable pub query_reading : List ℕ → Reading
 query_reading s =
     let w = query_scan s in
-    cond (eqb w.code 0)
-    (record { code = 0; form = form_of (query_of s); paths = w.paths; table = w.table; reductions = w.reductions })
-    (blank_reading w.code)
+    record { form = form_of (query_of s); paths = w.paths; table = w.table; reductions = w.reductions }

@@ -7,18 +7,16 @@ pub returns-then-same : goal.returns-then-same
 returns-then-same c =
     let l = c.loop-i in
     let a = c.args in
-    let same = sym c.same.ensures ∙ c.if-same.true in
-    (sym (index_here a.p a.table l.i (omega arith) same) ∙ l.invariant.1, omega arith)
+    (sym (index_here a.p a.table l.i (omega arith) (sym c.if-same.ensures)) ∙ l.invariant, omega arith)
 
 pub loop-i-preserved : goal.loop-i-preserved
 loop-i-preserved c =
     let l = c.loop-i in
     let a = c.args in
-    let other = sym c.same.ensures ∙ c.if-same.false in
-    (omega arith, sym (index_next a.p a.table l.i (omega arith) other) ∙ l.invariant.1)
+    sym (index_next a.p a.table l.i (omega arith) (sym c.if-same.ensures)) ∙ l.invariant
 
 pub returns : goal.returns
 returns c =
     let l = c.loop-i in
     let a = c.args in
-    (omega (arith, index_none a.p a.table l.i (omega arith), l.invariant.1), omega arith)
+    (omega (arith, index_none a.p a.table l.i (omega arith), l.invariant), omega arith)

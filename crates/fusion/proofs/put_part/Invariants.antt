@@ -1,14 +1,13 @@
-use Prim.Native.Nat.{◌-◌, ◌≤◌}
+use Prim.Native.Nat.{ℕ, ◌≤◌}
 use mathlib.Core.Path.{◌≡◌}
-use lib.ListN.{take}
-use Rattle.fusion.specs.Steps.{put_part}
+use lib.ListN.{length}
+use Rattle.nodes.specs.declared.Term.{Term}
+use Rattle.fusion.specs.Steps.{Computes, put_part}
 use Rattle.fusion.proofs.Parts.{left, written}
 use Rattle.fusion.proofs.put_part.Given as goal
 
-abbrev pub invariant-loop-i : goal.invariant-loop-i
-invariant-loop-i l = (l.i ≤ l.n) × (l.k ≤ l.i)
-    × (put_part l.part l.table l.k (written l.list l.len) (left l.nodes l.n l.i)
-    ≡ put_part l.part l.table 0 (written l.initial.list l.initial.len) (take l.n l.nodes))
-
-abbrev pub decreases-loop-i : goal.decreases-loop-i
-decreases-loop-i l = l.n - l.i
+abbrev pub invariant-loop-node : goal.invariant-loop-node
+invariant-loop-node g l = (l.k ≤ l.node-index)
+    × ((part : ℕ → Term → Term) → Computes (goal.F-post g l.part) part
+    → put_part part l.k (written l.list l.len) (left l.node-items (length l.node-items) l.node-index)
+    ≡ put_part part 0 (written l.initial.list l.initial.len) l.node-items)

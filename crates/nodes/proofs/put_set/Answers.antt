@@ -1,4 +1,4 @@
-use Prim.Native.Nat.{ℕ, zero, suc, ◌-◌, ◌/◌, ◌≤◌, ◌<◌, min}
+use Prim.Native.Nat.{ℕ, zero, suc, ◌+◌, ◌-◌, ◌/◌, ◌≤◌, ◌<◌}
 use mathlib.Core.Path.{◌≡◌, refl, sym, ap, ◌∙◌}
 use mathlib.Core.List.{List, ◌∷◌}
 use native.Mathlib.Omega.{arith}
@@ -32,35 +32,24 @@ put_next d p k h l =
     (ap (λ (s : List ℕ). starts_bytes (take k s)) (sources_first p (omega arith))
     ∙ ap (λ (n : ℕ). starts_bytes (take n (first_of p ∷ sources_of (rest_of p)))) e)
 
--- when none is left, the first 16 have been put
-put_done : (d d₀ : Draft) (p q : PackedPath) (k n : ℕ) → k ≡ 0 → n ≡ min 16 p.count
-    → put_list d (starts_bytes (take k (sources_of q))) ≡ put_list d₀ (starts_bytes (take n (sources_of p)))
-    → d ≡ put_list d₀ (starts_bytes (take 16 (sources_of p)))
-unfolding put_list
-put_done d d₀ p q k n none least e =
-    (rw none at e) ∙ ap (λ (l : List ℕ). put_list d₀ (starts_bytes l)) (take_least 16 p.count n (sources_of p) (sources_length p) least)
-
--- one source less
-less : (p : PackedPath) (k : ℕ) → 0 < k → k ≤ p.count → k - 1 ≤ (rest_of p).count
+pub loop-preserved : goal.loop-preserved
 unfolding rest_of
-less p k h l = omega arith
-
-pub loop-left-preserved : goal.loop-left-preserved
-loop-left-preserved c =
-    let more = c.loop-left-test.true in
-    let l = c.loop-left in (
-      rw c.rest-rest.ensures (less l.rest l.left more l.invariant.0),
-      omega (arith, l.invariant.1),
-      rw (c.rest-rest.ensures, c.put16-next.ensures, c.first.ensures.0)
-          (sym (put_next (draft l.d l.next) l.rest l.left more l.invariant.0) ∙ l.invariant.2),
+loop-preserved c =
+    let l = c.loop in
+    let left = c.min-end.result - l.counter in
+    let more : 0 < left = omega arith in
+    let less : c.min-end.result - (l.counter + 1) ≡ left - 1 = omega arith in (
+      rw c.rest-rest.ensures (omega arith),
+      rw (c.rest-rest.ensures, c.put16-next.ensures, c.first.ensures.0, less)
+          (sym (put_next (draft l.d l.next) l.rest left more l.invariant.0) ∙ l.invariant.1),
     )
 
+-- when none is left, the first 16 have been put
 pub returns : goal.returns
 unfolding put_list
 returns c =
-    let l = c.loop-left in
-    let least = c.lesser-left in
-    let a = c.args in
-    put_done (draft l.d l.next) (draft c.put-next.new.d c.put-next.result) a.p l.rest l.left least.result (omega arith)
-    least.ensures.0 l.invariant.2
-    ∙ rw c.put-next.ensures refl
+    let l = c.loop in
+    let p = c.args.p in
+    let none : c.min-end.result - l.counter ≡ 0 = omega arith in
+    let first = take_least 16 c.min-end.result (sources_of p) (omega (arith, sources_length p)) in
+    (rw none at l.invariant.1) ∙ rw (first, c.put-next.ensures) refl

@@ -1,3 +1,4 @@
+use native.Mathlib.Omega.{arith}
 use Rattle.nodes.specs.Steps.{nodes_read}
 use Rattle.nodes.proofs.Held.{held_more, held_all}
 use Rattle.nodes.proofs.read_nodes.Goals as goal
@@ -5,11 +6,10 @@ use Rattle.nodes.proofs.read_nodes.Goals as goal
 pub loop-i-preserved : goal.loop-i-preserved
 loop-i-preserved c =
     let l = c.loop-i in
-    let few = c.lesser-n.ensures.1 in
-    rw (c.term_of-term.ensures, c.next_of-next.ensures) (held_more _ _ _ few l.nodes l.next l.i c.loop-i-test.true l.invariant)
+    rw (c.term_of.ensures, c.next_of-next.ensures) (held_more _ _ _ (omega arith) l.nodes l.next l.i c.loop-i-test.true l.invariant)
 
 pub returns : goal.returns
 unfolding nodes_read
 returns c =
     let l = c.loop-i in
-    rw (← c.lesser-n.ensures.0) (held_all _ _ _ l.nodes l.next l.i c.loop-i-test.false l.invariant)
+    rw (← c.min-i-end.ensures) (held_all _ _ _ l.nodes l.next l.i c.loop-i-test.false l.invariant)

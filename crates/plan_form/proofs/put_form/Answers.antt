@@ -12,22 +12,17 @@ use Rattle.plan_form.proofs.put_form.Goals as goal
 pub returns : goal.returns
 unfolding put_list form_bytes
 returns c =
-    let last = c in
-    let rows = c in
-    let two = rows in
-    let head = two in
-    let a = head.args in
-    let room = head.requires in
-    let f = a.form in
+    let a = c.args in
+    let f = a.form.now in
     let all = all_listed_text f.version (take f.paths f.table) in
     let rest = nodes_text (take f.count f.nodes) in
     let start = put_list (put_list (draft a.d.now 0) (header_bytes 0x57 f.version)) (f.kind ∷ f.paths ∷ []) in
-    let made : draft last.put_nodes.new.d last.put_nodes.result ≡ put_list (draft a.d.now 0) (form_bytes f) =
-    last.put_nodes.ensures.0
-    ∙ rw (c.put-first.ensures, rows.put_rows-behind.ensures.0, two.put_two-seventh.ensures, head.header-fifth.ensures)
+    let made : draft c.put_nodes.new.d c.put_nodes.result ≡ put_list (draft a.d.now 0) (form_bytes f) =
+    c.put_nodes.ensures.0
+    ∙ rw (c.put-first.ensures, c.put_rows-behind.ensures.0, c.put_two-seventh.ensures, c.header-fifth.ensures)
     (sym (put_append all (f.entries ∷ rest) start)) in
     let few = length-append all (f.entries ∷ rest) in (
-      drafted (form_bytes f) a.d.now (omega (arith, last.put_nodes.ensures.1, rows.put_rows-behind.ensures.1, few, room)) last.put_nodes.new.d
-          last.put_nodes.result made,
-      omega (arith, last.put_nodes.ensures.1, rows.put_rows-behind.ensures.1, few),
+      drafted (form_bytes f) a.d.now (omega (arith, c.put_nodes.ensures.1, c.put_rows-behind.ensures.1, few, c.requires)) c.put_nodes.new.d
+          c.put_nodes.result made,
+      omega (arith, c.put_nodes.ensures.1, c.put_rows-behind.ensures.1, few),
     )

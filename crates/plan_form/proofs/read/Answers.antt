@@ -1,34 +1,23 @@
-use mathlib.Core.Path.{refl}
+use mathlib.Core.Path.{◌≡◌, sym, ap, ◌∙◌}
 use native.Mathlib.Omega.{arith}
-use borrow.Author.Tests.{eq-eqb, ne_eqb}
-use Rattle.plan_form.specs.Steps.{form_after, read_after}
+use Rattle.progress.specs.Progress.{Scan}
+use Rattle.plan.specs.Plan.{plan_code}
+use Rattle.plan_form.specs.Steps.{form_after}
 use Rattle.plan_form.proofs.Exact.{read_steps}
 use Rattle.plan_form.proofs.read.Goals as goal
 
-pub returns-then-code-ne0 : goal.returns-then-code-ne0
-unfolding read_after
-returns-then-code-ne0 c =
-    let known = c in
+pub returns-clause-ok : goal.returns-clause-ok
+unfolding form_after
+returns-clause-ok c =
+    let s = c.args.s.now in
+    let found = c.in_ok-found.ensures in
+    let accepted : plan_code s ≡ 0 = sym (ap (λ (w : Scan). w.code) found) in
     rw (
-      ← read_steps known.args.s.now (λ i. omega (arith, known.shared_slice_known-1.given i)),
-      ← c.scan-w.ensures,
-      ne_eqb _ _ c.if-code-ne0.true,
-    ) c.blank.ensures
-
-pub returns : goal.returns
-unfolding read_after form_after
-returns c =
-    let least = c in
-    let known = least in
-    rw (
-      ← read_steps known.args.s.now (λ i. omega (arith, known.shared_slice_known-1.given i)),
-      ← least.scan-w.ensures,
-      eq-eqb _ _ least.if-code-ne0.false,
-      c.read_nodes-list.ensures,
-      c.byte-kind.ensures,
-      c.byte-version.ensures,
+      c.read_nodes-nodes.ensures,
       c.count_at.ensures.0,
-      c.lesser.ensures.0,
-      c.lesser-entries.ensures.0,
-      least.lesser-paths.ensures.0,
-    ) refl
+      c.byte.ensures,
+      c.byte-2.ensures,
+      c.min.ensures,
+      c.min-2.ensures,
+      c.min-entries.ensures,
+    ) (ap (form_after s) found ∙ read_steps s (λ i. omega (arith, c.type_inv.s i)) accepted)

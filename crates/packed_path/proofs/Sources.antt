@@ -1,8 +1,9 @@
 -- Sources as two numbers of 64 bits, a byte each, and back. Assumes nothing.
 use Prim.Native.Nat.{ℕ, zero, suc, ◌+◌, ◌-◌, ◌*◌, ◌/◌, ◌%◌, ◌^◌, ◌≤◌, ◌<◌}
 use mathlib.Core.Path.{◌≡◌, refl, sym, ap, ap₂, ◌∙◌}
-use mathlib.Core.Bool.{Bool, true, false, ◌||◌}
+use mathlib.Core.Bool.{true}
 use mathlib.Core.List.{List, [], ◌∷◌}
+use native.Mathlib.Decide.{ℕ_discrete}
 use native.Mathlib.Omega.{arith}
 use borrow.Author.Tests.{eq-eqb, ne_eqb}
 use lib.Dec.{eqb}
@@ -115,17 +116,15 @@ member_first p v h e = rw (sources_first p h, eq-eqb (first_of p) v e) refl
 pub member_rest : (p : PackedPath) (v : ℕ) → 0 < p.count → (first_of p ≡ v → ⊥) → member v (sources_of p) ≡ member v (sources_of (rest_of p))
 member_rest p v h e = rw (sources_first p h, ne_eqb (first_of p) v e) refl
 
--- the last one
-or_false : (a : Bool) → a || false ≡ a
-or_false true = refl
-or_false false = refl
-
-less_one : (p : PackedPath) → p.count ≡ 1 → (rest_of p).count ≡ 0
-unfolding rest_of
-less_one p e = omega arith
-
-pub member_last : (p : PackedPath) (v : ℕ) → p.count ≡ 1 → member v (sources_of p) ≡ eqb (first_of p) v
-member_last p v e = rw (sources_first p (omega arith), sources_none (rest_of p) (less_one p e)) (or_false (eqb (first_of p) v))
-
 pub begins_member : (p : PackedPath) (v : ℕ) → 0 < p.count → begins (sources_of p) v ≡ member v (sources_of p)
 begins_member p v h = rw (sources_first p h) refl
+
+-- with none left that it has not been compared with, a walk starts there only where there are no sources
+pub begins_not : (p left : PackedPath) (v : ℕ) → left.count ≡ 0 → member v (sources_of left) ≡ member v (sources_of p)
+    → eqb p.count 0 ≡ begins (sources_of p) v
+begins_not p left v z e = go (ℕ_discrete p.count 0)
+  where
+    go : Dec (p.count ≡ 0) → eqb p.count 0 ≡ begins (sources_of p) v
+    go (yes h) = rw (eq-eqb p.count 0 h, sources_none p h) refl
+    go (no h) =
+        rw (ne_eqb p.count 0 h) (ap (member v) (sym (sources_none left z)) ∙ e ∙ sym (begins_member p v (omega arith)))

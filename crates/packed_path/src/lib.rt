@@ -1,4 +1,4 @@
-// A path reduction (document 01: chain) as a small struct of numbers, one for questions, worksheets and runs, compared field by field.
+// A path reduction (document 01: chain) as a small struct of numbers, one for questions, worksheets and runs.
 #![tactic(auto)]
 
 ghost use Rattle.std.specs.Prelude.{◌≡◌, ◌<◌, ◌≤◌};
@@ -7,7 +7,8 @@ ghost use Rattle.packed_path.specs.Steps.{begins, first_of, rest_of};
 
 // `keys` is the key count and three keys, a byte each, the count lowest and unused ones 0; `count` is how many sources there are, 0 for anywhere; the sources
 // are a byte each, the first lowest: eight in `low`, eight in `high`.
-#[derive(Clone, Copy)]
+// Kept: a count beside two numbers in place of a list, since there is no heap and the struct is copied and compared as four numbers.
+#[derive(Clone, Copy, Debug, Default, PartialEq, Eq)]
 pub struct PackedPath {
     pub keys: u32,
     pub count: u8,
@@ -19,28 +20,15 @@ pub struct PackedPath {
 pub fn none() -> PackedPath
     ensures { result ≡ no_path }
 {
-    PackedPath {
-        keys: 0,
-        count: 0,
-        low: 0,
-        high: 0,
-    }
+    PackedPath::default()
 }
 
-// Are they the same, field by field?
+// Are they the same?
+#[tactic(auto, unfolding(crate::specs::Packed::same_packed))]
 pub fn same(a: PackedPath, b: PackedPath) -> bool
     ensures { result ≡ same_packed a b }
 {
-    if a.keys != b.keys {
-        return false;
-    }
-    if a.low != b.low {
-        return false;
-    }
-    if a.count != b.count {
-        return false;
-    }
-    a.high == b.high
+    a == b
 }
 
 // The first source.
@@ -51,6 +39,7 @@ pub fn first(p: PackedPath) -> u64
 }
 
 // Without the first source.
+#[tactic(auto, unfolding(crate::specs::Steps::rest_of))]
 pub fn rest(p: PackedPath) -> PackedPath
     requires { 0 < p.count }
     ensures { result ≡ rest_of p }
@@ -64,6 +53,7 @@ pub fn rest(p: PackedPath) -> PackedPath
 }
 
 // With one source more, before the others.
+#[tactic(auto, unfolding(crate::specs::Packed::with_first))]
 pub fn with_first(source: u64, p: PackedPath) -> PackedPath
     requires { (source < 256) × (p.count < 255) }
     ensures { result ≡ with_first source p }
@@ -80,15 +70,12 @@ pub fn with_first(source: u64, p: PackedPath) -> PackedPath
 pub fn starts_at(p: PackedPath, v: u64) -> bool
     ensures { result ≡ begins (sources_of p) v }
 {
-    if p.count == 0 {
-        return true;
-    }
     let mut left = p;
-    while 1 < left.count {
+    for _ in 0..p.count {
         if first(left) == v {
             return true;
         }
         left = rest(left);
     }
-    first(left) == v
+    p.count == 0
 }

@@ -1,20 +1,17 @@
 -- A reduction value by value, as the program goes, is the reduction. Assumes nothing.
-use Prim.Native.Nat.{ℕ, zero, suc, ◌+◌, ◌^◌, ◌<◌, ◌≤◌, min, max}
+use Prim.Native.Nat.{ℕ, zero, suc, ◌+◌, ◌^◌, min, max}
 use mathlib.Core.Path.{◌≡◌, refl, sym, ap, ◌∙◌}
 use mathlib.Core.Bool.{Bool, true, false, cond, ◌&&◌, ◌||◌}
+use mathlib.Core.Bool.{and-false, and-true, and_assoc, and_comm, and_self, or-false, or-true, or_assoc, or_comm, or_self}
 use mathlib.Core.List.{List, [], ◌∷◌, ◌++◌, foldr, foldl}
-use native.Mathlib.Numerals.{add-one}
-use native.Mathlib.Decide.{dec_le}
 use native.Mathlib.Omega.{arith}
 use borrow.Author.Tests.{ltb-false, ne_eqb}
 use lib.Dec.{ltb}
-use lib.ListN.{length, get_or, take}
-use lib.Seq.{take-suc, take_all}
+use Rattle.std.specs.List.{fold}
+use Rattle.std.specs.Prelude.{Option, Some, None}
 use Rattle.value.specs.declared.Value.{Value}
 use Rattle.value.specs.declared.Value.TheVariants.{Absent, Number}
 use Rattle.value.specs.declared.Row.{Row}
-use Rattle.value.specs.declared.Partial.{Partial}
-use Rattle.value.specs.declared.Partial.TheVariants.{Empty, Reached}
 use Rattle.value.specs.Value.{number, truth, holds, compute, present, combine, reduce, values}
 use Rattle.value.specs.Steps.{joining, join, start, step, finish}
 use Rattle.value.proofs.Numbers.{number_large}
@@ -38,7 +35,7 @@ module _ {B : Type 0} where
 
 -- AN ABSENT TOTAL STAYS ABSENT, whatever follows: of a sum that is too large, of any other reduction if it had one. The step says so of the total itself, and
 -- not of what operators give beside an absent operand.
-pub absent_stays : (r : ℕ) (vs : List Value) → foldl (step r) (Reached Absent) vs ≡ Reached Absent
+pub absent_stays : (r : ℕ) (vs : List Value) → foldl (step r) (Some Absent) vs ≡ Some Absent
 absent_stays r [] = refl
 absent_stays r (Absent ∷ vs) = absent_stays r vs
 absent_stays r (Number x ∷ vs) = absent_stays r vs
@@ -52,48 +49,21 @@ sum_step a y = go (ltb a (2 ^ 64)) refl
     go true e = ap number (let s : a + y ≡ y + a = omega arith in s)
     go false e = number_large (y + a) (omega (arith, ltb-false a (2 ^ 64) e))
 
-and_true : (b : Bool) → b ≡ (b && true)
-and_true true = refl
-and_true false = refl
-
-and_false : (b : Bool) → false ≡ (b && false)
-and_false true = refl
-and_false false = refl
-
-or_true : (b : Bool) → true ≡ (b || true)
-or_true true = refl
-or_true false = refl
-
-or_false : (b : Bool) → b ≡ (b || false)
-or_false true = refl
-or_false false = refl
-
 and_step : (b : Bool) (y : ℕ) → join 10 (truth b) y ≡ truth (holds y && b)
 unfolding compute
-and_step true y = ap truth (and_true (holds y))
-and_step false y = ap truth (and_false (holds y))
+and_step true y = ap truth (sym (and-true (holds y)))
+and_step false y = ap truth (sym (and-false (holds y)))
 
 or_step : (b : Bool) (y : ℕ) → join 11 (truth b) y ≡ truth (holds y || b)
 unfolding compute
-or_step true y = ap truth (or_true (holds y))
-or_step false y = ap truth (or_false (holds y))
+or_step true y = ap truth (sym (or-true (holds y)))
+or_step false y = ap truth (sym (or-false (holds y)))
 
 and_swap : (a b c : Bool) → (a && (b && c)) ≡ (b && (a && c))
-and_swap true true c = refl
-and_swap true false c = refl
-and_swap false true c = refl
-and_swap false false c = refl
+and_swap a b c = sym (and_assoc a b c) ∙ ap (λ (t : Bool). t && c) (and_comm a b) ∙ and_assoc b a c
 
 or_swap : (a b c : Bool) → (a || (b || c)) ≡ (b || (a || c))
-or_swap true true c = refl
-or_swap true false c = refl
-or_swap false true c = refl
-or_swap false false c = refl
-
--- a truth value joined to itself
-same : (f : Bool → Bool → Bool) → f true true ≡ true → f false false ≡ false → (b : Bool) → f b b ≡ b
-same f p q true = p
-same f p q false = q
+or_swap a b c = sym (or_assoc a b c) ∙ ap (λ (t : Bool). t || c) (or_comm a b) ∙ or_assoc b a c
 
 -- the numbers joined from the first on
 abbrev total : ℕ → ℕ → List ℕ → Value
@@ -118,11 +88,11 @@ joined (suc (suc (suc zero))) x xs =
     begun 3 x xs (number x) (ap number (let e : 0 + x ≡ x = omega arith in e))
     ∙ folded 3 number ◌+◌ sum_step x xs ∙ ap number (ends ◌+◌ (λ a b t. omega arith) x xs)
 joined (suc (suc (suc (suc zero)))) x xs =
-    begun 4 x xs (truth (holds x)) (ap truth (same ◌&&◌ refl refl (holds x)))
+    begun 4 x xs (truth (holds x)) (ap truth (and_self (holds x)))
     ∙ folded 10 truth (λ y b. holds y && b) and_step (holds x) xs
     ∙ ap truth (ends (λ y b. holds y && b) (λ a b t. and_swap (holds a) (holds b) t) (holds x) xs)
 joined (suc (suc (suc (suc (suc zero))))) x xs =
-    begun 5 x xs (truth (holds x)) (ap truth (same ◌||◌ refl refl (holds x)))
+    begun 5 x xs (truth (holds x)) (ap truth (or_self (holds x)))
     ∙ folded 11 truth (λ y b. holds y || b) or_step (holds x) xs
     ∙ ap truth (ends (λ y b. holds y || b) (λ a b t. or_swap (holds a) (holds b) t) (holds x) xs)
 joined (suc (suc (suc (suc (suc (suc r)))))) x xs =
@@ -137,43 +107,29 @@ joined (suc (suc (suc (suc (suc (suc r)))))) x xs =
     ) refl
 
 -- values from a total on: absent ones are skipped
-reached : (r : ℕ) (t : Value) (vs : List Value) → foldl (step r) (Reached t) vs
-    ≡ Reached (foldl (join (joining r)) t (present vs))
+reached : (r : ℕ) (t : Value) (vs : List Value) → foldl (step r) (Some t) vs
+    ≡ Some (foldl (join (joining r)) t (present vs))
 reached r t [] = refl
 reached r t (Absent ∷ vs) = reached r t vs
 reached r t (Number x ∷ vs) = reached r (join (joining r) t x) vs
 
 -- A REDUCTION VALUE BY VALUE IS THE REDUCTION
-pub reduced : (r : ℕ) (vs : List Value) → finish (foldl (step r) Empty vs) ≡ reduce r vs
+pub reduced : (r : ℕ) (vs : List Value) → finish (foldl (step r) None vs) ≡ reduce r vs
 unfolding combine
 reduced r [] = refl
 reduced r (Absent ∷ vs) = reduced r vs
 reduced r (Number x ∷ vs) = ap finish (reached r (join (joining r) (Number (start r x)) x) vs) ∙ joined r x (present vs)
 
--- what the loop of `reduce_rows` holds after the first i rows
-unfoldable pub after : ℕ → List Row → ℕ → Partial
-after r rows i = foldl (step r) Empty (values (take i rows))
-
 -- the last value is the last step
-pub snoc : (r : ℕ) (p : Partial) (rows : List Row) (row : Row) → foldl (step r) p (values (rows ++ (row ∷ [])))
+pub snoc : (r : ℕ) (p : Option Value) (rows : List Row) (row : Row) → foldl (step r) p (values (rows ++ (row ∷ [])))
     ≡ step r (foldl (step r) p (values rows)) row.value
 snoc r p [] row = refl
 snoc r p (x ∷ rows) row = snoc r (step r p x.value) rows row
 
--- one row more is one step
-pub after_next : (r : ℕ) (rows : List Row) (i : ℕ) (d : Row) → i < length rows → step r (after r rows i) (get_or rows i d).value
-    ≡ after r rows (i + 1)
-unfolding after
-after_next r rows i d h = sym (rw (add-one, take-suc rows i d) (snoc r Empty (take i rows) (get_or rows i d)))
+-- and so it is by std's fold, which the chain of `reached` is
+as_foldl : (r : ℕ) (p : Option Value) (vs : List Value) → fold (step r) p vs ≡ foldl (step r) p vs
+as_foldl r p [] = refl
+as_foldl r p (v ∷ vs) = as_foldl r (step r p v) vs
 
-take_min : (n m : ℕ) (rows : List Row) → length rows ≡ m → take (min n m) rows ≡ take n rows
-take_min n m rows e = go (dec_le n m)
-  where
-    go : Dec (n ≤ m) → take (min n m) rows ≡ take n rows
-    go (yes h) = ap (λ (k : ℕ). take k rows) (let k : min n m ≡ n = omega arith in k)
-    go (no h) = take_all (min n m) rows (omega arith) ∙ sym (take_all n rows (omega arith))
-
--- after all rows it is the reduction over the first n
-pub after_all : (r : ℕ) (rows : List Row) (n : ℕ) → length rows ≡ 256 → finish (after r rows (min n 256)) ≡ reduce r (values (take n rows))
-unfolding after
-after_all r rows n e = reduced r (values (take (min n 256) rows)) ∙ ap (λ (l : List Row). reduce r (values l)) (take_min n 256 rows e)
+pub fold_reduced : (r : ℕ) (vs : List Value) → finish (fold (step r) None vs) ≡ reduce r vs
+fold_reduced r vs = ap finish (as_foldl r None vs) ∙ reduced r vs

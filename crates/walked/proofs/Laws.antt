@@ -1,7 +1,7 @@
 -- What the code's proofs cite: one source more, one key more, one edge more, the figures key by key, one vertex more. Assumes nothing.
 use Prim.Native.Nat.{ℕ, zero, suc, ◌+◌, ◌-◌, ◌*◌, ◌/◌, ◌<◌, ◌≤◌, min}
 use mathlib.Core.Path.{◌≡◌, refl, sym, ap, ◌∙◌}
-use mathlib.Core.Bool.{Bool, true, false, cond, ◌&&◌, ◌||◌}
+use mathlib.Core.Bool.{Bool, true, false, cond, not, ◌&&◌, ◌||◌, and-false, not-not}
 use mathlib.Core.List.{List, [], ◌∷◌, foldl, foldl-append}
 use mathlib.Core.Option.{Option, none, some}
 use native.Mathlib.Numerals.{add-one}
@@ -14,11 +14,12 @@ use lib.Dec.{eqb, ltb}
 use lib.ListN.{length, get_or, take, drop, set, length-take, drop_of_length-le}
 use lib.Seq.{drop-cons, get_or-take, get_or-set_same, get_or-set_other, sets, sets-eq}
 use mir.Val.{Val}
+use Rattle.std.specs.List.{list_any}
+use Rattle.std.specs.Prelude.{nat_eq, Option as Found, Some, None}
 use Rattle.value.specs.declared.Value.{Value}
 use Rattle.value.specs.declared.Value.TheVariants.{Absent, Number}
 use Rattle.walked.specs.declared.Walk.{Walk}
 use Rattle.walked.specs.declared.Kept.{Kept}
-use Rattle.walked.specs.declared.Figures.{Figures}
 use Rattle.walked.specs.declared.PathReduction.{PathReduction}
 use Rattle.walked.specs.Walked.{
   among,
@@ -45,52 +46,17 @@ use Rattle.walked.specs.Walked.{
 use Rattle.walked.specs.Steps.{agrees, is_kept, judged}
 use Rattle.walked.specs.contracts.PathReduction as path_reduction
 
-and_false : (b : Bool) → (b && false) ≡ false
-and_false true = refl
-and_false false = refl
+-- what `!=` says of `==`
+pub not_back : (a b : Bool) → not a ≡ b → a ≡ not b
+not_back a b e = sym (not-not a) ∙ ap not e
 
-or_true : (b : Bool) → (b || true) ≡ true
-or_true true = refl
-or_true false = refl
+-- is the walk's start one of the sources? as std's `contains` tests it
+any_among : (ss : List ℕ) (v : ℕ) → list_any (λ y. nat_eq y v) ss ≡ among ss v
+any_among [] v = refl
+any_among (s ∷ ss) v = ap (◌||◌ (eqb s v)) (any_among ss v)
 
-or_false : (b : Bool) → (b || false) ≡ b
-or_false true = refl
-or_false false = refl
-
--- the first n sources, one by one
-module _ (path : PathReduction) (w : Walk) (n : ℕ) (room : length path.sources ≡ 16) (few : n ≡ min path.starts 16) where
-  abbrev first : List ℕ
-  first = take n path.sources
-
-  first_length : length first ≡ n
-  first_length = omega (arith, length-take n path.sources)
-
-  -- those before number i are others
-  abbrev pub Past : ℕ → Type 0
-  Past i = among (drop i first) w.source ≡ among first w.source
-
-  source_at : (i : ℕ) → i < n → drop i first ≡ get_or path.sources i 0 ∷ drop (i + 1) first
-  source_at i h =
-      drop-cons first i 0 (omega (arith, first_length))
-      ∙ rw (get_or-take n path.sources i 0 h, add-one i)
-
-  -- source number i is another; it is the walk's
-  pub from_next : (i : ℕ) → i < n → (get_or path.sources i 0 ≡ w.source → ⊥) → Past i → Past (i + 1)
-  from_next i h e f =
-      let p : among (drop (i + 1) first) w.source ≡ among (drop i first) w.source
-      = rw (source_at i h, ne_eqb (get_or path.sources i 0) w.source e) refl in
-      p ∙ f
-
-  pub from_here : (i : ℕ) → i < n → get_or path.sources i 0 ≡ w.source → Past i → true ≡ may_start (sources_of path) w
-  from_here i h e f =
-      let p : among first w.source ≡ true = sym f ∙ rw (source_at i h, eq-eqb (get_or path.sources i 0) w.source e) in
-      rw (sym few) (rw p (sym (or_true (eqb (length first) 0))))
-
-  -- none is
-  pub from_none : (i : ℕ) → n ≤ i → Past i → eqb n 0 ≡ may_start (sources_of path) w
-  from_none i h f =
-      let p : among first w.source ≡ false = sym f ∙ rw (drop_of_length-le first {i = i} (omega (arith, first_length))) in
-      rw (sym few) (rw (p, first_length) (sym (or_false (eqb n 0))))
+pub may_start_among : (ss : List ℕ) (w : Walk) → eqb (length ss) 0 ≡ false → list_any (λ y. nat_eq y w.source) ss ≡ may_start ss w
+may_start_among ss w h = any_among ss w.source ∙ rw h refl
 
 module _ (keys best : List ℕ) (w : Walk) where
   -- with no key passed each walk agrees
@@ -112,7 +78,7 @@ module _ (keys best : List ℕ) (w : Walk) where
       go : Dec (suc i ≤ n) → (suc i ≤ n → agrees keys best w n ≡ false)
           → (agrees keys best w n && eqb (figure_of (get_or keys n 0) w) (get_or best n 0)) ≡ false
       go (yes l) f = rw (f l)
-      go (no l) f = let s : i ≡ n = omega arith in rw (← s, ne_eqb (figure_of (get_or keys i 0) w) (get_or best i 0) e, and_false (agrees keys best w i))
+      go (no l) f = let s : i ≡ n = omega arith in rw (← s, ne_eqb (figure_of (get_or keys i 0) w) (get_or best i 0) e, and-false (agrees keys best w i))
 
 -- no edge more: the walk itself
 pub walks_none : (rows : List ℕ) (left : ℕ) (w : Walk) → left ≡ 0 → walks rows left w ≡ w ∷ []
@@ -216,9 +182,9 @@ module _ (keys best : List ℕ) (i x : ℕ) where
   sift_next h = sift_both (λ w. agrees keys best w i) (λ w. eqb (figure_of (get_or keys i 0) w) x) (λ w. agrees keys (set best i x) w (i + 1)) (agrees_set h)
 
 -- the figures of the keys from i on, put behind those of the keys before
-abbrev after : List ℕ → ℕ → Option (List ℕ) → Figures
-after bs i none = three_figures none
-after bs i (some xs) = record { present = true; figures = sets bs i xs }
+abbrev after : List ℕ → ℕ → Option (List ℕ) → Found (List ℕ)
+after bs i none = None
+after bs i (some xs) = Some (sets bs i xs)
 
 after_first : (bs : List ℕ) (i x : ℕ) (o : Option (List ℕ)) → after bs i (put_first x o) ≡ after (set bs i x) (suc i) o
 after_first bs i x none = refl
@@ -258,7 +224,7 @@ figures_length (key ∷ keys) ws xs e = go (best key ws) refl (λ x ys. figures_
     go (Number x) b f = some_some x (figures keys (sift (λ w. eqb (figure_of key w) x) ws)) (f x) (sym (figures_first key keys ws x b) ∙ e)
 
 -- THE FIGURES KEY BY KEY, as the program goes: bs has those of the first i keys, and ws are the walks from the start to the vertex
-abbrev pub goes_on : List ℕ → ℕ → List Walk → List ℕ → ℕ → Figures
+abbrev pub goes_on : List ℕ → ℕ → List Walk → List ℕ → ℕ → Found (List ℕ)
 goes_on keys n ws bs i = after bs i (figures (drop i (take n keys)) (sift (λ w. agrees keys bs w i) ws))
 
 module _ (keys : List ℕ) (n : ℕ) (ws : List Walk) where
@@ -273,7 +239,7 @@ module _ (keys : List ℕ) (n : ℕ) (ws : List Walk) where
       go none f = refl
       go (some xs) f =
           let z = zero-add (length xs) in
-          ap (λ (l : List ℕ). record { present = true; figures = l }) (sets-eq xs (0 ∷ 0 ∷ 0 ∷ []) 0 (omega (arith, f xs refl, length-take n keys))
+          ap Some (sets-eq xs (0 ∷ 0 ∷ 0 ∷ []) 0 (omega (arith, f xs refl, length-take n keys))
           ∙ rw z)
 
   -- the list of the keys from i on
@@ -295,24 +261,26 @@ module _ (keys : List ℕ) (n : ℕ) (ws : List Walk) where
         ∙ ap (λ (l : List Walk). after (set bs i x) (i + 1) (figures (drop (i + 1) (take n keys)) l)) (sift_next keys bs i x h ws)
 
     -- no walk is left
-    pub goes_none : best (get_or keys i 0) (sift (λ w. agrees keys bs w i) ws) ≡ Absent → goes_on keys n ws bs i ≡ three_figures none
+    pub goes_none : best (get_or keys i 0) (sift (λ w. agrees keys bs w i) ws) ≡ Absent → goes_on keys n ws bs i ≡ None
     goes_none e =
         ap (λ (l : List ℕ). after bs i (figures l (sift (λ w. agrees keys bs w i) ws))) key_first
         ∙ ap (after bs i) (figures_none (get_or keys i 0) (drop (i + 1) (take n keys)) (sift (λ w. agrees keys bs w i) ws) e)
 
   -- after the last key
-  pub goes_last : (bs : List ℕ) (i : ℕ) → n ≤ i → goes_on keys n ws bs i ≡ record { present = true; figures = bs }
+  pub goes_last : (bs : List ℕ) (i : ℕ) → n ≤ i → goes_on keys n ws bs i ≡ Some bs
   unfolding figures
   goes_last bs i h = rw (drop_of_length-le (take n keys) {i = i} (omega (arith, length-take n keys)))
 
--- the last figure, of the padded figures
+-- the last figure, of the padded figures of n keys
+abbrev pub last_found : ℕ → Found (List ℕ) → Value
+last_found n None = Absent
+last_found n (Some fs) = cond (ltb 0 n) (Number (get_or fs (n - 1) 0)) Absent
+
 last_padded : (keys : List ℕ) (ws : List Walk) (n : ℕ) → length keys ≡ n → n ≤ 3
-    → cond (three_figures (figures keys ws)).present (cond (ltb 0 n) (Number (get_or (three_figures (figures keys ws)).figures (n - 1) 0)) Absent) Absent
-    ≡ last_of (figures keys ws)
+    → last_found n (three_figures (figures keys ws)) ≡ last_of (figures keys ws)
 last_padded keys ws n l h = go (figures keys ws) (figures_length keys ws)
   where
-    go : (o : Option (List ℕ)) → ((xs : List ℕ) → o ≡ some xs → length xs ≡ length keys)
-        → cond (three_figures o).present (cond (ltb 0 n) (Number (get_or (three_figures o).figures (n - 1) 0)) Absent) Absent ≡ last_of o
+    go : (o : Option (List ℕ)) → ((xs : List ℕ) → o ≡ some xs → length xs ≡ length keys) → last_found n (three_figures o) ≡ last_of o
     go none f = refl
     go (some []) f = let e : n ≡ 0 = omega (arith, f [] refl) in rw e
     go (some (x ∷ [])) f = let e : n ≡ 1 = omega (arith, f (x ∷ []) refl) in rw e
@@ -345,34 +313,28 @@ module _ (rows : List ℕ) (path : PathReduction) (before : ℕ) where
       go (yes l) f = rw (f l)
       go (no l) f =
           let s : v ≡ n = omega arith in
-          rw (sym (ap same_at s) ∙ e) (and_false (unchanged rows n path before))
+          rw (sym (ap same_at s) ∙ e) (and-false (unchanged rows n path before))
 
   -- the program asks for walks of at most 64 and 65 edges where more are asked for: no walk has more than 64
-  pub same_few : (few v : ℕ) (a b : Figures) → few ≡ min before 64 → a ≡ figures_at rows path v few → b ≡ figures_at rows path v (few + 1)
-      → same_figures a b ≡ same_at v
+  pub same_few : (few v : ℕ) (a b : Found (List ℕ)) → few ≡ min before 64 → a ≡ figures_at rows path v few
+      → b ≡ figures_at rows path v (few + 1) → same_figures a b ≡ same_at v
   unfolding figures_at
   same_few few v a b e p q =
       let f : min few 64 ≡ min before 64 = omega arith in
       let g : min (few + 1) 64 ≡ min (before + 1) 64 = omega arith in
       let x : a ≡ figures_at rows path v before = p ∙ rw f in
       let y : b ≡ figures_at rows path v (before + 1) = q ∙ rw g in
-      ap (λ (t : Figures). same_figures t b) x ∙ ap (same_figures (figures_at rows path v before)) y
+      ap (λ (t : Found (List ℕ)). same_figures t b) x ∙ ap (same_figures (figures_at rows path v before)) y
 
--- a path reduction that a function is handed has room for three keys and for sixteen sources
+-- a path reduction that a function is handed has room for three keys
 pub keys_fit : (path : PathReduction) (vs : List Val) → Is path_reduction.the_row path vs → length path.keys ≡ 3
 keys_fit path vs g =
     let a = g.1.1.0 in
     a.1.0.1
 
-pub sources_fit : (path : PathReduction) (vs : List Val) → Is path_reduction.the_row path vs → length path.sources ≡ 16
-sources_fit path vs g =
-    let a = g.1.1.1.1.0 in
-    a.1.0.1
-
 -- the value of a path reduction, of what `figures_at` gives
-pub value_padded : (rows : List ℕ) (path : PathReduction) (vertex most n : ℕ) (f : Figures) → length path.keys ≡ 3 → n ≡ min path.count 3
-    → f ≡ figures_at rows path vertex most
-    → cond f.present (cond (ltb 0 n) (Number (get_or f.figures (n - 1) 0)) Absent) Absent ≡ value_at rows path vertex most
+pub value_padded : (rows : List ℕ) (path : PathReduction) (vertex most n : ℕ) (f : Found (List ℕ)) → length path.keys ≡ 3 → n ≡ min path.count 3
+    → f ≡ figures_at rows path vertex most → last_found n f ≡ value_at rows path vertex most
 unfolding figures_at value_at
 value_padded rows path vertex most n f k e h =
     rw h

@@ -1,10 +1,21 @@
 -- The walks judged one by one, as the program goes. Nothing to believe: `proofs/Laws` says that this is to keep those with the best first key, and so on.
-use Rattle.std.specs.Prelude.{ℕ, zero, suc, Bool, true, cond, ◌&&◌, eqb, get_or}
+use Rattle.std.specs.Prelude.{ℕ, zero, suc, Bool, true, cond, ◌&&◌, eqb, get_or, ◌≡◌, ◌<◌, ◌⊎◌}
 use mathlib.Core.List.{List, foldl}
 use Rattle.value.specs.declared.Value.{Value}
 use Rattle.walked.specs.declared.Walk.{Walk}
 use Rattle.walked.specs.declared.Kept.{Kept}
+use Rattle.walked.specs.declared.Key.{Key}
+use Rattle.walked.specs.declared.Key.TheVariants.{LeastEdges, LeastWeight, LeastSource, GreatestSource, GreatestCapacity, LeastCapacity}
 use Rattle.walked.specs.Walked.{better, figure_of, may_start, sources_of, walks}
+
+-- the key of a number; one that is no key's is as 6
+abbrev pub IsKey : ℕ → Key → Type 0
+IsKey n LeastEdges = n ≡ 1
+IsKey n LeastWeight = n ≡ 2
+IsKey n LeastSource = n ≡ 3
+IsKey n GreatestSource = n ≡ 4
+IsKey n GreatestCapacity = n ≡ 5
+IsKey n LeastCapacity = (n ≡ 0) ⊎ (5 < n)
 
 -- has the walk the best figure of each of the first i keys?
 unfoldable pub agrees : List ℕ → List ℕ → Walk → ℕ → Bool

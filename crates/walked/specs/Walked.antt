@@ -1,13 +1,14 @@
 -- The figures of a path reduction (document 01: chain), by listing all walks of at most so many edges (document 01, "Meaning"). `rows` are the numbers of a
 -- map's rows, four a row: from, to, seconds, crate size; 0 past their end, and a row that is not whole is none.
-use Rattle.std.specs.Prelude.{ℕ, zero, suc, ◌+◌, ◌*◌, ◌/◌, min, Bool, true, false, cond, not, ◌&&◌, ◌||◌, ltb, eqb, length, get_or, take}
-use Rattle.std.specs.Prelude.{drop}
+use Rattle.std.specs.Prelude.{ℕ, zero, suc, ◌+◌, ◌*◌, ◌/◌, min, Bool, true, false, cond, ◌&&◌, ◌||◌, ltb, eqb, length, get_or, take}
+use Rattle.std.specs.Prelude.{drop, nat_eq, Option as Found, Some, None}
+use Rattle.std.specs.Option.{option_eq}
+use Rattle.std.specs.Cmp.Lexicographic.{pointwise}
 use mathlib.Core.List.{List, [], ◌∷◌, ◌++◌, foldl}
 use Rattle.std.proofs.Math.Option.{Option, none, some}
 use Rattle.value.specs.declared.Value.{Value}
 use Rattle.value.specs.declared.Value.TheVariants.{Absent, Number}
 use Rattle.walked.specs.declared.Walk.{Walk}
-use Rattle.walked.specs.declared.Figures.{Figures}
 use Rattle.walked.specs.declared.PathReduction.{PathReduction}
 
 -- "The walk of no passages exists at each place; its crate size is 65,535."
@@ -101,12 +102,12 @@ all_figures rows path vertex most =
     figures (take (min path.count 3) path.keys) (walks_to rows (sources_of path) vertex most)
 
 -- the same with 0 for a key that is not there
-abbrev pub three_figures : Option (List ℕ) → Figures
-three_figures none = record { present = false; figures = 0 ∷ 0 ∷ 0 ∷ [] }
-three_figures (some xs) = record { present = true; figures = xs ++ drop (length xs) (0 ∷ 0 ∷ 0 ∷ []) }
+abbrev pub three_figures : Option (List ℕ) → Found (List ℕ)
+three_figures none = None
+three_figures (some xs) = Some (xs ++ drop (length xs) (0 ∷ 0 ∷ 0 ∷ []))
 
 -- as the program returns them
-unfoldable pub figures_at : List ℕ → PathReduction → ℕ → ℕ → Figures
+unfoldable pub figures_at : List ℕ → PathReduction → ℕ → ℕ → Found (List ℕ)
 figures_at rows path vertex most = three_figures (all_figures rows path vertex most)
 
 -- "its value is the last key's. With no walk it is absent." (So it is with no key, which no legal question has.)
@@ -124,18 +125,9 @@ last_of (some xs) = last xs
 unfoldable pub value_at : List ℕ → PathReduction → ℕ → ℕ → Value
 value_at rows path vertex most = last_of (all_figures rows path vertex most)
 
--- are both true, or both false?
-abbrev pub alike : Bool → Bool → Bool
-alike true b = b
-alike false b = not b
-
 -- the same figures, and a walk for both or for none
-abbrev pub same_figures : Figures → Figures → Bool
-same_figures a b =
-    eqb (get_or a.figures 0 0) (get_or b.figures 0 0)
-    && eqb (get_or a.figures 1 0) (get_or b.figures 1 0)
-    && eqb (get_or a.figures 2 0) (get_or b.figures 2 0)
-    && alike a.present b.present
+abbrev pub same_figures : Found (List ℕ) → Found (List ℕ) → Bool
+same_figures = option_eq (pointwise nat_eq)
 
 -- "each figure of [a] chain at each place is the same over walks of at most r passages as over walks of at most r − 1": at the vertices below n, with r
 -- − 1 for `before`

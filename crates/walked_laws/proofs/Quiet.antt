@@ -1,107 +1,77 @@
 -- "each figure of [a] chain at each place is the same over walks of at most r passages as over walks of at most r − 1": what `unchanged` of crate `walked`
 -- tests, for r up to 64. Assumes nothing.
-use Prim.Native.Nat.{ℕ, zero, suc, ◌<◌, ◌≤◌, min}
+use Prim.Native.Nat.{ℕ, zero, suc, ◌<◌, ◌≤◌}
 use mathlib.Core.Path.{◌≡◌, refl, sym, ap, ◌∙◌, subst}
-use mathlib.Core.Bool.{Bool, true, false, ◌&&◌}
-use mathlib.Core.List.{List, [], ◌∷◌}
+use mathlib.Core.Bool.{true}
+use mathlib.Core.List.{List, [], ◌∷◌, ◌++◌}
 use mathlib.Core.Option.{Option, none, some}
 use native.Mathlib.Numerals.{add-one}
 use native.Mathlib.Omega.{arith}
 use native.Mathlib.Decide.{ℕ_discrete}
 use native.Mathlib.Nat.{not-suc-le-zero}
-use borrow.Author.Tests.{eq-eqb, eqb-true}
-use lib.Dec.{T, eqb}
-use lib.ListN.{length, get_or, drop, length-take, get_or-append}
+use lib.Dec.{T}
+use lib.ListN.{length, get_or, drop, get_or-append}
 use lib.Seq.{ext_get_or}
+use Rattle.std.proofs.lemmas.Bool.{and_parts}
+use Rattle.std.specs.Cmp.Lexicographic.{bytes_decides}
+use Rattle.std.specs.Prelude.{Option as Found, Some, None}
 use Rattle.walks.specs.Keys.{legal_keys}
 use Rattle.walks.specs.Walks.{Graph, Network, Within}
 use Rattle.walks.proofs.Optimal.{figures_unique}
 use Rattle.meaning.specs.Limits.{GraphFits}
 use Rattle.meaning.specs.Meaning.{Same}
 use Rattle.meaning.specs.Query.{network_of}
-use Rattle.walked.specs.declared.Figures.{Figures}
 use Rattle.walked.specs.declared.PathReduction.{PathReduction}
-use Rattle.walked.specs.Walked.{all_figures, alike, figures_at, three_figures, same_figures, unchanged}
+use Rattle.walked.specs.Walked.{all_figures, figures_at, three_figures, same_figures, unchanged}
 use Rattle.walked.proofs.Laws.{figures_length, same_at}
 use Rattle.walked_laws.proofs.Main.{numbers, query_path, walked_figures}
 
--- a conjunction that is true
-left_true : (a b : Bool) → (a && b) ≡ true → a ≡ true
-left_true true b e = refl
-left_true false b e = e
+-- figures are the same as themselves, and as no others
+same_self : (a : Found (List ℕ)) → same_figures a a ≡ true
+same_self None = refl
+same_self (Some xs) = (bytes_decides xs xs).1 refl
 
-right_true : (a b : Bool) → (a && b) ≡ true → b ≡ true
-right_true true b e = e
-right_true false b e = absurd (subst T (sym e) tt)
-
-alike_self : (b : Bool) → alike b b ≡ true
-alike_self true = refl
-alike_self false = refl
-
-same_self : (f : Figures) → same_figures f f ≡ true
-same_self f =
-    rw (
-      eq-eqb (get_or f.figures 0 0) (get_or f.figures 0 0) refl,
-      eq-eqb (get_or f.figures 1 0) (get_or f.figures 1 0) refl,
-      eq-eqb (get_or f.figures 2 0) (get_or f.figures 2 0) refl,
-    )
-    (alike_self f.present)
-
--- the parts of `same_figures`
-module _ (a b : Figures) where
-  abbrev like : ℕ → Bool
-  like i = eqb (get_or a.figures i 0) (get_or b.figures i 0)
-
-  abbrev both : Bool
-  both = alike a.present b.present
-
-  module _ (e : same_figures a b ≡ true) where
-    present_same : both ≡ true
-    present_same = right_true (like 0 && like 1 && like 2) both e
-
-    figure_same : (i : ℕ) → i < 3 → get_or a.figures i 0 ≡ get_or b.figures i 0
-    figure_same i h = eqb-true (get_or a.figures i 0) (get_or b.figures i 0) (pick i h)
-      where
-        three : (like 0 && like 1 && like 2) ≡ true
-        three = left_true (like 0 && like 1 && like 2) both e
-
-        two : (like 0 && like 1) ≡ true
-        two = left_true (like 0 && like 1) (like 2) three
-
-        pick : (j : ℕ) → j < 3 → like j ≡ true
-        pick zero l = left_true (like 0) (like 1) two
-        pick (suc zero) l = right_true (like 0) (like 1) two
-        pick (suc (suc zero)) l = right_true (like 0 && like 1) (like 2) three
-        pick (suc (suc (suc j))) l = absurd (omega arith)
+same_is : (a b : Found (List ℕ)) → same_figures a b ≡ true → a ≡ b
+same_is None None e = refl
+same_is None (Some ys) e = absurd (subst T (sym e) tt)
+same_is (Some xs) None e = absurd (subst T (sym e) tt)
+same_is (Some xs) (Some ys) e = ap Some ((bytes_decides xs ys).0 e)
 
 -- padded figures of as many keys are the same only where the figures are
-same_padded : (n : ℕ) → n ≤ 3 → (o p : Option (List ℕ)) → ((xs : List ℕ) → o ≡ some xs → length xs ≡ n)
-    → ((ys : List ℕ) → p ≡ some ys → length ys ≡ n)
-    → same_figures (three_figures o) (three_figures p) ≡ true → o ≡ p
-same_padded n h none none f g e = refl
-same_padded n h none (some ys) f g e = absurd (subst T (sym (present_same (three_figures none) (three_figures (some ys)) e)) tt)
-same_padded n h (some xs) none f g e = absurd (subst T (sym (present_same (three_figures (some xs)) (three_figures none) e)) tt)
-same_padded n h (some xs) (some ys) f g e = ap some (ext_get_or 0 xs ys (f xs refl ∙ sym (g ys refl)) at)
+padded : (n : ℕ) (o p : Option (List ℕ)) → ((xs : List ℕ) → o ≡ some xs → length xs ≡ n)
+    → ((ys : List ℕ) → p ≡ some ys → length ys ≡ n) → three_figures o ≡ three_figures p → o ≡ p
+padded n none none f g e = refl
+padded n none (some ys) f g e = cc
+padded n (some xs) none f g e = cc
+padded n (some xs) (some ys) f g e = ap some (ext_get_or 0 xs ys (f xs refl ∙ sym (g ys refl)) at)
   where
+    rest : List ℕ → List ℕ
+    rest l = drop (length l) (0 ∷ 0 ∷ 0 ∷ [])
+
+    whole : xs ++ rest xs ≡ ys ++ rest ys
+    whole = cc
+
     at : (i : ℕ) → i < length xs → get_or xs i 0 ≡ get_or ys i 0
     at i l =
         let lx = f xs refl in
         let ly = g ys refl in
         let k : i < length ys = omega arith in
-        sym (get_or-append xs (drop (length xs) (0 ∷ 0 ∷ 0 ∷ [])) 0 i l)
-        ∙ figure_same (three_figures (some xs)) (three_figures (some ys)) e i (omega arith)
-        ∙ get_or-append ys (drop (length ys) (0 ∷ 0 ∷ 0 ∷ [])) 0 i k
+        sym (get_or-append xs (rest xs) 0 i l) ∙ ap (λ (z : List ℕ). get_or z i 0) whole ∙ get_or-append ys (rest ys) 0 i k
+
+same_padded : (n : ℕ) (o p : Option (List ℕ)) → ((xs : List ℕ) → o ≡ some xs → length xs ≡ n)
+    → ((ys : List ℕ) → p ≡ some ys → length ys ≡ n) → same_figures (three_figures o) (three_figures p) ≡ true → o ≡ p
+same_padded n o p f g e = padded n o p f g (same_is (three_figures o) (three_figures p) e)
 
 module _ (rows : List ℕ) (path : PathReduction) (before : ℕ) where
   unchanged_yes : (n : ℕ) → unchanged rows n path before ≡ true → (v : ℕ) → v < n → same_at rows path before v ≡ true
   unfolding unchanged
   unchanged_yes zero e v h = absurd (not-suc-le-zero h)
   unchanged_yes (suc n) e v h =
-      go (ℕ_discrete v n) (λ l. unchanged_yes n (left_true (unchanged rows n path before) (same_at rows path before n) e) v l)
+      go (ℕ_discrete v n) (λ l. unchanged_yes n (and_parts (unchanged rows n path before) (same_at rows path before n) e).0 v l)
     where
       go : Dec (v ≡ n) → (v < n → same_at rows path before v ≡ true) → same_at rows path before v ≡ true
       go (yes q) f =
-          subst (λ (t : ℕ). same_at rows path before t ≡ true) (sym q) (right_true (unchanged rows n path before) (same_at rows path before n) e)
+          subst (λ (t : ℕ). same_at rows path before t ≡ true) (sym q) (and_parts (unchanged rows n path before) (same_at rows path before n) e).1
       go (no q) f = f (omega arith)
 
   unchanged_of : (n : ℕ) → ((v : ℕ) → v < n → same_at rows path before v ≡ true) → unchanged rows n path before ≡ true
@@ -127,7 +97,7 @@ module _ (g : Graph) (fits : GraphFits g) (path : PathReduction) (legal : T (leg
       let ks = (query_path path).keys in
       let s = sym (compared v) ∙ unchanged_yes (numbers g.edges) path r g.vertices e v h in
       figures_unique N ks (Within N (suc r) v) a (at v (suc r)) fa (walked_figures g fits path legal v (suc r) h few)
-      ∙ sym (same_padded (length ks) (omega (arith, length-take (min path.count 3) path.keys)) (at v r) (at v (suc r)) (figures_length ks _)
+      ∙ sym (same_padded (length ks) (at v r) (at v (suc r)) (figures_length ks _)
       (figures_length ks _) s)
       ∙ figures_unique N ks (Within N r v) (at v r) b (walked_figures g fits path legal v r h (omega arith)) fb
 

@@ -1,8 +1,8 @@
 -- Several path reductions run together: the first round in which none changes is the greatest of the separate ones, at most round 2n, and each then has its
 -- figures over all walks. Assumes nothing.
 use Prim.Native.Nat.{ℕ, zero, suc, ◌-◌, ◌*◌, ◌≤◌, ◌<◌, max}
-use mathlib.Core.Path.{◌≡◌, refl, sym, subst, fun_ext}
-use mathlib.Core.Bool.{Bool, true, false, ◌&&◌}
+use mathlib.Core.Path.{◌≡◌, sym, ap, subst, fun_ext}
+use mathlib.Core.Bool.{Bool, ◌&&◌, and-true}
 use mathlib.Core.List.{List, [], ◌∷◌}
 use native.Mathlib.Omega.{arith}
 use lib.Dec.{T}
@@ -61,14 +61,11 @@ module _ (n : ℕ) where
   greatest_rounds [] = 1
   greatest_rounds (S ∷ Ss) = max (rounds n (S ∷ [])) (greatest_rounds Ss)
 
-  and_true : (a b : Bool) → (a && true && b) ≡ (a && b)
-  and_true true b = refl
-  and_true false b = refl
-
   greatest_first : (Ss : List (ℕ → State)) → All (Settles n) Ss → First (quiet n Ss) zero (greatest_rounds Ss)
   greatest_first [] s = at_once (quiet n []) zero tt
   greatest_first (S ∷ Ss) s =
-      subst (λ (q : ℕ → Bool). First q zero (greatest_rounds (S ∷ Ss))) (fun_ext (λ r. and_true (unchanged S r n) (quiet n Ss r)))
+      subst (λ (q : ℕ → Bool). First q zero (greatest_rounds (S ∷ Ss)))
+      (fun_ext (λ r. ap (λ (t : Bool). t && quiet n Ss r) (and-true (unchanged S r n))))
       (first_both (quiet n (S ∷ [])) (quiet n Ss) (all_settle (S ∷ []) (s.0, tt)).0 (all_settle Ss s.1).0 (rounds n (S ∷ [])) (greatest_rounds Ss)
       (rounds_first (S ∷ []) (s.0, tt)) (greatest_first Ss s.1))
 

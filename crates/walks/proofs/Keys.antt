@@ -1,7 +1,7 @@
 -- What is used of the table of keys, each a test computed over the whole table or a law by cases of the measures: an extension keeps the order of values,
 -- and strictly where the key may stand before the last; none betters a value, but for the least bottleneck. Assumes nothing.
 use Prim.Native.Nat.{ℕ, zero, suc, ◌-◌, ◌≤◌, ◌<◌}
-use mathlib.Core.Path.{◌≡◌, refl, sym, ap}
+use mathlib.Core.Path.{◌≡◌, refl, ap}
 use mathlib.Core.Logic.{◌⊎◌, inl, inr}
 use mathlib.Core.Bool.{Bool, true, false, not, ◌&&◌, ◌||◌}
 use mathlib.Core.List.{List, [], ◌∷◌}
@@ -10,7 +10,7 @@ use native.Mathlib.Nat.{not-suc-le-zero}
 use native.Mathlib.Decide.{ℕ_discrete}
 use borrow.Author.Tests.{leb-true, leb-false}
 use lib.Dec.{T}
-use lib.ListN.{get_or, get_or-eq_default}
+use lib.ListN.{get_or}
 use Rattle.walks.specs.declared.Extreme.{Extreme}
 use Rattle.walks.specs.declared.Extreme.TheVariants.{Greatest, Least}
 use Rattle.walks.specs.declared.KeyRow.{KeyRow}
@@ -21,15 +21,9 @@ use Rattle.walks.specs.Walks.{Edge, extend}
 use Rattle.walks.proofs.Tests.{and_left, and_right}
 
 -- the rows by index, as the program reads them
-pub row_low : (k : ℕ) → k < 1 → no_key ≡ key_row k
+pub row_none : no_key ≡ key_row 0
 unfolding key_row
-row_low zero h = refl
-row_low (suc k) h = absurd (omega arith)
-
-pub row_high : (k : ℕ) → 6 < k → no_key ≡ key_row k
-unfolding key_row
-row_high zero h = refl
-row_high (suc k) h = sym (get_or-eq_default table no_key {n = k} (omega arith))
+row_none = refl
 
 pub row_at : (k : ℕ) → 1 ≤ k → get_or table (k - 1) no_key ≡ key_row k
 unfolding key_row

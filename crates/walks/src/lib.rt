@@ -65,7 +65,8 @@ pub const KEYS: [KeyRow; 6] = [
     },
 ];
 
-// Stands for a number that is no key's.
+// Stands for a number that is no key's. Kept, in place of an Option: `key_row` of specs/Keys, whose columns (`measure`, `kept`, `early`) the theorems speak of,
+// has a row for every number.
 const NO_KEY: KeyRow = KeyRow {
     measure: Measure::Edges,
     kept: Extreme::Least,
@@ -76,22 +77,16 @@ const NO_KEY: KeyRow = KeyRow {
 pub fn known_key(key: u8) -> bool
     ensures { result ≡ known key }
 {
-    if key < 1 {
-        return false;
-    }
-    key <= 6
+    (1..=6).contains(&key)
 }
 
 // The row of a key, counted from 1; NO_KEY for a number that is no key's.
+#[tactic(auto, using(crate::proofs::Keys::row_none, crate::proofs::Keys::row_at))]
 pub fn key_row(key: u8) -> KeyRow
     ensures { result ≡ key_row key }
 {
-    let k = key as usize;
-    if k < 1 {
+    let Some(place) = key.checked_sub(1) else {
         return NO_KEY;
-    }
-    if 6 < k {
-        return NO_KEY;
-    }
-    KEYS[k - 1]
+    };
+    KEYS.get(usize::from(place)).copied().unwrap_or(NO_KEY)
 }

@@ -1,14 +1,10 @@
-use Prim.Native.Nat.{◌-◌, ◌/◌, ◌≤◌}
+use Prim.Native.Nat.{◌-◌}
 use mathlib.Core.Path.{◌≡◌}
-use lib.ListN.{length}
 use Rattle.walked.proofs.Laws.{over}
 use Rattle.walked.proofs.+best_of.Given as goal
 
 abbrev pub invariant-loop-i : goal.invariant-loop-i
-invariant-loop-i l = (l.i ≤ length l.rows / 4) × (l.best ≡ over l.rows l.k l.w (l.left - 1) l.initial.best l.i)
-
-abbrev pub decreases-loop-i : goal.decreases-loop-i
-decreases-loop-i l = length l.rows / 4 - l.i
+invariant-loop-i l = l.best ≡ over l.rows l.k l.w (l.left - 1) l.initial.best l.i
 
 abbrev pub decreases-best_of : goal.decreases-best_of
 decreases-best_of l = l.left

@@ -4,7 +4,7 @@ use mathlib.Core.Path.{◌≡◌, refl}
 use mathlib.Core.Bool.{Bool, true, false, cond, not, ◌&&◌, ◌||◌}
 use mathlib.Core.List.{List, [], ◌∷◌}
 use native.Mathlib.Omega.{arith}
-use borrow.Author.Tests.{eq-eqb, ne_eqb}
+use borrow.Author.Tests.{ne_eqb}
 use lib.Bits.{bit_and, and_le_r}
 use lib.Dec.{T, eqb, leb, leb→le, ltb, ltb→lt}
 use lib.ListN.{length}
@@ -132,13 +132,13 @@ sound c =
     && (leb c.up 4398046511104
     && (leb c.down 4398046511104 && (leb c.base 65535 && (ltb c.shift 64
     && (leb c.mask 67108863 && (leb c.flip 67108863 && ((eqb c.flip 0 || leb c.mask c.flip)
-    && (not (eqb c.weighs 0) || leb c.weight 0)))))))))
+    && (c.weighs || leb c.weight 0)))))))))
 
 flip_right : (a b : ℕ) → T (eqb a 0 || leb b a) → (a ≡ 0 → ⊥) → b ≤ a
 flip_right a b t n = leb→le b a (rw (ne_eqb a 0 n) at t)
 
-weighs_right : (a b : ℕ) → T (not (eqb a 0) || leb b 0) → a ≡ 0 → b ≡ 0
-weighs_right a b t e = let h : b ≤ 0 = leb→le b 0 (rw (eq-eqb a 0 e) at t) in omega arith
+weighs_right : (a : Bool) (b : ℕ) → T (a || leb b 0) → a ≡ false → b ≡ 0
+weighs_right a b t e = let h : b ≤ 0 = leb→le b 0 (rw e at t) in omega arith
 
 sound_of : (c : PathConstants) → T (sound c) → Sound c
 sound_of c t =

@@ -1,6 +1,6 @@
 -- A path reduction's figures at a vertex AS ONE NUMBER, of which less is better: each figure in bits of its own, the first key's highest.
-use Rattle.std.specs.Prelude.{ℕ, ◌+◌, ◌*◌, ◌-◌, ◌/◌, ◌%◌, ◌^◌, ◌≤◌, ◌<◌, min, max, ◌≡◌, cond, List, [], ◌∷◌}
-use Rattle.std.specs.Prelude.{map, eqb}
+use Rattle.std.specs.Prelude.{ℕ, ◌+◌, ◌*◌, ◌-◌, ◌/◌, ◌%◌, ◌^◌, ◌≤◌, ◌<◌, min, max, ◌≡◌, List, [], ◌∷◌}
+use Rattle.std.specs.Prelude.{cond, false, not, map, eqb}
 use Rattle.std.proofs.Math.Option.{Option, none, some}
 use Rattle.std.specs.Int.Bits.{bit_and}
 use Rattle.walks.specs.declared.Measure.{Measure}
@@ -105,7 +105,7 @@ abbrev pub packing : List ℕ → ℕ → PathConstants
 packing ks j = record {
   edges = unit_of 1 ks;
   weight = unit_of 2 ks;
-  weighs = cond (eqb (unit_of 2 ks) 0) 0 1;
+  weighs = not (eqb (unit_of 2 ks) 0);
   up = unit_of 3 ks;
   down = unit_of 4 ks;
   last = j;
@@ -145,7 +145,7 @@ figure_of c x = let f = bit_and (x / 2 ^ c.shift) c.mask in cond (eqb c.flip 0) 
 pub record Sound (c : PathConstants) : Type 0 where
   pub edges_fit : c.edges ≤ 4398046511104
   pub weight_fits : c.weight ≤ 67108864
-  pub weighs_right : c.weighs ≡ 0 → c.weight ≡ 0
+  pub weighs_right : c.weighs ≡ false → c.weight ≡ 0
   pub up_fits : c.up ≤ 4398046511104
   pub down_fits : c.down ≤ 4398046511104
   pub base_fits : c.base ≤ 65535

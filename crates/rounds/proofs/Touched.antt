@@ -5,32 +5,34 @@ use mathlib.Core.Bool.{Bool, false, ◌&&◌}
 use mathlib.Core.List.{List}
 use native.Mathlib.Omega.{arith}
 use borrow.Author.Tests.{eq-eqb, lt-ltb, ne_eqb}
-use lib.ListN.{length}
+use lib.ListN.{get_or, length}
 use Rattle.walks.specs.Rounds.{gather}
 use Rattle.walks.specs.Walks.{Edge, Network}
 use Rattle.meaning.specs.Query.{PathReduction, network_of}
 use Rattle.wire.specs.Wire.{at16}
 use Rattle.graph.specs.Graph.{edge_in, graph_of}
 use Rattle.graph.proofs.Rows.{edge_there, edges_count}
+use Rattle.incoming.specs.Incoming.{Successors}
 use Rattle.incoming.proofs.Ends.{ends}
 use Rattle.incoming.proofs.Gathered.{gather_outside}
-use Rattle.incoming.proofs.Into.{leads_some}
 use Rattle.packed_path.specs.declared.PackedPath.{PackedPath}
-use Rattle.packed_path.specs.Packed.{path_of}
+use Rattle.packed_path.specs.Packed.{no_path, path_of}
 use Rattle.packed_figures.specs.Packed.{constants}
 use Rattle.packed_figures.proofs.Legal.{legal_sound}
 use Rattle.vertex_set.specs.Sets.{filled, member}
 use Rattle.vertex_set.proofs.Sets.{member_filled, replaced_length, replaced_other}
 use Rattle.table.specs.Steps.{Quiet, Stepped, touches, word_in}
-use Rattle.table.specs.Table.{Idle, Sound, changed_in, figures_in}
+use Rattle.table.specs.Table.{Idle, Sound, changed_in, figures_in, path_at}
 use Rattle.table.proofs.Cells.{cell_mark, cells_same, replaced_words}
-use Rattle.rounds.specs.Run.{Round}
-use Rattle.rounds.specs.Steps.{Indexed}
-use Rattle.rounds.proofs.Given.{Given, graph_legal, path_legal}
+use Rattle.rounds.specs.Prepared.{graph_in, vertices_in}
+use Rattle.rounds.specs.Run.{PullRound, PushRound, Round}
+use Rattle.rounds.specs.Steps.{no_constants}
+use Rattle.rounds.specs.declared.PreparedRun.{PreparedRun}
+use Rattle.rounds.proofs.Given.{Given, given_at, graph_legal, path_legal}
 use Rattle.rounds.proofs.Shown.{round_at, words_most}
 
 module _ (s : List ℕ) (path : PackedPath) (g : Given s path) (j : ℕ) (slot : j < 8) (r : ℕ) (early : r < 1023) (old : List ℕ)
-    (x : Sound (at16 s 5) (path_of path) r old j) (heads nexts successors : List ℕ) (ix : Indexed s heads nexts successors) where
+    (x : Sound (at16 s 5) (path_of path) r old j) (successors : List ℕ) (leads : Successors s 0 successors) where
   abbrev c : PathReduction
   c = path_of path
 
@@ -57,18 +59,9 @@ module _ (s : List ℕ) (path : PackedPath) (g : Given s path) (j : ℕ) (slot :
 
   module _ (given : List ℕ) (live : ℕ → Bool) (t : Given_table given live) where
     -- what a round asks
-    pub step_quiet : (work : List ℕ) → 8 ≤ length work → Quiet s (constants (path_of path).keys) j heads nexts successors given work
+    pub step_quiet : (work : List ℕ) → 8 ≤ length work → Quiet s (constants (path_of path).keys) j given work
     step_quiet work room = record {
-      accepted = g.accepted;
       sound = legal_sound c.keys (path_legal s path g);
-      starts_inside = from_in;
-      threaded = ix.threads.threaded;
-      heads_fit = ix.threads.heads_fit;
-      nexts_fit = ix.threads.nexts_fit;
-      leads_fit = ix.leads_fit;
-      leads_inside = λ f v h k e.
-          let q = leads_some s f v (sym (ix.leads f v h k) ∙ e) in
-          omega (arith, q.3, (ends s g.bytes g.accepted q.0 q.1).1);
       slot = slot;
       table_fits = omega (arith, x.long, t.size);
       work_fits = room;
@@ -81,7 +74,7 @@ module _ (s : List ℕ) (path : PackedPath) (g : Given s path) (j : ℕ) (slot :
         → gather N c.keys live (figures_in c old j) v N.edges ≡ figures_in c old j v
     still v h e =
         ap (gather N c.keys live (figures_in c old j) v) (edges_count s)
-        ∙ gather_outside N c.keys live (figures_in c old j) v s (λ i l. ap (λ (d : Edge). d.to) (edge_is i l)) successors ix.leads (member given j)
+        ∙ gather_outside N c.keys live (figures_in c old j) v s (λ i l. ap (λ (d : Edge). d.to) (edge_is i l)) successors leads (member given j)
         (λ i l q. (t.marks i l ∙ q, from_in i l)) (omega (arith, few)) e
 
     pub step_round : (new : List ℕ) (says : Bool) → Stepped s (constants (path_of path).keys) j successors given new says
@@ -116,3 +109,47 @@ module _ (s : List ℕ) (path : PackedPath) (g : Given s path) (j : ℕ) (slot :
     idle = λ u h. replaced_other old j _ (32 + 8 * at16 s 5 + u) (omega arith) ∙ x.idle u h;
     size = replaced_length old j _;
   }
+
+-- ---- OF THE PATH REDUCTION j OF A PREPARED RUN: what a round asks, and what it leaves
+module _ (x : PreparedRun) (j : ℕ) (h : j < x.paths) (r : ℕ) (early : r < 1023) (old : List ℕ)
+    (sound : Sound (vertices_in x) (path_at x.table j) r old j) where
+  abbrev bytes : List ℕ
+  bytes = x.indexed.graph.bytes.now
+
+  abbrev own : PackedPath
+  own = get_or x.table j no_path
+
+  given : Given bytes own
+  given = given_at x j h
+
+  slot_of : j < 8
+  slot_of = omega (arith, h, x.few)
+
+  pub push_asks : (work : List ℕ) → 8 ≤ length work → Quiet x.indexed.graph.bytes.now (get_or x.all j no_constants) j old work
+  push_asks work room =
+      rw (x.constants j h)
+      (step_quiet bytes own given j slot_of r early old sound x.indexed.successors.now x.leads old _
+      (push_given bytes own given j slot_of r early old sound x.indexed.successors.now x.leads) work room)
+
+  pub push_leaves : (new : List ℕ) (says : Bool)
+      → Stepped x.indexed.graph.bytes.now (get_or x.all j no_constants) j x.indexed.successors.now old new says
+      → PushRound (graph_in x) (path_at x.table j) r j old new says
+  push_leaves new says y =
+      step_round bytes own given j slot_of r early old sound x.indexed.successors.now x.leads old _
+      (push_given bytes own given j slot_of r early old sound x.indexed.successors.now x.leads) new says (rw (x.constants j h) at y)
+
+  -- where all vertices are marked
+  module _ (marked : List ℕ) (e : marked ≡ filled old j (vertices_in x)) where
+    pub pull_asks : (work : List ℕ) → 8 ≤ length work → Quiet x.indexed.graph.bytes.now (get_or x.all j no_constants) j marked work
+    pull_asks work room =
+        rw (x.constants j h, e)
+        (step_quiet bytes own given j slot_of r early old sound x.indexed.successors.now x.leads _ _
+        (pull_given bytes own given j slot_of r early old sound x.indexed.successors.now x.leads) work room)
+
+    pub pull_leaves : (new : List ℕ) (says : Bool)
+        → Stepped x.indexed.graph.bytes.now (get_or x.all j no_constants) j x.indexed.successors.now marked new says
+        → PullRound (graph_in x) (path_at x.table j) r j old new says
+    pull_leaves new says y =
+        step_round bytes own given j slot_of r early old sound x.indexed.successors.now x.leads _ _
+        (pull_given bytes own given j slot_of r early old sound x.indexed.successors.now x.leads) new says
+        (rw (x.constants j h, e) at y)

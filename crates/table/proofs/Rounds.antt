@@ -9,7 +9,9 @@ use borrow.Author.Tests.{eq-eqb, le-ltb, lt-ltb, ne_eqb}
 use lib.Dec.{ltb}
 use lib.ListN.{length, get_or}
 use Rattle.wire.specs.Wire.{at16}
-use Rattle.graph.proofs.Accepted.{accepted}
+use Rattle.incoming.specs.declared.IndexedGraph.{IndexedGraph}
+use Rattle.incoming.proofs.Ends.{ends}
+use Rattle.incoming.proofs.Sizes.{few_vertices}
 use Rattle.vertex_set.specs.Sets.{emptied, joined, member, next_member}
 use Rattle.vertex_set.proofs.Least.{Least, some_where}
 use Rattle.vertex_set.proofs.Sets.{member_emptied, member_joined, next_least, replaced_length, replaced_other}
@@ -45,7 +47,13 @@ right_one : (a b : Bool) → (a && b) ≡ true → b ≡ true
 right_one true b q = q
 right_one false b q = absurd (false≢true q)
 
-module _ (s : List ℕ) (c : PathConstants) (j : ℕ) (heads nexts successors old work : List ℕ) (q : Quiet s c j heads nexts successors old work) where
+module _ (x : IndexedGraph) (c : PathConstants) (j : ℕ) (old work : List ℕ) (q : Quiet x.graph.bytes.now c j old work) where
+  abbrev s : List ℕ
+  s = x.graph.bytes.now
+
+  abbrev successors : List ℕ
+  successors = x.successors.now
+
   abbrev n : ℕ
   n = at16 s 5
 
@@ -56,7 +64,7 @@ module _ (s : List ℕ) (c : PathConstants) (j : ℕ) (heads nexts successors ol
   touched = touches (at16 s 5) j old successors
 
   few : at16 s 5 ≤ 256
-  few = (accepted s q.accepted).sizes.few_vertices
+  few = few_vertices s x.graph.accepted
 
   slot : j < 8
   slot = q.slot
@@ -80,24 +88,18 @@ module _ (s : List ℕ) (c : PathConstants) (j : ℕ) (heads nexts successors ol
     chosen_is v h = member_emptied work₁ 1 0 v h room ∙ t.walked v h
 
     -- what the walk asks
-    pub walk_ready : Ready s c j heads nexts l₁ (emptied work₁ 1)
+    pub walk_ready : Ready s c j l₁ (emptied work₁ 1)
     walk_ready = record {
-      edges = record {
-        lends = record {
-          accepted = q.accepted;
-          sound = q.sound;
-          table_fits = omega (arith, t.relent.size, q.table_fits);
-          words_lent = λ u h. rw (t.relent.words u h) (lends_most u h);
-        };
-        threaded = q.threaded;
-        heads_fit = q.heads_fit;
-        nexts_fit = q.nexts_fit;
+      lends = record {
+        sound = q.sound;
+        table_fits = omega (arith, t.relent.size, q.table_fits);
+        words_lent = λ u h. rw (t.relent.words u h) (lends_most u h);
       };
       slot = q.slot;
       work_fits = omega (arith, room, replaced_length work₁ 1 (λ k. 0));
       walked_fit = λ v h e.
           let p = some_where (λ g. member old j g && member successors g v) (at16 s 5) (sym (chosen_is v h) ∙ e) in
-          q.leads_inside p.0 v p.1 h (right_one (member old j p.0) (member successors p.0 v) p.2);
+          x.leads_inside p.0 v p.1 h (right_one (member old j p.0) (member successors p.0 v) p.2);
     }
 
     pub walk_blank : Blank (emptied work₁ 1)
@@ -112,7 +114,7 @@ module _ (s : List ℕ) (c : PathConstants) (j : ℕ) (heads nexts successors ol
     next_same : (v : ℕ) → v < at16 s 5 → next_word s c j (lent_in s l₁) l₁ v ≡ next_word s c j L old v
     next_same v h =
         ap (λ (x : ℕ). reduced_upto s c (lent_in s l₁) x v (at16 s 7)) (word_was j v slot h)
-        ∙ reduced_same s c L (lent_in s l₁) (word_in old j v) v (at16 s 7) (λ k i. t.relent.words _ (q.starts_inside k i))
+        ∙ reduced_same s c L (lent_in s l₁) (word_in old j v) v (at16 s 7) (λ k i. t.relent.words _ (ends s x.graph.bytes_fit x.graph.accepted k i).0)
 
     -- THE VERTICES ARE WALKED
     module _ (l₂ work₂ : List ℕ) (p : Walked s c j l₁ (emptied work₁ 1) l₂ work₂ 256) where

@@ -138,20 +138,14 @@ module _ (s : List ℕ) (c : PathConstants) (j : ℕ) (slot : j < 8) (old work :
     walked_more = one_more
 
 -- what a walk asks, of a table and of `work` as they then are
-pub ready_still : (s : List ℕ) (c : PathConstants) (j : ℕ) (heads nexts l work l' work' : List ℕ) → Ready s c j heads nexts l work
+pub ready_still : (s : List ℕ) (c : PathConstants) (j : ℕ) (l work l' work' : List ℕ) → Ready s c j l work
     → length l' ≡ length l → length work' ≡ length work → ((u : ℕ) → u < 256 → member work' 0 u ≡ member work 0 u)
-    → ((u : ℕ) → lent_in s l' u ≡ lent_in s l u) → Ready s c j heads nexts l' work'
-ready_still s c j heads nexts l work l' work' p e f same kept = record {
-  edges = record {
-    lends = record {
-      accepted = p.edges.lends.accepted;
-      sound = p.edges.lends.sound;
-      table_fits = omega (arith, e, p.edges.lends.table_fits);
-      words_lent = λ u h. rw (kept u) (p.edges.lends.words_lent u h);
-    };
-    threaded = p.edges.threaded;
-    heads_fit = p.edges.heads_fit;
-    nexts_fit = p.edges.nexts_fit;
+    → ((u : ℕ) → lent_in s l' u ≡ lent_in s l u) → Ready s c j l' work'
+ready_still s c j l work l' work' p e f same kept = record {
+  lends = record {
+    sound = p.lends.sound;
+    table_fits = omega (arith, e, p.lends.table_fits);
+    words_lent = λ u h. rw (kept u) (p.lends.words_lent u h);
   };
   slot = p.slot;
   work_fits = omega (arith, f, p.work_fits);

@@ -3,8 +3,8 @@
 use Rattle.std.specs.Prelude.{ℕ, zero, suc, ◌+◌, ◌*◌, ◌≤◌, ◌<◌, min, ◌≡◌, Bool, true, false, cond, not, ◌&&◌, List, eqb, length}
 use Rattle.std.specs.Prelude.{get_or, set}
 use Rattle.wire.specs.Wire.{at16}
-use Rattle.graph.specs.Graph.{edge_in, graph_code}
-use Rattle.incoming.specs.Incoming.{Threaded, enters}
+use Rattle.graph.specs.Graph.{edge_in}
+use Rattle.incoming.specs.Incoming.{enters}
 use Rattle.vertex_set.specs.Least.{some_below}
 use Rattle.vertex_set.specs.Sets.{inserted, member}
 use Rattle.packed_figures.specs.declared.PathConstants.{PathConstants}
@@ -76,23 +76,15 @@ moves s c j L l v = not (eqb (next_word s c j L l v) (word_in l j v))
 abbrev pub lent_in : List ℕ → List ℕ → ℕ → ℕ
 lent_in s l u = lent (at16 s 5) l u
 
--- what an edge asks: an accepted graph, a table as long as it needs, and words lent that are at most ABSENT with one more edge
+-- what an edge asks: a table as long as the graph needs, and words lent that are at most ABSENT with one more edge
 pub record Lends (s : List ℕ) (c : PathConstants) (l : List ℕ) : Type 0 where
-  pub accepted : graph_code s ≡ 0
   pub sound : packed.Sound c
   pub table_fits : 32 + 9 * at16 s 5 ≤ length l
   pub words_lent : (u : ℕ) → u < at16 s 5 → lent_in s l u ≤ absent + c.edges
 
--- and the edges into a vertex: the index
-pub record Edges (s : List ℕ) (c : PathConstants) (heads nexts l : List ℕ) : Type 0 where
-  pub lends : Lends s c l
-  pub threaded : Threaded s 0 heads nexts
-  pub heads_fit : at16 s 5 ≤ length heads
-  pub nexts_fit : at16 s 7 ≤ length nexts
-
 -- and a walk: vertices to walk
-pub record Ready (s : List ℕ) (c : PathConstants) (j : ℕ) (heads nexts l work : List ℕ) : Type 0 where
-  pub edges : Edges s c heads nexts l
+pub record Ready (s : List ℕ) (c : PathConstants) (j : ℕ) (l work : List ℕ) : Type 0 where
+  pub lends : Lends s c l
   pub slot : j < 8
   pub work_fits : 8 ≤ length work
   pub walked_fit : (v : ℕ) → v < 256 → member work 0 v ≡ true → v < at16 s 5
@@ -122,15 +114,8 @@ pub record Walked (s : List ℕ) (c : PathConstants) (j : ℕ) (old work new wor
   pub room : length work' ≡ length work
 
 -- what a round asks: no word lent, and words that have room for one more edge
-pub record Quiet (s : List ℕ) (c : PathConstants) (j : ℕ) (heads nexts successors l work : List ℕ) : Type 0 where
-  pub accepted : graph_code s ≡ 0
+pub record Quiet (s : List ℕ) (c : PathConstants) (j : ℕ) (l work : List ℕ) : Type 0 where
   pub sound : packed.Sound c
-  pub starts_inside : (i : ℕ) → i < at16 s 7 → (edge_in s i).from < at16 s 5
-  pub threaded : Threaded s 0 heads nexts
-  pub heads_fit : at16 s 5 ≤ length heads
-  pub nexts_fit : at16 s 7 ≤ length nexts
-  pub leads_fit : 4 * at16 s 5 ≤ length successors
-  pub leads_inside : (f v : ℕ) → f < at16 s 5 → v < 256 → member successors f v ≡ true → v < at16 s 5
   pub slot : j < 8
   pub table_fits : 32 + 9 * at16 s 5 ≤ length l
   pub work_fits : 8 ≤ length work

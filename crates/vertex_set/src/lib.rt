@@ -1,5 +1,7 @@
 // Sets of vertices below 256, four words of 64 bits each. A lent table of words holds sets in turn: set f is the four words from 4 f on. A lone set is set 0 of
 // four words. Members come in rising order by `first` and `after`.
+// Kept: a table of words and the number of a set as two arguments. A table has other words too, which are written while its sets are read (crate table), so
+// that a struct that borrows it would be made anew for each call.
 #![tactic(auto)]
 
 ghost use Rattle.std.specs.Prelude.{◌≡◌, ◌+◌, ◌*◌, ◌-◌, ◌/◌, ◌^◌, ◌≤◌, ◌<◌, [], ◌∷◌, cond, length, get_or};
@@ -8,6 +10,7 @@ ghost use Rattle.std.proofs.lemmas.List.Edits.{sets};
 ghost use Rattle.vertex_set.specs.Sets.{Met, above, emptied, filled, four, inserted, joined, ones, replaced};
 
 // A member, and the digits above it in its word: so the next one in the word is found without reading it again. No member is 256.
+// Kept: 256 for none. A loop over the members below n ends by the one test `vertex < n`; with an Option each (`touch`, `unlend` of table) would have two.
 #[derive(Clone, Copy)]
 pub struct Member {
     pub vertex: usize,
@@ -15,29 +18,23 @@ pub struct Member {
 }
 
 // v into set f.
+#[tactic(auto, unfolding(crate::specs::Sets::inserted))]
 pub fn insert(words: &mut [u64], f: usize, v: usize)
     requires { (v < 256) × (4 * f + 4 ≤ length words.old) }
     ensures { words.new ≡ inserted words.old f v }
 {
     let k = 4 * f + v / 64;
-    words[k] = words[k] | (1u64 << (v % 64));
-}
-
-// The digit j of a word, where the test holds.
-fn digit_if(test: bool, j: usize) -> u64
-    requires { j < 64 }
-    ensures { result ≡ cond test (2 ^ j) 0 }
-{
-    (test as u64) << j
+    words[k] |= 1u64 << (v % 64);
 }
 
 // v into set f where the test holds: a store either way, no branch to predict.
+#[tactic(auto, unfolding(crate::specs::Sets::inserted))]
 pub fn insert_if(words: &mut [u64], f: usize, v: usize, test: bool)
     requires { (v < 256) × (4 * f + 4 ≤ length words.old) }
     ensures { words.new ≡ cond test (inserted words.old f v) words.old }
 {
     let k = 4 * f + v / 64;
-    words[k] = words[k] | digit_if(test, v % 64);
+    words[k] |= u64::from(test) << (v % 64);
 }
 
 // The four words of set f.
@@ -53,6 +50,7 @@ fn put(words: &mut [u64], f: usize, a: u64, b: u64, c: u64, d: u64)
 }
 
 // Set f without members.
+#[tactic(auto, unfolding(crate::specs::Sets::replaced))]
 pub fn clear(words: &mut [u64], f: usize)
     requires { 4 * f + 4 ≤ length words.old }
     ensures { words.new ≡ emptied words.old f }
@@ -64,35 +62,24 @@ pub fn clear(words: &mut [u64], f: usize)
 fn low_digits(n: usize) -> u64
     ensures { result ≡ ones n }
 {
-    if n < 64 {
-        return (1u64 << n) - 1;
-    }
-    u64::MAX
-}
-
-// How many of the vertices below n are in the words from k on.
-fn past(n: usize, k: usize) -> usize
-    ensures { result ≡ n - k }
-{
-    if n < k {
-        return 0;
-    }
-    n - k
+    if n < 64 { (1u64 << n) - 1 } else { u64::MAX }
 }
 
 // All vertices below n into set f, and no other.
+#[tactic(auto, unfolding(crate::specs::Sets::replaced))]
 pub fn fill(words: &mut [u64], f: usize, n: usize)
     requires { 4 * f + 4 ≤ length words.old }
     ensures { words.new ≡ filled words.old f n }
 {
     let a = low_digits(n);
-    let b = low_digits(past(n, 64));
-    let c = low_digits(past(n, 128));
-    let d = low_digits(past(n, 192));
+    let b = low_digits(n.saturating_sub(64));
+    let c = low_digits(n.saturating_sub(128));
+    let d = low_digits(n.saturating_sub(192));
     put(words, f, a, b, c, d);
 }
 
 // The members of set g of another table into set f.
+#[tactic(auto, unfolding(crate::specs::Sets::replaced))]
 pub fn join(words: &mut [u64], f: usize, others: &[u64], g: usize)
     requires { (4 * f + 4 ≤ length words.old) × (4 * g + 4 ≤ length others.now) }
     ensures { words.new ≡ joined words.old f others.now g }
@@ -130,6 +117,7 @@ pub fn empty() -> Four
 }
 
 // The members of set g of a table besides its own.
+#[tactic(auto, unfolding(crate::specs::Sets::replaced))]
 pub fn with(s: Four, others: &[u64], g: usize) -> Four
     requires { 4 * g + 4 ≤ length others.now }
     ensures { four result ≡ joined (four s) 0 others.now g }
@@ -144,6 +132,7 @@ pub fn with(s: Four, others: &[u64], g: usize) -> Four
 }
 
 // It becomes set f of a table.
+#[tactic(auto, unfolding(crate::specs::Sets::replaced))]
 pub fn store(words: &mut [u64], f: usize, s: Four)
     requires { 4 * f + 4 ≤ length words.old }
     ensures { words.new ≡ replaced words.old f (λ k. get_or (four s) k 0) }
@@ -158,7 +147,7 @@ fn lowest(base: usize, word: u64) -> Member
     requires { (base ≤ 256) × (word ≡ 0 → ⊥) }
     ensures { (result.vertex ≡ base + count_trailing_zeros 64 word) × (result.above ≡ word / 2 ^ (count_trailing_zeros 64 word + 1)) }
 {
-    let t = u64::trailing_zeros(word) as usize;
+    let t = word.trailing_zeros() as usize;
     Member {
         vertex: base + t,
         above: (word >> t) / 2,
@@ -170,13 +159,11 @@ fn from_word(words: &[u64], f: usize, k: usize) -> Member
     requires { (k ≤ 4) × (4 * f + 4 ≤ length words.now) }
     ensures { Met words.now f (64 * k) result }
 {
-    let mut j = k;
-    while j < 4 {
+    for j in k..4 {
         let word = words[4 * f + j];
         if word != 0 {
             return lowest(64 * j, word);
         }
-        j += 1;
     }
     Member {
         vertex: 256,

@@ -9,9 +9,8 @@ loop-v-preserved c =
     let l = c.loop-v in
     let e = c.clear.ensures in
     let m = c.args.m in (
-      omega arith,
-      length-set l.heads l.v m ∙ l.invariant.1,
-      c.clear.auto.words ∙ l.invariant.2,
-      blank_head l.heads l.v m (omega arith) l.invariant.3,
-      rw e (blank_set l.successors l.v (omega arith) l.invariant.4),
+      length-set l.heads l.v m ∙ l.invariant.0,
+      c.clear.auto.words ∙ l.invariant.1,
+      blank_head l.heads l.v m (omega arith) l.invariant.2,
+      rw e (blank_set l.successors l.v (omega arith) l.invariant.3),
     )

@@ -1,4 +1,4 @@
-use Prim.Native.Nat.{ℕ, ◌≤◌, ◌<◌, ◌-◌}
+use Prim.Native.Nat.{ℕ, ◌<◌}
 use mathlib.Core.Path.{◌≡◌}
 use mathlib.Core.Bool.{false}
 use lib.ListN.{length, get_or}
@@ -6,9 +6,6 @@ use Rattle.vertex_set.specs.Sets.{member}
 use Rattle.incoming.proofs.blank.Given as goal
 
 abbrev pub invariant-loop-v : goal.invariant-loop-v
-invariant-loop-v l = (l.v ≤ l.n) × (length l.heads ≡ length l.initial.heads) × (length l.successors ≡ length l.initial.successors)
+invariant-loop-v l = (length l.heads ≡ length l.initial.heads) × (length l.successors ≡ length l.initial.successors)
     × ((u : ℕ) → u < l.v → get_or l.heads u 0 ≡ l.m)
     × ((f t : ℕ) → f < l.v → t < 256 → member l.successors f t ≡ false)
-
-abbrev pub decreases-loop-v : goal.decreases-loop-v
-decreases-loop-v l = l.n - l.v

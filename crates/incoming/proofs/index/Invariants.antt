@@ -1,13 +1,9 @@
-use Prim.Native.Nat.{◌≤◌}
 use mathlib.Core.Path.{◌≡◌}
 use lib.ListN.{length}
 use Rattle.incoming.specs.Incoming.{Successors, Threaded}
 use Rattle.incoming.proofs.index.Given as goal
 
 abbrev pub invariant-loop-i : goal.invariant-loop-i
-invariant-loop-i l = (l.i ≤ l.m) × (length l.heads ≡ length l.initial.heads) × (length l.nexts ≡ length l.initial.nexts)
+invariant-loop-i l = (length l.heads ≡ length l.initial.heads) × (length l.nexts ≡ length l.initial.nexts)
     × (length l.successors ≡ length l.initial.successors)
-    × Threaded l.graph l.i l.heads l.nexts × Successors l.graph l.i l.successors
-
-abbrev pub decreases-loop-i : goal.decreases-loop-i
-decreases-loop-i l = l.i
+    × Threaded l.graph.bytes.now l.i l.heads l.nexts × Successors l.graph.bytes.now l.i l.successors

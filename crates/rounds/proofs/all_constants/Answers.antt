@@ -11,6 +11,6 @@ pub constants_of-requires : goal.constants_of-requires
 constants_of-requires c =
     let a = c.args in
     let j = c.loop-j.j in
-    let e : length {A = PackedPath} a.table ≡ 8 = c.well_formed.1.1.0.1.0.1 in
+    let e : length {A = PackedPath} a.table ≡ 8 = omega arith in
     let h : j < a.paths = omega arith in
     (legal_at (PathFits a.n) a.table a.paths c.requires.1 j h (omega (arith, c.requires.0))).0

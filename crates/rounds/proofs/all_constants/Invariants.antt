@@ -1,11 +1,7 @@
-use Prim.Native.Nat.{◌-◌, ◌≤◌}
 use mathlib.Core.Path.{◌≡◌}
 use lib.ListN.{length}
 use Rattle.rounds.specs.Steps.{Constants}
 use Rattle.rounds.proofs.all_constants.Given as goal
 
 abbrev pub invariant-loop-j : goal.invariant-loop-j
-invariant-loop-j l = (l.j ≤ l.paths) × (length l.all ≡ 8) × Constants l.j l.table l.all
-
-abbrev pub decreases-loop-j : goal.decreases-loop-j
-decreases-loop-j l = l.paths - l.j
+invariant-loop-j l = (length l.all ≡ 8) × Constants l.j l.table l.all

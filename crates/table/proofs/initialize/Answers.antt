@@ -82,41 +82,37 @@ module _ (b : ℕ → Bool) (c : PathConstants) (j : ℕ) (old new : List ℕ) (
 
 pub loop-v-init : goal.loop-v-init
 loop-v-init c =
-    let e = c.clear.ensures in (
-      omega arith,
-      record {
-        words = λ u h. absurd (omega arith);
-        marks = λ u h k. absurd (omega arith);
-        blank = λ u h k. ap (λ (l : List ℕ). member l c.args.j u) e
-            ∙ cleared c.args.j c.args.figures.now u k (omega (arith, c.requires.2, c.requires.3));
-        others = λ i h n u k. refl;
-        kept = λ k h. refl;
-        size = refl;
-      },
-    )
+    let e = c.clear.ensures in
+    record {
+      words = λ u h. absurd (omega arith);
+      marks = λ u h k. absurd (omega arith);
+      blank = λ u h k. ap (λ (l : List ℕ). member l c.args.j u) e
+          ∙ cleared c.args.j c.args.figures.now u k (omega (arith, c.requires.2, c.requires.3));
+      others = λ i h n u k. refl;
+      kept = λ k h. refl;
+      size = refl;
+    }
 
 pub loop-v-preserved : goal.loop-v-preserved
 loop-v-preserved c =
     let a = c.args in
     let l = c.loop-v in
     let e = c.clear.ensures in
-    let old = ap length e ∙ replaced_length a.figures.now a.j _ in (
-      omega arith,
-      rw (
-        c.insert_if.ensures,
-        c.start_word.ensures,
-        c.starts_at-here.ensures,
-      )
-          (one_more (begins (sources_of a.path)) a.c a.j _ l.figures l.v c.requires.2 (omega (arith, c.requires.1))
-          (omega (arith, c.requires.2, c.requires.3, old)) l.invariant.1),
+    let old = ap length e ∙ replaced_length a.figures.now a.j _ in
+    rw (
+      c.insert_if.ensures,
+      c.start_word.ensures,
+      c.starts_at-here.ensures,
     )
+    (one_more (begins (sources_of a.path)) a.c a.j _ l.figures l.v c.requires.2 (omega (arith, c.requires.1))
+    (omega (arith, c.requires.2, c.requires.3, old)) l.invariant)
 
 pub returns : goal.returns
 returns c =
     let a = c.args in
     let l = c.loop-v in
-    let p = l.invariant.1 in
-    let e : l.v ≡ a.n = omega (arith, l.invariant.0) in
+    let p = l.invariant in
+    let e : l.v ≡ a.n = omega arith in
     let e₀ = c.clear.ensures in
     record {
       cells = λ v h. cell_same l.figures a.j v _ _ (p.words v (omega (arith, e))) (p.marks v (omega (arith, e)) (omega (arith, c.requires.1)));

@@ -1,4 +1,4 @@
-use Prim.Native.Nat.{ℕ, ◌+◌, ◌*◌, ◌-◌, ◌≤◌, ◌<◌}
+use Prim.Native.Nat.{ℕ, ◌+◌, ◌*◌, ◌≤◌, ◌<◌}
 use mathlib.Core.Path.{◌≡◌}
 use mathlib.Core.Bool.{Bool, false}
 use mathlib.Core.List.{List}
@@ -20,7 +20,4 @@ pub record Upto (b : ℕ → Bool) (c : PathConstants) (j : ℕ) (old new : List
   pub size : length new ≡ length old
 
 abbrev pub invariant-loop-v : goal.invariant-loop-v
-invariant-loop-v l = (l.v ≤ l.n) × Upto (begins (sources_of l.path)) l.c l.j l.initial.figures l.figures l.v
-
-abbrev pub decreases-loop-v : goal.decreases-loop-v
-decreases-loop-v l = l.n - l.v
+invariant-loop-v l = Upto (begins (sources_of l.path)) l.c l.j l.initial.figures l.figures l.v

@@ -1,13 +1,13 @@
 use Prim.Native.Nat.{ℕ, suc, ◌<◌, min}
-use mathlib.Core.Path.{◌≡◌, refl, sym, ◌∙◌}
+use mathlib.Core.Path.{◌≡◌, refl, sym, ap, ◌∙◌}
 use mathlib.Core.Bool.{false}
 use mathlib.Core.List.{List}
 use native.Mathlib.Omega.{arith}
 use borrow.Author.Tests.{eq-eqb}
 use Rattle.wire.specs.Wire.{at16}
 use Rattle.graph.specs.Graph.{edge_in}
-use Rattle.incoming.specs.Incoming.{enters}
-use Rattle.incoming.proofs.Threads.{head_into, head_same, next_into, next_same}
+use Rattle.incoming.specs.Incoming.{enters, first_into}
+use Rattle.incoming.proofs.Into.{into_found, into_same}
 use Rattle.packed_figures.specs.declared.PathConstants.{PathConstants}
 use Rattle.table.specs.Steps.{brings, lent_in, reduced_upto}
 use Rattle.table.proofs.reduced.Goals as goal
@@ -30,33 +30,33 @@ none s c L word v = refl
 pub loop-i-init : goal.loop-i-init
 loop-i-init c =
     let a = c.args in
-    let t = c.requires.0.threaded in
-    let g = a.graph.now in
-    let h = head_into g a.heads.now a.nexts.now t a.v c.requires.1 in
-    let e = head_same g a.heads.now a.nexts.now t a.v (reduced_upto g a.c (lent_in g a.figures.now) a.word a.v)
-    (keep g a.c (lent_in g a.figures.now) a.word a.v) c.requires.1 in
-    rw c.row_number-i.ensures (h.most, h.enters_it, none g a.c (lent_in g a.figures.now) a.word a.v ∙ sym e)
+    let g = a.indexed.now.graph.bytes.now in
+    let L = lent_in g a.figures.now in
+    let h = into_found g a.v 0 (omega arith) in
+    let e = into_same g a.v (reduced_upto g a.c L a.word a.v) (keep g a.c L a.word a.v) 0 (omega arith) in
+    rw c.first_into-i.ensures (h.most, h.enters_it, none g a.c L a.word a.v ∙ sym e)
 
 pub loop-i-smaller : goal.loop-i-smaller
 loop-i-smaller c =
     let a = c.args in
     let l = c.loop-i in
-    let there : l.i < at16 a.graph.now 7 = omega (arith, c.rows-m.ensures.0) in
-    let h = next_into a.graph.now a.heads.now a.nexts.now c.requires.0.threaded a.v l.i there (l.invariant.1 there) in
-    omega (arith, c.row_number-i-in-loop-i.ensures, h.from)
+    let g = a.indexed.now.graph.bytes.now in
+    let there : l.i < at16 g 7 = omega (arith, c.rows-m.ensures.0) in
+    let h = into_found g a.v (suc l.i) there in
+    let e = c.next_into-i.ensures ∙ ap (λ (u : ℕ). first_into g u (suc l.i)) (l.invariant.1 there) in
+    omega (arith, c.rows-m.ensures.0, e, h.from)
 
 pub loop-i-preserved : goal.loop-i-preserved
 loop-i-preserved c =
     let a = c.args in
-    let t = c.requires.0.threaded in
-    let g = a.graph.now in
+    let g = a.indexed.now.graph.bytes.now in
+    let L = lent_in g a.figures.now in
     let l = c.loop-i in
     let there : l.i < at16 g 7 = omega (arith, c.rows-m.ensures.0) in
     let enter = l.invariant.1 there in
-    let h = next_into g a.heads.now a.nexts.now t a.v l.i there enter in
-    let e = next_same g a.heads.now a.nexts.now t a.v (reduced_upto g a.c (lent_in g a.figures.now) a.word a.v)
-    (keep g a.c (lent_in g a.figures.now) a.word a.v) l.i there enter in
-    let b : c.least-best.result ≡ reduced_upto g a.c (lent_in g a.figures.now) a.word a.v (suc l.i) =
-    c.least-best.ensures ∙ rw (l.invariant.2, c.brought.ensures)
-    (take g a.c (lent_in g a.figures.now) a.word a.v l.i enter) in
-    rw c.row_number-i-in-loop-i.ensures (h.most, h.enters_it, b ∙ sym e)
+    let h = into_found g a.v (suc l.i) there in
+    let e = into_same g a.v (reduced_upto g a.c L a.word a.v) (keep g a.c L a.word a.v) (suc l.i) there in
+    let next = c.next_into-i.ensures ∙ ap (λ (u : ℕ). first_into g u (suc l.i)) enter in
+    let b : c.min-best.result ≡ reduced_upto g a.c L a.word a.v (suc l.i) =
+    c.min-best.ensures ∙ rw (l.invariant.2, c.brought.ensures) (take g a.c L a.word a.v l.i enter) in
+    rw next (h.most, h.enters_it, b ∙ sym e)

@@ -24,8 +24,8 @@ loop-m-init c =
     let h = met_least a.work.now 0 0 (omega arith) _ f in (
       h.most,
       h.passes,
-      passed a.graph.now a.c a.j slot a.figures.now a.work.now a.figures.now a.work.now 0 _
-          (λ u k l. h.none_before u k l) h.from (walked_none a.graph.now a.c a.j slot a.figures.now a.work.now c.requires.1),
+      passed a.indexed.now.graph.bytes.now a.c a.j slot a.figures.now a.work.now a.figures.now a.work.now 0 _
+          (λ u k l. h.none_before u k l) h.from (walked_none a.indexed.now.graph.bytes.now a.c a.j slot a.figures.now a.work.now c.requires.1),
       f.above_is,
     )
 
@@ -35,7 +35,7 @@ after-m-requires c =
     let t = c.walk_at in
     let small : l.m.vertex < 256 = omega (arith, c.loop-m-test.true) in (
       small,
-      rw t.ensures.1 (l.invariant.3 small ∙ sym (above_kept c.args.graph.now c.args.c c.args.j l.figures l.work l.m.vertex small)),
+      rw t.ensures.1 (l.invariant.3 small ∙ sym (above_kept c.args.indexed.now.graph.bytes.now c.args.c c.args.j l.figures l.work l.m.vertex small)),
       omega (arith, t.auto.work, l.invariant.2.room, c.requires.0.work_fits),
     )
 
@@ -60,14 +60,14 @@ loop-m-preserved c =
     let small : v < 256 = omega (arith, c.loop-m-test.true) in
     let m = l.invariant.1 small in
     let vertex = c.requires.0.walked_fit v small (sym (p.chosen v small) ∙ m) in
-    let walked : Walked a.graph.now a.c a.j a.figures.now a.work.now figures work (v + 1) =
+    let walked : Walked a.indexed.now.graph.bytes.now a.c a.j a.figures.now a.work.now figures work (v + 1) =
     rw (t.ensures.0, t.ensures.1)
-    (walked_more a.graph.now a.c a.j slot a.figures.now a.work.now l.figures l.work v p
-    (omega (arith, slot, vertex, c.requires.0.edges.lends.table_fits)) c.requires.0.work_fits small vertex m) in
+    (walked_more a.indexed.now.graph.bytes.now a.c a.j slot a.figures.now a.work.now l.figures l.work v p
+    (omega (arith, slot, vertex, c.requires.0.lends.table_fits)) c.requires.0.work_fits small vertex m) in
     let f = c.after-m.ensures in
     let h = met_least work 0 (v + 1) (omega (arith, small)) _ f in (
       h.most,
       h.passes,
-      passed a.graph.now a.c a.j slot a.figures.now a.work.now figures work (v + 1) _ (λ u k w. h.none_before u k w) h.from walked,
+      passed a.indexed.now.graph.bytes.now a.c a.j slot a.figures.now a.work.now figures work (v + 1) _ (λ u k w. h.none_before u k w) h.from walked,
       f.above_is,
     )

@@ -1,7 +1,7 @@
 -- DEMANDS 2 AND 3 FOR EVERY QUESTION OF A BOARD, over what the calls return: `board_answers`; each question's rows are those of `fuse` and `run` alone:
 -- `board_alone`; stopped after r rounds: `board_stopped`; and how long the answers are at most: `board_short`. Assumes nothing.
-use Prim.Native.Nat.{ℕ, ◌+◌, ◌*◌, ◌≤◌, ◌<◌}
-use mathlib.Core.Path.{◌≡◌, refl, sym, ap, ap₂, ◌∙◌, subst}
+use Prim.Native.Nat.{ℕ, ◌*◌, ◌≤◌, ◌<◌}
+use mathlib.Core.Path.{◌≡◌, refl, sym, ap, ◌∙◌, subst}
 use mathlib.Core.Bool.{Bool, true, false}
 use mathlib.Core.List.{List, [], ◌∷◌, ◌++◌, map}
 use native.Mathlib.Omega.{arith}
@@ -10,7 +10,6 @@ use lib.Dec.{eqb}
 use lib.ListN.{length, drop, take}
 use lib.Seq.{drop_at, take_at}
 use Rattle.answer.specs.Answer.{answer_size}
-use Rattle.answer.specs.Answer as answer
 use Rattle.answer.specs.Decode.{Answer, decode}
 use Rattle.answer.proofs.Decoded.{decode_back}
 use Rattle.board_text.specs.Board.{all_written, joint_paths, queries_of}
@@ -18,16 +17,15 @@ use Rattle.board_text.specs.Steps.{board_scan}
 use Rattle.board_text.proofs.Exact.{board_read}
 use Rattle.engine.specs.declared.Limit.{Limit}
 use Rattle.engine.specs.declared.Limit.TheVariants.{Quiet, Rounds}
-use Rattle.engine.specs.Run.{Sixteen, outcome, run_reply}
+use Rattle.engine.specs.Run.{Sixteen, run_reply}
 use Rattle.engine.specs.Steps.{rounds_for, run_code}
 use Rattle.engine.proofs.Every.{answer_in, fitted_answered, legal_there, not_refused, outcome_rows, rows_fit}
 use Rattle.engine.proofs.Meant.{run_answers}
-use Rattle.fusion.specs.Fusion.{fuse_reply}
 use Rattle.fusion.proofs.Exact.{fuse_answered}
 use Rattle.graph.specs.Graph.{graph_code, graph_of}
 use Rattle.meaning.specs.Limits.{GraphLegal, PathFits, PlanLegal, QueryFits, QueryLegal}
 use Rattle.meaning.specs.Meaning.{Outcome, Smallest, UnfusedWithin}
-use Rattle.meaning.specs.Plan.{Plan, fuse, put_all}
+use Rattle.meaning.specs.Plan.{fuse}
 use Rattle.meaning.specs.Query.{Query, written_paths}
 use Rattle.meaning.specs.Run.{run, stopped}
 use Rattle.meaning.proofs.Limits.{fuse_legal}
@@ -42,9 +40,9 @@ use Rattle.query.specs.Tree.{query_of}
 use Rattle.query.proofs.Tree.{query_back}
 use Rattle.walks.specs.Lists.{All}
 use Rattle.walks.specs.Walks.{Graph}
-use Rattle.wire.specs.Wire.{Bytes, Reply, Returned, at16, done, reply_buffer, reply_number}
+use Rattle.wire.specs.Wire.{Bytes, Reply, Returned, at16, reply_buffer, reply_number}
 use Rattle.board.specs.Answered.{AloneRows, BoardAnswers, Decoded, Each, RoundsRight, RowsRight, outcomes_bytes}
-use Rattle.board.specs.Reply.{alone, answer_of, answers_of, board_reply, board_rounds, greatest, reported}
+use Rattle.board.specs.Reply.{alone, answer_of, answers_of, board_reply, board_rounds, reported}
 use Rattle.board.proofs.Meant.{Accepted, answer_sized, board_passed, board_refused, finish_fits, finish_short, written_fit}
 use Rattle.board.proofs.Rounds.{each_fits, joint_rounds}
 

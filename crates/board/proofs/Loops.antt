@@ -1,87 +1,74 @@
 -- What the loops over the queries of a board cite: the query at a position and those behind it, their sizes, and their answers one behind the other. Assumes
 -- nothing.
 use Prim.Native.Nat.{ℕ, suc, ◌+◌, ◌-◌, ◌≤◌, ◌<◌}
-use mathlib.Core.Path.{◌≡◌, refl, sym, ap, ◌∙◌, subst}
+use mathlib.Core.Path.{◌≡◌, refl, sym, ap, ap₂, ◌∙◌, subst}
 use mathlib.Core.List.{List, [], ◌++◌, append_assoc, append-nil}
 use native.Mathlib.Omega.{arith}
 use borrow.Author.Tests.{le-ltb, ne_eqb}
-use lib.ListN.{length, get_or, take, drop, length-append, length-drop, drop_of_length-le}
+use lib.ListN.{length, get_or, take, drop, length-append, length-drop, drop_of_length-le, take-append-drop}
 use lib.Seq.{drop_at, drop-drop, length-take-le, take_all, take_at}
 use Rattle.answer.specs.Answer.{answer_reply, answer_size, fields_code}
 use Rattle.board_text.specs.Board.{after_query, first_code, first_query, queries_code}
 use Rattle.board_text.proofs.Joint.{first_passed}
-use Rattle.board_text.proofs.Reading.{after_left, half_left, query_left}
 use Rattle.fusion.specs.Fusion.{fuse_reply}
 use Rattle.fusion.proofs.Exact.{fuse_sound}
 use Rattle.meaning.specs.Plan.{Body, each_vertex, fuse, one_result}
 use Rattle.meaning.specs.Query.{Query}
 use Rattle.packed_path.specs.declared.PackedPath.{PackedPath}
+use Rattle.wire.proofs.Codes.{number_some}
+use Rattle.plan.specs.Plan.{plan_code, plan_scan}
 use Rattle.plan.specs.Text.{encode, kind_of}
+use Rattle.progress.specs.Progress.{Scan, blank}
 use Rattle.query.specs.Query.{query_code}
 use Rattle.query.specs.Tree.{query_of}
+use Rattle.wire.specs.declared.Refusal.{Refusal}
+use Rattle.wire.specs.Refusal.{number}
 use Rattle.wire.specs.Wire.{Bytes, Reply, Returned, at16, done, reply_buffer, reply_number}
 use Rattle.wire.proofs.Codes.{then_both}
 use Rattle.board.specs.Steps.{answers_left, plan_answer, plan_reply, sizes_left}
 
--- the query behind the length at a position, as a part of the board
-abbrev pub part : List ℕ → ℕ → List ℕ
-part b at = take (at + 2 + at16 b at - (at + 2)) (drop (at + 2) b)
-
-abbrev pub end : List ℕ → ℕ → ℕ
-end b at = at + 2 + at16 b at
-
-module _ (b : List ℕ) (at count i : ℕ) (within : at ≤ length b) (more : i < count) (ok : queries_code (count - i) (drop at b) ≡ 0) where
-  one_more : count - i ≡ suc (count - (i + 1))
-  one_more = omega arith
-
-  split : (first_code (drop at b) ≡ 0) × (queries_code (count - (i + 1)) (after_query (drop at b)) ≡ 0)
+-- the query at the front of what is left: it ends there, it is accepted, and so are those behind it
+module _ (s : List ℕ) (count i : ℕ) (more : i < count) (ok : queries_code (count - i) s ≡ 0) where
+  split : (first_code s ≡ 0) × (queries_code (count - (i + 1)) (after_query s) ≡ 0)
   split =
-      then_both (first_code (drop at b)) (queries_code (count - (i + 1)) (after_query (drop at b)))
-      (subst (λ (k : ℕ). queries_code k (drop at b) ≡ 0) one_more ok)
+      let e : count - i ≡ suc (count - (i + 1)) = omega arith in
+      then_both (first_code s) (queries_code (count - (i + 1)) (after_query s)) (subst (λ (k : ℕ). queries_code k s ≡ 0) e ok)
 
-  -- it ends within the board, it is accepted, and so are those behind it
-  pub query_ends : end b at ≤ length b
-  query_ends =
-      let p = first_passed (drop at b) split.0 in
-      omega (arith, p.two, p.whole, length-drop at b, half_left b at)
+  pub query_ends : 2 + at16 s 0 ≤ length s
+  query_ends = (first_passed s split.0).whole
 
-  pub query_accepted : query_code (part b at) ≡ 0
-  query_accepted = subst (λ (t : List ℕ). query_code t ≡ 0) (query_left b at (at16 b at) refl) (first_passed (drop at b) split.0).accepted
+  pub query_accepted : query_code (first_query s) ≡ 0
+  query_accepted = (first_passed s split.0).accepted
 
-  pub others_accepted : queries_code (count - (i + 1)) (drop (end b at) b) ≡ 0
-  others_accepted = subst (λ (t : List ℕ). queries_code (count - (i + 1)) t ≡ 0) (after_left b at) split.1
+  pub others_accepted : queries_code (count - (i + 1)) (after_query s) ≡ 0
+  others_accepted = split.1
 
 -- its size, and its answer, come first
-pub sizes_next : (n : ℕ) (b : List ℕ) (at count i : ℕ) → i < count
-    → sizes_left n (count - i) (drop at b) ≡ answer_size n (get_or (part b at) 5 0) + sizes_left n (count - (i + 1)) (drop (end b at) b)
+pub sizes_next : (n : ℕ) (s : List ℕ) (count i : ℕ) → i < count
+    → sizes_left n (count - i) s ≡ answer_size n (get_or (first_query s) 5 0) + sizes_left n (count - (i + 1)) (after_query s)
 unfolding sizes_left
-sizes_next n b at count i h =
-    let e : count - i ≡ suc (count - (i + 1)) = omega arith in
-    ap (λ (k : ℕ). sizes_left n k (drop at b)) e
-    ∙ rw (query_left b at (at16 b at) refl, after_left b at) refl
+sizes_next n s count i h = ap (λ (k : ℕ). sizes_left n k s) (let e : count - i ≡ suc (count - (i + 1)) = omega arith in e)
 
-pub sizes_none : (n : ℕ) (b : List ℕ) (at count i : ℕ) → count ≤ i → sizes_left n (count - i) (drop at b) ≡ 0
+pub sizes_none : (n : ℕ) (s : List ℕ) (count i : ℕ) → count ≤ i → sizes_left n (count - i) s ≡ 0
 unfolding sizes_left
-sizes_none n b at count i h = let e : count - i ≡ 0 = omega arith in rw e refl
+sizes_none n s count i h = let e : count - i ≡ 0 = omega arith in rw e refl
 
 module _ (joint : List PackedPath) (figures : List ℕ) (n rounds : ℕ) where
   -- the answer of a query
   abbrev pub answer_in : List ℕ → List ℕ
   answer_in s = plan_answer joint figures n rounds (encode (fuse (query_of s)))
 
-  pub answers_next : (b : List ℕ) (at count i : ℕ) → i < count
-      → answers_left joint figures n rounds (count - i) (drop at b)
-      ≡ plan_answer joint figures n rounds (encode (fuse (query_of (part b at))))
-      ++ answers_left joint figures n rounds (count - (i + 1)) (drop (end b at) b)
+  pub answers_next : (s : List ℕ) (count i : ℕ) → i < count
+      → answers_left joint figures n rounds (count - i) s
+      ≡ plan_answer joint figures n rounds (encode (fuse (query_of (first_query s))))
+      ++ answers_left joint figures n rounds (count - (i + 1)) (after_query s)
   unfolding answers_left
-  answers_next b at count i h =
-      let e : count - i ≡ suc (count - (i + 1)) = omega arith in
-      ap (λ (k : ℕ). answers_left joint figures n rounds k (drop at b)) e
-      ∙ rw (query_left b at (at16 b at) refl, after_left b at) refl
+  answers_next s count i h =
+      ap (λ (k : ℕ). answers_left joint figures n rounds k s) (let e : count - i ≡ suc (count - (i + 1)) = omega arith in e)
 
-  pub answers_none : (b : List ℕ) (at count i : ℕ) → count ≤ i → answers_left joint figures n rounds (count - i) (drop at b) ≡ []
+  pub answers_none : (s : List ℕ) (count i : ℕ) → count ≤ i → answers_left joint figures n rounds (count - i) s ≡ []
   unfolding answers_left
-  answers_none b at count i h = let e : count - i ≡ 0 = omega arith in rw e refl
+  answers_none s count i h = let e : count - i ≡ 0 = omega arith in rw e refl
 
   -- its fields are legal
   known : (body : Body) → 1 ≤ n → n ≤ 256 → fields_code n (kind_of body) ≡ 0
@@ -101,6 +88,8 @@ pub record FusedIn (s after : List ℕ) (number : ℕ) : Type 0 where
   pub within : number ≤ length after
   pub first : take number after ≡ encode (fuse (query_of s))
   pub size : number ≡ length (take number after)
+  pub accepted : plan_code (take number after) ≡ 0
+  pub short : number ≤ 560
 
 pub fused_in : (s before after : List ℕ) (number : ℕ) → Bytes s → query_code s ≡ 0 → length before ≡ 560
     → Returned (fuse_reply s (length before)) number before after → FusedIn s after number
@@ -115,7 +104,14 @@ fused_in s before after number b z long r =
       within = omega (arith, count, ap length held, length-append ws (drop (length ws) before));
       first = first;
       size = count ∙ ap length (sym first);
+      accepted = rw first f.accepted;
+      short = omega (arith, count, f.short);
     }
+
+-- so the plan is read
+pub plan_taken : (e : Refusal) (s : List ℕ) → blank (number e) ≡ plan_scan s → plan_code s ≡ 0 → ⊥
+unfolding blank
+plan_taken e s h z = number_some e (ap (λ (w : Scan). w.code) h ∙ z)
 
 -- ---- bytes written behind the first `written` of a buffer: `bs`, and what is still to come is `left`, of `all`
 module _ (bs left all out before : List ℕ) (written : ℕ) (within : written ≤ length out) (long : length out ≡ length before)
@@ -183,3 +179,57 @@ module _ (bs left all out before : List ℕ) (written : ℕ) (within : written �
         ∙ ap (drop (length bs)) same
         ∙ drop-drop (length bs) written before
         ∙ ap (λ (k : ℕ). drop k before) (let e : written + length bs ≡ written + size = omega (arith, call.0) in e)
+
+-- HOW FAR THE ANSWERS ARE WRITTEN: the first `written` bytes, behind which `left` is still to come, of `all`; behind them the buffer is as it was lent
+pub record Written (left all out before : List ℕ) (written : ℕ) : Type 0 where
+  pub within : written ≤ length out
+  pub long : length out ≡ length before
+  pub whole : take written out ++ left ≡ all
+  pub same : drop written out ≡ drop written before
+
+pub none_written : (all out : List ℕ) → Written all all out out 0
+none_written all out = record { within = omega arith; long = refl; whole = refl; same = refl }
+
+module _ (joint : List PackedPath) (figures : List ℕ) (n rounds : ℕ) where
+  -- one answer more
+  pub query_written : 1 ≤ n → n ≤ 256 → (s : List ℕ) (count i : ℕ) → i < count → (all out before : List ℕ) (written : ℕ)
+      → length all ≤ length before
+      → Written (answers_left joint figures n rounds (count - i) s) all out before written
+      → (number : ℕ) (ys : List ℕ)
+      → Returned (plan_reply (encode (fuse (query_of (first_query s)))) joint figures n rounds (length (take (length out - written) (drop written out))))
+      number (take (length out - written) (drop written out)) ys
+      → Written (answers_left joint figures n rounds (count - (i + 1)) (after_query s)) all
+      (take written out ++ (ys ++ drop (length out - written) (drop written out))) before (written + number)
+      × (written + number ≤ length all)
+  query_written some few s count i more all out before written fits w number ys call =
+      let bs = answer_in joint figures n rounds (first_query s) in
+      let left = answers_left joint figures n rounds (count - (i + 1)) (after_query s) in
+      let whole : take written out ++ (bs ++ left) ≡ all =
+      ap (λ (t : List ℕ). take written out ++ t) (sym (answers_next joint figures n rounds s count i more)) ∙ w.whole in
+      let room = room_left bs left all out before written w.within w.long whole fits in
+      let lent = take (length out - written) (drop written out) in
+      let is = plan_done joint figures n rounds (query_of (first_query s)) (length lent) some few room.0 in
+      let done_call = subst (λ (r : Reply). Returned r number lent ys) is call in
+      let long = written_length bs left all out before written w.within w.long whole fits w.same number ys done_call in (
+        record {
+          within = omega (arith, room.1, done_call.0, fits, long, w.long);
+          long = long ∙ w.long;
+          whole = written_first bs left all out before written w.within w.long whole fits w.same number ys done_call;
+          same = written_rest bs left all out before written w.within w.long whole fits w.same number ys done_call;
+        },
+        omega (arith, room.1, done_call.0),
+      )
+
+  -- behind the last nothing is to come
+  pub all_written : (s : List ℕ) (count i : ℕ) → count ≤ i → (all out before : List ℕ) (written : ℕ)
+      → Written (answers_left joint figures n rounds (count - i) s) all out before written
+      → Returned (done all) written before out
+  all_written s count i h all out before written w =
+      let none = answers_none joint figures n rounds s count i h in
+      let first : take written out ≡ all =
+      sym (append-nil (take written out)) ∙ ap (λ (t : List ℕ). take written out ++ t) (sym none) ∙ w.whole in
+      let size = sym (length-take-le written out w.within) ∙ ap length first in (
+        size,
+        sym (take-append-drop written out)
+            ∙ ap₂ (λ (x y : List ℕ). x ++ y) first (w.same ∙ ap (λ (k : ℕ). drop k before) size),
+      )

@@ -1,15 +1,15 @@
 -- THE BOARD THAT THE PROGRAM ANSWERS IS THE BOARD: its reply by what was judged, and the answers of all queries by the table that the joint rounds left.
 -- Assumes nothing.
-use Prim.Native.Nat.{ℕ, zero, suc, ◌+◌, ◌*◌, ◌≤◌, ◌<◌, min}
+use Prim.Native.Nat.{ℕ, zero, suc, ◌+◌, ◌-◌, ◌*◌, ◌≤◌, ◌<◌, min}
 use mathlib.Core.Path.{◌≡◌, refl, sym, ap, ap₂, ◌∙◌, subst}
 use mathlib.Core.Bool.{Bool, true, false, cond}
 use mathlib.Core.List.{List, [], ◌∷◌, ◌++◌, map}
 use native.Mathlib.Omega.{arith}
-use borrow.Author.Tests.{eqb-true, eqb-false, le-ltb, lt-ltb, ne_eqb}
+use borrow.Author.Tests.{eqb-true, le-ltb, lt-ltb, ne_eqb}
 use lib.Dec.{T, eqb}
-use lib.ListN.{length, get_or, drop, take, length-append, length-map, length-replicate}
-use Rattle.answer.specs.Answer.{answer_bytes, answer_size, fields_code, row_count}
-use Rattle.answer.specs.Answer as answer
+use lib.ListN.{length, get_or, drop, take, length-append, length-drop}
+use lib.Seq.{take_all}
+use Rattle.answer.specs.Answer.{answer_size}
 use Rattle.answer.proofs.Bytes.{count_most, encode_length}
 use Rattle.answer.proofs.Reply.{write_encodes}
 use Rattle.board_text.specs.Board.{BoardLegal, after_query, all_written, board_code, count_code, first_code, first_query, joint_paths, queries_code}
@@ -21,19 +21,19 @@ use Rattle.board_text.proofs.Joint.{drop_bytes, first_bytes, first_passed, scan_
 use Rattle.table.specs.Table.{paths_in}
 use Rattle.engine.specs.declared.Limit.{Limit}
 use Rattle.engine.specs.Run.{outcome, sources_code}
-use Rattle.engine.specs.Steps.{Settled, paths_of, rounds_for, run_code}
+use Rattle.engine.specs.Steps.{Settled, paths_of, run_code}
 use Rattle.engine.proofs.Every.{outcome_rows}
+use Rattle.wire.proofs.Codes.{number_some}
 use Rattle.engine.proofs.Meant.{rows_are, sources_fit, unless_then}
 use Rattle.engine.proofs.Numbers.{paths_held}
 use Rattle.engine.proofs.Table.{outcome_rounds}
-use Rattle.eval.specs.Steps.{body_found, row}
 use Rattle.graph.specs.Graph.{graph_code, graph_of}
 use Rattle.graph.proofs.Exact as graph
 use Rattle.meaning.specs.Limits.{GraphLegal, PathFits, PlanLegal, QueryLegal}
 use Rattle.meaning.specs.Meaning.{Outcome}
-use Rattle.meaning.specs.Plan.{Body, Plan, among, fuse, put_all}
+use Rattle.meaning.specs.Plan.{Plan, among, fuse}
 use Rattle.meaning.specs.Query.{PathReduction, Query, each, single, written_paths}
-use Rattle.meaning.specs.Run.{body_rows, pull, values_at}
+use Rattle.meaning.specs.Run.{pull, values_at}
 use Rattle.meaning.proofs.Limits.{fuse_legal}
 use Rattle.meaning.proofs.Lists.{all_both, all_weaken}
 use Rattle.meaning.proofs.Paths.{all_among, put_all_has, put_all_holds}
@@ -42,21 +42,22 @@ use Rattle.packed_path.specs.Packed.{packed}
 use Rattle.plan.specs.Plan.{plan_scan}
 use Rattle.plan.specs.Text.{encode, kind_of}
 use Rattle.plan.proofs.Exact.{read_complete}
-use Rattle.progress.specs.declared.Progress.{Progress}
+use Rattle.progress.specs.Progress.{Scan, blank}
 use Rattle.query.specs.Query as query
 use Rattle.query.specs.Tree.{query_of}
 use Rattle.query.proofs.Tree.{query_read}
-use Rattle.rows.specs.Steps.{body_count, many, rows_at}
+use Rattle.rows.specs.Steps.{body_count}
 use Rattle.rows.proofs.Exact.{Holds, answer_rows, rows_length}
 use Rattle.term_text.proofs.Table.{Table}
 use Rattle.value.specs.declared.Value.{Value}
-use Rattle.value.specs.Value.{values}
 use Rattle.walks.specs.Lists.{All}
 use Rattle.walks.specs.Walks.{Graph}
 use Rattle.wire.specs.Header.{then}
+use Rattle.wire.specs.declared.Refusal.{Refusal}
+use Rattle.wire.specs.Refusal.{number}
 use Rattle.wire.specs.Wire.{Bytes, Reply, at16, done, fitted, refused, unless}
 use Rattle.wire.proofs.Codes.{then_both}
-use Rattle.board.specs.Reply.{alone, answer_of, answers_of, board_reply, board_rounds, reported}
+use Rattle.board.specs.Reply.{answer_of, answers_of, board_reply, board_rounds, reported}
 use Rattle.board.specs.Steps.{answers_left, plan_answer, plan_values, sizes_left, slots_in}
 use Rattle.board.proofs.Rounds.{each_fits, joint_rounds}
 use Rattle.board.proofs.Slots.{holds_through}
@@ -145,7 +146,7 @@ module _ (g : Graph) (legal_graph : GraphLegal g) (joint : List PathReduction) (
     own_there : All (λ c. T (among c joint)) (fuse q).paths
     own_there = put_all_holds (λ c. T (among c joint)) [] (written_paths q) tt there
 
-    abbrev w : Progress
+    abbrev w : Scan
     w = plan_scan (encode p)
 
     held : Table (plan_scan (encode (fuse q))) (fuse q).paths
@@ -321,3 +322,64 @@ module _ (b m : List ℕ) (bb : Bytes b) (bm : Bytes m) (z : run_code (board_sca
         ap (λ (table : List PackedPath). answers_left table figures (at16 m 5) r (get_or b 0 0) (drop 1 b)) a.table.holds
         ∙ answers_all limit (graph_of m) (map packed cs ++ a.table.rest) figures r (get_or b 0 0) (drop 1 b) each_answer
         ∙ ap (λ (k : ℕ). answers_of limit (graph_of m) k (queries_in (get_or b 0 0) (drop 1 b))) rounds_are
+
+-- ---- what the program has in hand where nothing is refused before 15
+
+-- the queries stand behind the count
+pub behind_count : (b : List ℕ) → take (length b - 1) (drop 1 b) ≡ drop 1 b
+behind_count b = take_all (length b - 1) (drop 1 b) (omega (arith, length-drop 1 b))
+
+pub record Ready (b m : List ℕ) (limit : Limit) (w : Scan) : Type 0 where
+  pub queries : queries_code (get_or b 0 0) (drop 1 b) ≡ 0
+  pub some_byte : 1 ≤ length b
+  pub graph_ok : graph_code m ≡ 0
+  pub some_vertex : 1 ≤ at16 m 5
+  pub few_vertices : at16 m 5 ≤ 256
+  pub paths : All (PathFits (at16 m 5)) (paths_in (min w.paths 8) w.table)
+  pub refuses : (room : ℕ) → room < sizes_left (at16 m 5) (get_or b 0 0) (drop 1 b) → board_reply limit b m room ≡ refused 15
+  -- a table that holds the values after the rounds reported
+  pub answers : (room r : ℕ) (figures : List ℕ) → sizes_left (at16 m 5) (get_or b 0 0) (drop 1 b) ≤ room
+      → Settled limit (graph_of m) (paths_in (min w.paths 8) w.table) r figures
+      → (length (answers_left w.table figures (at16 m 5) r (get_or b 0 0) (drop 1 b)) ≤ room)
+      × (length (answers_left w.table figures (at16 m 5) r (get_or b 0 0) (drop 1 b)) < 65536)
+      × (board_reply limit b m room ≡ done (answers_left w.table figures (at16 m 5) r (get_or b 0 0) (drop 1 b)))
+
+pub ready : (b m : List ℕ) (limit : Limit) → Bytes b → Bytes m → (w : Scan) → w ≡ board_scan b → 0 ≡ run_code w m → Ready b m limit w
+ready b m limit bb bm w read ok = subst (Ready b m limit) (sym read) here
+  where
+    z : run_code (board_scan b) m ≡ 0
+    z = sym (rw read at ok)
+
+    a : Accepted b m
+    a = board_passed b m bb bm z
+
+    rs : ℕ
+    rs = board_rounds limit (graph_of m) (queries_of b)
+
+    here : Ready b m limit (board_scan b)
+    here = record {
+      queries = (queries_ok b a.board_ok).0;
+      some_byte = (queries_ok b a.board_ok).1;
+      graph_ok = a.graph_ok;
+      some_vertex = omega (arith, a.graph_legal.fits.some_vertex);
+      few_vertices = a.graph_legal.few_vertices;
+      paths = joint_legal b m bb bm z limit;
+      refuses = finish_refused b m bb bm z limit;
+      answers = λ room r figures fits left.
+          let e = answers_are b m bb bm z limit r figures left in
+          let n = ap length e in (
+            omega (arith, n, finish_size b m bb bm z limit rs),
+            omega (arith, n, finish_short b m bb bm z limit rs),
+            finish_done b m bb bm z limit room fits ∙ ap done (sym e),
+          );
+    }
+
+-- a board that is refused before 15, by its reader or behind it
+pub board_ended : (limit : Limit) (b m : List ℕ) → Bytes b → (room : ℕ) (e : Refusal) → number e ≡ run_code (board_scan b) m
+    → board_reply limit b m room ≡ refused (number e)
+board_ended limit b m bytes room e k = board_refused limit b m bytes room (number e) k (number_some e)
+
+pub scan_ended : (limit : Limit) (b m : List ℕ) → Bytes b → (room : ℕ) (e : Refusal) → blank (number e) ≡ board_scan b
+    → board_reply limit b m room ≡ refused (number e)
+unfolding run_code blank
+scan_ended limit b m bytes room e k = board_ended limit b m bytes room e (rw (← k, ne_eqb (number e) 0 (number_some e)) refl)

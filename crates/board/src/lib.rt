@@ -2,10 +2,9 @@
 // rounds. "one run's rounds serve the lot": the path reductions of all queries stand in one joint table, and those of each query's plan are found there.
 #![tactic(auto)]
 
-ghost use Rattle.std.specs.Prelude.{◌≡◌, ◌+◌, ◌≤◌, ◌<◌, length, get_or, drop};
-ghost use Rattle.board_text.specs.Board.{queries_code};
-ghost use Rattle.board_text.specs.Steps.{board_scan};
-ghost use Rattle.engine.specs.Steps.{run_code};
+ghost use Rattle.std.specs.Prelude.{◌≡◌, ◌+◌, ◌≤◌, ◌<◌, length};
+ghost use Rattle.wire.specs.Refusal.{number_of};
+ghost use Rattle.board_text.specs.Board.{after_query, first_query, queries_code};
 ghost use Rattle.query.specs.Query.{query_code};
 ghost use Rattle.query.specs.Tree.{query_of};
 ghost use Rattle.meaning.specs.Plan.{fuse};
@@ -16,37 +15,28 @@ ghost use Rattle.board.specs.Steps.{answers_left, plan_reply, sizes_left, slots_
 
 use engine::Limit;
 use packed_path::PackedPath;
-use progress::Progress;
+use wire::Refusal;
 
-// A byte as a count.
-fn wide(b: u8) -> usize
-    ensures { (result ≡ b) × (result ≤ 255) }
+// The query at the front of what is left of a board's queries, behind its length, and what follows it.
+fn split_query(queries: &[u8]) -> (&[u8], &[u8])
+    requires { 2 + at16 queries.now 0 ≤ length queries.now }
+    ensures { (result.0.now ≡ first_query queries.now) × (result.1.now ≡ after_query queries.now) }
 {
-    b as usize
-}
-
-// Where the query behind the length at `at` ends.
-fn end_of(board: &[u8], at: usize) -> usize
-    requires { at + 2 + at16 board.now at ≤ length board.now }
-    ensures { result ≡ at + 2 + at16 board.now at }
-{
-    at + 2 + wire::half(board, at) as usize
+    let end = 2 + wire::half(queries, 0) as usize;
+    (&queries[2..end], &queries[end..])
 }
 
 // How many bytes the answers of so many queries have together, by n and their kinds.
-fn size_of(board: &[u8], count: usize, n: u16) -> usize
-    requires { (queries_code count (drop 1 board.now) ≡ 0) × (1 ≤ length board.now) × (count ≤ 255) }
-    ensures { result ≡ sizes_left n count (drop 1 board.now) }
+fn size_of(queries: &[u8], count: u8, n: u16) -> usize
+    requires { queries_code count queries.now ≡ 0 }
+    ensures { result ≡ sizes_left n count queries.now }
 {
     let mut total: usize = 0;
-    let mut at: usize = 1;
-    let mut i: usize = 0;
-    while i < count {
-        let start = at + 2;
-        let end = end_of(board, at);
-        total += answer::size(n, wire::byte(&board[start..end], 5));
-        at = end;
-        i += 1;
+    let mut left = queries;
+    for _ in 0..count {
+        let (query, rest) = split_query(left);
+        total += answer::size(n, wire::byte(query, 5));
+        left = rest;
     }
     total
 }
@@ -57,35 +47,14 @@ fn slots_of(own: [PackedPath; 8], paths: usize, joint: [PackedPath; 8]) -> [usiz
     ensures { result ≡ slots_in own paths joint }
 {
     let mut slots = [0usize; 8];
-    let mut j: usize = 0;
-    while j < paths {
-        let path = own[j];
-        slots[j] = fusion::position_of(joint, path);
-        j += 1;
+    for j in 0..paths {
+        slots[j] = fusion::position_of(joint, own[j]);
     }
     slots
 }
 
-// The answer of a plan, by the figures of the joint table's path reductions.
-fn answer_plan(
-    plan: &[u8],
-    joint: [PackedPath; 8],
-    figures: &[u64],
-    n: u16,
-    rounds: u16,
-    out: &mut [u8],
-) -> u32
-    ensures { Returned (plan_reply plan.now joint figures.now n rounds (length out.old)) result out.old
-        out.new }
-{
-    let w = plan::scan(plan);
-    let own = w.table;
-    let paths = wire::lesser(w.paths, 8);
-    let slots = slots_of(own, paths, joint);
-    rows::write(plan, figures, slots, paths, n, rounds, out)
-}
-
-// The answer of an accepted query: that of the plan that it is fused to.
+// The answer of an accepted query, by the figures of the joint table's path reductions: that of the plan that it is fused to.
+// Kept: no plainer with table, figures, n and rounds in a struct, which would be made for one call and read in two functions.
 fn answer_query(
     query: &[u8],
     joint: [PackedPath; 8],
@@ -93,95 +62,79 @@ fn answer_query(
     n: u16,
     rounds: u16,
     out: &mut [u8],
-) -> u32
+) -> Result<u16, Refusal>
     requires { query_code query.now ≡ 0 }
     ensures { Returned (plan_reply (encode (fuse (query_of query.now))) joint figures.now n rounds
-        (length out.old)) result out.old out.new }
+        (length out.old)) (number_of result) out.old out.new }
 {
-    let mut plan = [0u8; 560];
-    let size = fusion::fuse(query, &mut plan) as usize;
-    answer_plan(&plan[..size], joint, figures, n, rounds, out)
+    let mut bytes = [0u8; 560];
+    let size = fusion::fuse(query, &mut bytes)? as usize;
+    let plan = &bytes[..size];
+    let w = plan::scan(plan)?;
+    let paths = w.paths.min(8);
+    let slots = slots_of(w.table, paths, joint);
+    rows::write(plan, figures, slots, paths, n, rounds, out)
 }
 
 // The answers of so many queries, one after another, where they fit.
 fn answer_all(
-    board: &[u8],
-    count: usize,
+    queries: &[u8],
+    count: u8,
     joint: [PackedPath; 8],
     figures: &[u64],
     n: u16,
     rounds: u16,
     out: &mut [u8],
-) -> u32
-    requires { (queries_code count (drop 1 board.now) ≡ 0) × (1 ≤ length board.now) × (1 ≤ n) × (n ≤ 256)
-        × (length (answers_left joint figures.now n rounds count (drop 1 board.now)) ≤ length out.old)
-        × (length (answers_left joint figures.now n rounds count (drop 1 board.now)) < 65536) }
-    ensures { Returned (done (answers_left joint figures.now n rounds count (drop 1 board.now))) result out.old
+) -> Result<u16, Refusal>
+    requires { (queries_code count queries.now ≡ 0) × (1 ≤ n) × (n ≤ 256)
+        × (length (answers_left joint figures.now n rounds count queries.now) ≤ length out.old)
+        × (length (answers_left joint figures.now n rounds count queries.now) < 65536) }
+    ensures { Returned (done (answers_left joint figures.now n rounds count queries.now)) (number_of result) out.old
         out.new }
 {
     let mut written: usize = 0;
-    let mut at: usize = 1;
-    let mut i: usize = 0;
-    while i < count {
-        let start = at + 2;
-        let end = end_of(board, at);
-        let size = answer_query(
-            &board[start..end],
-            joint,
-            figures,
-            n,
-            rounds,
-            &mut out[written..],
-        );
+    let mut left = queries;
+    for _ in 0..count {
+        let (query, rest) = split_query(left);
+        let size = answer_query(query, joint, figures, n, rounds, &mut out[written..])?;
         written += size as usize;
-        at = end;
-        i += 1;
+        left = rest;
     }
-    written as u32
+    Ok(written as u16)
 }
 
-// What follows where nothing is refused before 15: 15, the rounds, the answers.
-fn finish(push: bool, limit: Limit, board: &[u8], w: Progress, graph: &[u8], out: &mut [u8]) -> u32
-    requires { (w ≡ board_scan board.now) × (run_code w graph.now ≡ 0) }
-    ensures { Returned (board_reply limit board.now graph.now (length out.old)) result out.old
+// A board by push or by pull: all that is refused is refused before the rounds, 15 for all answers together.
+// Kept: `push` is a bool, as `engine::settle` takes it; arrays of fixed sizes, since nothing stands on the heap.
+fn run(push: bool, board: &[u8], graph: &[u8], limit: Limit, out: &mut [u8]) -> Result<u16, Refusal>
+    ensures { Returned (board_reply limit board.now graph.now (length out.old)) (number_of result) out.old
         out.new }
 {
+    let w = board_text::scan(board)?;
+    engine::judge(&w, graph)?;
     let n = engine::vertices(graph);
-    let count = wide(wire::byte(board, 0));
-    if out.len() < size_of(board, count, n) {
-        return 65551;
+    let count = wire::byte(board, 0);
+    let queries = &board[1..];
+    if out.len() < size_of(queries, count, n) {
+        return Err(Refusal::Room);
     }
-    let joint = w.table;
-    let paths = wire::lesser(w.paths, 8);
+    let paths = w.paths.min(8);
     let mut figures = [0u64; 2336];
-    let rounds = engine::settle(push, limit, paths, joint, graph, &mut figures);
-    answer_all(board, count, joint, &figures, n, rounds, out)
-}
-
-// A board by push or by pull: the board and the map are judged, then it goes on.
-fn run(push: bool, board: &[u8], graph: &[u8], limit: Limit, out: &mut [u8]) -> u32
-    ensures { Returned (board_reply limit board.now graph.now (length out.old)) result out.old
-        out.new }
-{
-    let w = board_text::scan(board);
-    let code = engine::judge(w, graph);
-    if code != 0 {
-        return 65536 + code as u32;
-    }
-    finish(push, limit, board, w, graph, out)
+    let rounds = engine::settle(push, limit, paths, w.table, graph, &mut figures);
+    answer_all(queries, count, w.table, &figures, n, rounds, out)
 }
 
 // The board by pull.
-pub fn pull(board: &[u8], graph: &[u8], limit: Limit, out: &mut [u8]) -> u32
-    ensures { Returned (board_reply limit board.now graph.now (length out.old)) result out.old
+// Kept: `pull` and `push` are two public names of one run, as of the engine.
+pub fn pull(board: &[u8], graph: &[u8], limit: Limit, out: &mut [u8]) -> Result<u16, Refusal>
+    ensures { Returned (board_reply limit board.now graph.now (length out.old)) (number_of result) out.old
         out.new }
 {
     run(false, board, graph, limit, out)
 }
 
 // The board by push: the same.
-pub fn push(board: &[u8], graph: &[u8], limit: Limit, out: &mut [u8]) -> u32
-    ensures { Returned (board_reply limit board.now graph.now (length out.old)) result out.old
+pub fn push(board: &[u8], graph: &[u8], limit: Limit, out: &mut [u8]) -> Result<u16, Refusal>
+    ensures { Returned (board_reply limit board.now graph.now (length out.old)) (number_of result) out.old
         out.new }
 {
     run(true, board, graph, limit, out)

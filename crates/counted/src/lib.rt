@@ -2,15 +2,18 @@
 // The number and the buffer are those of the run that is not counted.
 #![tactic(auto)]
 
-ghost use Rattle.std.specs.Prelude.{◌≡◌, length, ltb};
-ghost use Rattle.counters.specs.Counted.{counted_by};
+ghost use Rattle.std.specs.Prelude.{length};
+ghost use Rattle.wire.specs.Refusal.{number_of};
+ghost use Rattle.wire.specs.Wire.{Returned};
 ghost use Rattle.counted.specs.Counted.{Counted, asked_reply};
 
 use counters::Counters;
 use engine::Limit;
+use wire::Refusal;
 
 // What is run, a plan or a board, and the way it goes: the answers are the same.
-#[derive(Clone, Copy)]
+// Kept: no plainer as a closure, as a way is one of four calls, and the contract is by cases of it (`asked_reply`).
+#[derive(Clone, Copy, Debug, PartialEq, Eq)]
 pub enum Way {
     Pull,
     Push,
@@ -18,45 +21,19 @@ pub enum Way {
     BoardPush,
 }
 
-// The number of a run, and the counters after it.
-#[derive(Clone, Copy)]
-pub struct Ended {
-    pub number: u32,
-    pub counters: Counters,
-}
-
-// A run that is done has a number under 65,536.
-fn counted(number: u32, c: Counters) -> Ended
-    ensures { (result.number ≡ number) × (result.counters ≡ counted_by c (ltb number 65536)) }
-{
-    let after = counters::counted(c, number < 65536);
-    Ended {
-        number: number,
-        counters: after,
-    }
-}
-
-// The counted run, the counters by value.
-pub fn by_value(
-    way: Way,
-    asked: &[u8],
-    graph: &[u8],
-    limit: Limit,
-    out: &mut [u8],
-    c: Counters,
-) -> Ended
-    ensures { Counted (asked_reply way limit asked.now graph.now (length out.old))
-        result.number out.old out.new c result.counters }
+// The run that is asked for, not counted.
+fn call(way: Way, asked: &[u8], graph: &[u8], limit: Limit, out: &mut [u8]) -> Result<u16, Refusal>
+    ensures { Returned (asked_reply way limit asked.now graph.now (length out.old)) (number_of result) out.old out.new }
 {
     match way {
-        Way::Pull => counted(engine::pull(asked, graph, limit, out), c),
-        Way::Push => counted(engine::push(asked, graph, limit, out), c),
-        Way::BoardPull => counted(board::pull(asked, graph, limit, out), c),
-        Way::BoardPush => counted(board::push(asked, graph, limit, out), c),
+        Way::Pull => engine::pull(asked, graph, limit, out),
+        Way::Push => engine::push(asked, graph, limit, out),
+        Way::BoardPull => board::pull(asked, graph, limit, out),
+        Way::BoardPush => board::push(asked, graph, limit, out),
     }
 }
 
-// The counted run: the one function that the counters are lent to, and thin, since a struct lent by `&mut` is proved by hand.
+// The counted run: the counters are lent to it, and count one run more.
 pub fn run(
     way: Way,
     asked: &[u8],
@@ -64,11 +41,14 @@ pub fn run(
     limit: Limit,
     out: &mut [u8],
     counters: &mut Counters,
-) -> u32
+) -> Result<u16, Refusal>
     ensures { Counted (asked_reply way limit asked.now graph.now (length out.old))
-        result out.old out.new counters.old counters.new }
+        (number_of result) out.old out.new counters.old counters.new }
 {
-    let r = by_value(way, asked, graph, limit, out, *counters);
-    *counters = r.counters;
-    r.number
+    let before = *counters;
+    let end = call(way, asked, graph, limit, out);
+    let done = end.is_ok();
+    let after = counters::counted(before, done);
+    *counters = after;
+    end
 }

@@ -4,11 +4,11 @@
 ghost use Rattle.std.specs.Prelude.{◌≡◌};
 ghost use Rattle.counters.specs.Counted.{counted_by};
 
-// The greatest number of 64 bits.
-const MOST: u64 = 18446744073709551615;
+// "at its greatest"
+const MOST: u64 = u64::MAX;
 
 // The tally: "asked, answered, refused, 64 bits each".
-#[derive(Clone, Copy)]
+#[derive(Clone, Copy, Debug, PartialEq, Eq)]
 pub struct Counters {
     pub asked: u64,
     pub answered: u64,
@@ -16,28 +16,25 @@ pub struct Counters {
 }
 
 // The counters after one more run, done or refused.
+#[tactic(auto, unfolding(crate::specs::Counted::counted_by))]
 pub fn counted(c: Counters, done: bool) -> Counters
     ensures { result ≡ counted_by c done }
 {
-    if c.asked == MOST {
+    if c.asked == MOST || c.answered == MOST || c.refused == MOST {
         return c;
     }
-    if c.answered == MOST {
-        return c;
-    }
-    if c.refused == MOST {
-        return c;
-    }
+    let asked = c.asked + 1;
     if done {
-        return Counters {
-            asked: c.asked + 1,
+        Counters {
+            asked,
             answered: c.answered + 1,
-            refused: c.refused,
-        };
-    }
-    Counters {
-        asked: c.asked + 1,
-        answered: c.answered,
-        refused: c.refused + 1,
+            ..c
+        }
+    } else {
+        Counters {
+            asked,
+            refused: c.refused + 1,
+            ..c
+        }
     }
 }

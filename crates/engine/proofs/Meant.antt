@@ -26,13 +26,15 @@ use Rattle.eval.specs.Steps.{body_found}
 use Rattle.rows.specs.Steps.{body_count, many, rows_at}
 use Rattle.rows.proofs.Exact.{Holds, answer_rows, rows_length}
 use Rattle.term_text.proofs.Table.{Table}
-use Rattle.progress.specs.declared.Progress.{Progress}
+use Rattle.progress.specs.Progress.{Scan, blank}
 use Rattle.value.specs.declared.Value.{Value}
 use Rattle.value.specs.Value.{values}
 use Rattle.walks.specs.Lists.{All}
 use Rattle.walks.specs.Walks.{Graph}
 use Rattle.wire.specs.Header.{then}
-use Rattle.wire.proofs.Codes.{then_both}
+use Rattle.wire.proofs.Codes.{number_some, then_both}
+use Rattle.wire.specs.declared.Refusal.{Refusal}
+use Rattle.wire.specs.Refusal.{number}
 use Rattle.wire.specs.Wire.{Bytes, Reply, at16, done, fitted, refused, unless}
 use Rattle.engine.specs.declared.Limit.{Limit}
 use Rattle.engine.specs.declared.Limit.TheVariants.{Quiet, Rounds}
@@ -123,6 +125,16 @@ run_judged limit s m bytes room =
 pub run_refused : (limit : Limit) (s m : List ℕ) → Bytes s → (room k : ℕ) → k ≡ run_code (plan_scan s) m → (k ≡ 0 → ⊥)
     → run_reply limit s m room ≡ refused k
 run_refused limit s m bytes room k e h = run_judged limit s m bytes room ∙ rw (← e, ne_eqb k 0 h) refl
+
+pub run_ended : (limit : Limit) (s m : List ℕ) → Bytes s → (room : ℕ) (e : Refusal) → number e ≡ run_code (plan_scan s) m
+    → run_reply limit s m room ≡ refused (number e)
+run_ended limit s m bytes room e k = run_refused limit s m bytes room (number e) k (number_some e)
+
+-- so where the worksheet's reader refuses
+pub scan_ended : (limit : Limit) (s m : List ℕ) → Bytes s → (room : ℕ) (e : Refusal) → blank (number e) ≡ plan_scan s
+    → run_reply limit s m room ≡ refused (number e)
+unfolding run_code blank
+scan_ended limit s m bytes room e k = run_ended limit s m bytes room e (rw (← k, ne_eqb (number e) 0 (number_some e)) refl)
 
 -- WHAT WAS ACCEPTED, where nothing is refused before 15: a legal plan, a legal graph, and sources that are its vertices
 pub record Accepted (s m : List ℕ) : Type 0 where
@@ -221,6 +233,10 @@ module _ (s m : List ℕ) (bs : Bytes s) (bm : Bytes m) (z : run_code (plan_scan
   finish_judged limit room =
       (run_means s m bs bm z).1 limit room ∙ sym (rw kind_is (encode_judged n (kind_of p.body) room (outcome limit g p) fields_fine (rows_counted limit)))
 
+  pub finish_ended : (limit : Limit) (room : ℕ) (e : Refusal) → number e ≡ answer_code n (get_or s 5 0) room
+      → run_reply limit s m room ≡ refused (number e)
+  finish_ended limit room e k = rw (finish_judged limit room, ← k, ne_eqb (number e) 0 (number_some e)) refl
+
   -- so many path reductions, and the table of their numbers
   pub held : Table (plan_scan s) (plan_of s).paths
   held = subst (λ (t : List ℕ). Table (plan_scan t) p.paths) a.written (read_complete p a.legal).table
@@ -248,7 +264,7 @@ module _ (s m : List ℕ) (bs : Bytes s) (bm : Bytes m) (z : run_code (plan_scan
       ∙ sym (rw (told, paths_are, kind_is) (reply_encodes n (kind_of p.body) o vs (rows_counted limit) begin fields_fine room))
 
 -- the map was accepted
-pub run_graph : (w : Progress) (m : List ℕ) → run_code w m ≡ 0 → graph_code m ≡ 0
+pub run_graph : (w : Scan) (m : List ℕ) → run_code w m ≡ 0 → graph_code m ≡ 0
 unfolding run_code
 run_graph w m z =
     (then_both (graph_code m) (sources_code (at16 m 5) (paths_of w)) (then_both w.code (then (graph_code m) (sources_code (at16 m 5) (paths_of w))) z).1).0

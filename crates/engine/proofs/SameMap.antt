@@ -15,7 +15,7 @@ use Rattle.meaning.proofs.SameGraph.{run_pull_same, stopped_pull_same}
 use Rattle.plan.specs.Plan.{plan_scan}
 use Rattle.plan.specs.Text.{kind_of}
 use Rattle.plan.specs.Tree.{plan_of}
-use Rattle.progress.specs.declared.Progress.{Progress}
+use Rattle.progress.specs.Progress.{Scan}
 use Rattle.walks.specs.Lists.{All}
 use Rattle.walks.specs.Often.{SameGraph}
 use Rattle.walks.specs.Walks.{Graph}
@@ -34,7 +34,7 @@ outcome_same same (Rounds r) p fits = stopped_pull_same same p fits r
 
 module _ (m u : List ℕ) (ok : graph_code m ≡ 0) (fine : graph_code u ≡ 0) (same : SameGraph (graph_of m) (graph_of u)) where
   -- what is refused before 15 is refused by the same number
-  pub run_code_same : (w : Progress) → run_code w m ≡ run_code w u
+  pub run_code_same : (w : Scan) → run_code w m ≡ run_code w u
   unfolding run_code
   run_code_same w = rw (ok, fine, same.vertices_same)
 

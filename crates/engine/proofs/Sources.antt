@@ -1,17 +1,17 @@
 -- Sources judged in turn: what the loops over a path reduction's sources and over path reductions cite. Assumes nothing.
-use Prim.Native.Nat.{ℕ, suc, ◌+◌, ◌-◌, ◌≤◌, ◌<◌}
-use mathlib.Core.Path.{◌≡◌, refl}
+use Prim.Native.Nat.{ℕ, ◌+◌, ◌≤◌, ◌<◌}
+use mathlib.Core.Path.{◌≡◌, refl, ◌∙◌}
 use mathlib.Core.List.{List, map}
 use native.Mathlib.Numerals.{add-one}
-use native.Mathlib.Omega.{arith}
 use borrow.Author.Tests.{le-ltb, lt-ltb}
-use lib.ListN.{length, get_or, take, drop}
+use lib.ListN.{length, get_or, drop, drop_of_length-le}
 use lib.Seq.{drop-cons}
 use Rattle.packed_path.specs.declared.PackedPath.{PackedPath}
 use Rattle.packed_path.specs.Packed.{no_path, path_of, sources_of}
 use Rattle.packed_path.specs.Steps.{first_of, rest_of}
 use Rattle.packed_path.proofs.Sources.{sources_first, sources_none}
 use Rattle.wire.specs.Header.{then}
+use Rattle.wire.proofs.Codes.{then_none, then_some}
 use Rattle.engine.specs.Run.{outside_code, sources_code}
 
 -- the first source of a path reduction, and those behind it
@@ -25,20 +25,23 @@ module _ (n : ℕ) (p : PackedPath) where
   pub outside_none : p.count ≡ 0 → outside_code n (sources_of p) ≡ 0
   outside_none z = rw (sources_none p z) refl
 
--- those of the path reductions from the i-th on, of the first `count`
-abbrev pub left : ℕ → List PackedPath → ℕ → ℕ → ℕ
-left n table count i = sources_code n (map path_of (take (count - i) (drop i table)))
-
-module _ (n : ℕ) (table : List PackedPath) (count i : ℕ) where
+-- those of the path reductions from the i-th on
+module _ (n : ℕ) (table : List PackedPath) (i : ℕ) where
   -- the i-th is judged before those behind it
-  pub source_next : i < count → count ≤ length table → left n table count i
-      ≡ then (outside_code n (sources_of (get_or table i no_path))) (left n table count (i + 1))
+  source_next : i < length table → sources_code n (map path_of (drop i table))
+      ≡ then (outside_code n (sources_of (get_or table i no_path))) (sources_code n (map path_of (drop (i + 1) table)))
   unfolding sources_code path_of
-  source_next h k =
-      let e : count - i ≡ suc (count - (i + 1)) = omega arith in
-      rw (e, drop-cons table i no_path (omega arith), ← add-one i) refl
+  source_next h = rw (add-one i, drop-cons table i no_path h) refl
+
+  pub source_refused : i < length table → (outside_code n (sources_of (get_or table i no_path)) ≡ 0 → ⊥)
+      → sources_code n (map path_of (drop i table)) ≡ outside_code n (sources_of (get_or table i no_path))
+  source_refused h k = source_next h ∙ then_some _ _ k
+
+  pub source_passed : i < length table → outside_code n (sources_of (get_or table i no_path)) ≡ 0
+      → sources_code n (map path_of (drop i table)) ≡ sources_code n (map path_of (drop (i + 1) table))
+  source_passed h k = source_next h ∙ then_none _ _ k
 
   -- behind the last there is nothing to refuse
-  pub source_none : count ≤ i → left n table count i ≡ 0
+  pub sources_passed : length table ≤ i → sources_code n (map path_of (drop i table)) ≡ 0
   unfolding sources_code
-  source_none h = let e : count - i ≡ 0 = omega arith in rw e refl
+  sources_passed h = rw (drop_of_length-le table h) refl

@@ -15,7 +15,7 @@ use Rattle.packed_path.specs.declared.PackedPath.{PackedPath}
 use Rattle.packed_path.specs.Packed.{path_of}
 use Rattle.plan.specs.Plan.{plan_scan}
 use Rattle.plan.specs.Tree.{plan_of}
-use Rattle.progress.specs.declared.Progress.{Progress}
+use Rattle.progress.specs.Progress.{Scan}
 use Rattle.table.specs.Table.{paths_in, value_in}
 use Rattle.rounds.specs.Run.{Ran, Read}
 use Rattle.rounds_laws.proofs.Main.{given_read, quiet_read, quiet_rounds}
@@ -83,7 +83,7 @@ outcome_rounds Quiet g p = refl
 outcome_rounds (Rounds r) g p = refl
 
 module _ (s m : List ℕ) (bs : Bytes s) (bm : Bytes m) (z : run_code (plan_scan s) m ≡ 0) where
-  abbrev w : Progress
+  abbrev w : Scan
   w = plan_scan s
 
   a : Accepted s m

@@ -3,7 +3,7 @@ use Rattle.std.specs.Prelude.{ℕ, ◌*◌, ◌<◌, ◌≡◌, List, map, lengt
 use Rattle.graph.specs.Graph.{graph_code}
 use Rattle.meaning.specs.Query.{PathReduction}
 use Rattle.meaning.specs.Run.{pull, values_at}
-use Rattle.progress.specs.declared.Progress.{Progress}
+use Rattle.progress.specs.Progress.{Scan}
 use Rattle.table.specs.Table.{paths_in, value_in}
 use Rattle.value.specs.declared.Value.TheVariants.{Absent}
 use Rattle.walks.specs.Rounds.{rounds}
@@ -15,11 +15,11 @@ use Rattle.engine.specs.declared.Limit.TheVariants.{Quiet, Rounds}
 use Rattle.engine.specs.Run.{sources_code}
 
 -- the path reductions of a plan, as its reader holds them
-abbrev pub paths_of : Progress → List PathReduction
+abbrev pub paths_of : Scan → List PathReduction
 paths_of w = paths_in w.paths w.table
 
 -- the refusal of the worksheet, of the map, of the starts
-unfoldable pub run_code : Progress → List ℕ → ℕ
+unfoldable pub run_code : Scan → List ℕ → ℕ
 run_code w m = then w.code (then (graph_code m) (sources_code (at16 m 5) (paths_of w)))
 
 -- at most so many rounds are done: the number given, or 2n

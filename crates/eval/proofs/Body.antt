@@ -27,7 +27,7 @@ use Rattle.value.specs.Value.{reduce, values}
 use Rattle.value.proofs.Chosen.{left_out}
 use Rattle.walks.specs.Lists.{All}
 use Rattle.eval.specs.declared.Found.{Found}
-use Rattle.eval.specs.Steps.{body_found, condition_found, eight, entries_end, entry_end, entry_found, entry_rows, evaluated, expression_end}
+use Rattle.eval.specs.Steps.{body_found, eight, entries_end, entry_end, entry_found, entry_rows, evaluated, expression_end}
 use Rattle.eval.specs.Steps.{final_found, results, row}
 use Rattle.eval.proofs.Laws.{row_value}
 use Rattle.eval.proofs.Tree.{entry_value, evaluate_same, final_value}
@@ -82,7 +82,7 @@ module _ (count : ℕ) (s : List ℕ) (r : ℕ) (small : r ≤ 5) (at : ℕ) (re
   -- what it is worth where its text stands
   entry_value_at : (o : Option (Term ℕ)) (t : Term ℕ) → Optional (Expression count) o → Expression count t → drop at s ≡ entry_text r o t ++ rest
       → (rows : List Row) → entry_found s rows at ≡ worth_of (values rows) o t
-  unfolding entry_found condition_found
+  unfolding entry_found
   entry_value_at none t f g e rows =
       let l = expression_bytes OfEntry t in
       let d = drop_on s at 1 (r ∷ []) (l ++ rest) e refl in

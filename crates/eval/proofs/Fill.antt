@@ -8,6 +8,7 @@ use native.Mathlib.Omega.{arith}
 use borrow.Author.Tests.{leb-true, leb-false}
 use lib.Dec.{leb}
 use lib.ListN.{get_or, length, replicate, set, get_or-replicate, length-append, length-replicate, get_or-append}
+use Rattle.std.proofs.lemmas.List.{set-get_or}
 use lib.Seq.{append_snoc, ext_get_or, get_or-append-add, set_at}
 use Rattle.meaning.specs.Run.{tabulate}
 use Rattle.meaning.proofs.Lists.{tabulate_at, tabulate_length}
@@ -57,6 +58,12 @@ module _ {A : Type 0} (size : ℕ) (f : ℕ → A) (blank : A) where
       ap (λ (j : ℕ). get_or (filled k) j d) e
       ∙ get_or-append-add (tabulate k zero f) (replicate (size - k) blank) (i - k) d
       ∙ get_or-replicate (size - k) (i - k) blank d (omega arith)
+
+  -- one that is blank needs no setting
+  pub fill_blank : (i : ℕ) → i < size → f i ≡ blank → filled i ≡ filled (i + 1)
+  fill_blank i h e =
+      let there : f i ≡ get_or (filled i) i blank = e ∙ sym (fill_past i i blank (omega arith) h) in
+      sym (set-get_or (filled i) i blank) ∙ ap (set (filled i) i) (sym there) ∙ fill_next i h
 
   -- as a table of its own
   pub fill_whole : (g : ℕ → A) (k : ℕ) → k ≤ size → ((i : ℕ) → i < k → f i ≡ g i) → ((i : ℕ) → k ≤ i → i < size → blank ≡ g i)

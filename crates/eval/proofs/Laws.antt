@@ -68,6 +68,8 @@ module _ (s : List ℕ) (rows : List Row) (at : ℕ) where
       go false true none other e = refl
       go false false none other e = absurd (false≢true e)
 
+pub ruleset levels = (evaluated_none, evaluated_next, evaluated_named)
+
 -- where a term ends rests on its bytes alone, not on the values of its leaves
 pub same_end : (s : List ℕ) (rows others : List Row) (left at : ℕ) → (evaluated left s rows at).next ≡ (evaluated left s others at).next
 unfolding evaluated head joined

@@ -2,7 +2,7 @@
 -- Nothing to believe: `expression_value` (proofs/Tree) says that a value is that of the expression's tree, `body_value` (proofs/Body) that the rows are those
 -- of the plan's tree. F gives the values of the path reductions at a vertex, as eight rows.
 use Rattle.std.specs.Prelude.{ℕ, zero, suc, ◌+◌, ◌-◌, ◌%◌, min, Bool, false, cond, ◌||◌, List, [], ◌∷◌, ◌++◌, map, leb, ltb, eqb}
-use Rattle.std.specs.Prelude.{length, get_or, replicate}
+use Rattle.std.specs.Prelude.{length, get_or, replicate, Option, None, Some}
 use Rattle.meaning.specs.Run.{tabulate}
 use Rattle.value.specs.declared.Value.{Value}
 use Rattle.value.specs.declared.Value.TheVariants.{Absent, Number}
@@ -11,8 +11,8 @@ use Rattle.value.specs.Steps.{where_counts}
 use Rattle.value.specs.Value.{operate, reduce, values}
 use Rattle.plan.specs.Plan.{count_at}
 use Rattle.wire.specs.Wire.{at32}
+use Rattle.eval.specs.declared.Expressions.{Expressions}
 use Rattle.eval.specs.declared.Found.{Found}
-use Rattle.eval.specs.declared.Words.{Words}
 use Rattle.eval.specs.declared.Head.{Head}
 use Rattle.eval.specs.declared.Head.TheVariants.{Leaf, Apply}
 
@@ -33,10 +33,6 @@ head s rows at =
     (cond (one_of tag 0x30 0x31) (Leaf (found (get_or (values rows) (get_or s (at + 1) 0) Absent) (at + 2)))
     (cond (one_of tag 0x11 0x21) (Leaf (found (Number (at32 s (at + 1))) (at + 5)))
     (cond (one_of tag 0x12 0x22) (Apply (get_or s (at + 1) 0) (at + 2)) (Leaf (found Absent at)))))
-
--- as words alone: 0 for `known` where the value is absent
-unfoldable pub as_found : Words → Found
-as_found w = found (cond (eqb w.known 0) Absent (Number w.number)) w.next
 
 -- a leaf that names its word
 abbrev pub leaf_found : List ℕ → List Row → ℕ → Found
@@ -73,12 +69,16 @@ leaf_in leaves slots least k =
 unfoldable pub rows_in : List ℕ → List ℕ → ℕ → List Row
 rows_in leaves slots least = tabulate 8 zero (λ k. row (leaf_in leaves slots least k))
 
+-- those of a plan's expressions
+abbrev pub rows_of : Expressions → List Row
+rows_of e = rows_in e.leaves.now e.slots.now e.least
+
 -- values as eight rows, absent ones behind them
 abbrev pub eight : List Value → List Row
 eight vs = map row vs ++ replicate (8 - length vs) (row Absent)
 
 -- a condition at `at` and the value behind it: absent where the condition leaves the vertex out
-unfoldable pub condition_found : List ℕ → List Row → ℕ → Value
+abbrev pub condition_found : List ℕ → List Row → ℕ → Value
 condition_found s rows at = let c = evaluated 16 s rows at in where_counts c.value (evaluated 16 s rows c.next).value
 
 -- the value of the entry whose reduction byte stands at `at`, at one vertex
@@ -91,6 +91,11 @@ unfoldable pub lone_in : List ℕ → List ℕ → ℕ → ℕ
 lone_in s slots at =
     let k = get_or s (at + 2) 0 in
     cond (leb (length s) at) 8 (cond (leb 128 (get_or s at 0)) 8 (cond (named s (at + 1)) (cond (ltb k 8) (get_or slots k 0) 8) 8))
+
+-- such a slot as a number
+abbrev pub slot_number : Option ℕ → ℕ
+slot_number None = 8
+slot_number (Some slot) = slot
 
 -- where an expression ends, and an entry
 unfoldable pub expression_end : List ℕ → ℕ → ℕ

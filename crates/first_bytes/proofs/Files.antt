@@ -14,7 +14,7 @@ use Rattle.fusion.specs.Fusion.{fuse_reply}
 use Rattle.graph.specs.Graph.{graph_code}
 use Rattle.plan.specs.Plan.{plan_code}
 use Rattle.query.specs.Query.{query_code}
-use Rattle.progress.specs.declared.Progress.{Progress}
+use Rattle.progress.specs.Progress.{Scan}
 use Rattle.wire.specs.Wire.{Reply, unless}
 use Rattle.first_bytes.proofs.Graph as graph
 use Rattle.first_bytes.proofs.Query as query
@@ -34,7 +34,7 @@ long_query s k room h = go (leb (length s) k) refl
         let l = leb-false (length s) k e in
         let r = query.scan_same s (take k s)
         (record { bytes = λ i d b. get_or-take k s i d (omega arith); long = omega arith; longer = omega (arith, length-take k s) }) in
-        refused_both (query_code (take k s)) (query_code s) _ _ (ap (λ (w : Progress). w.code) r.0) r.1
+        refused_both (query_code (take k s)) (query_code s) _ _ (ap (λ (w : Scan). w.code) r.0) r.1
 
 -- a map by 8,202 bytes or more
 pub long_graph : (limit : Limit) (w s : List ℕ) (k room : ℕ) → 8202 ≤ k → run_reply limit w (take k s) room ≡ run_reply limit w s room

@@ -13,10 +13,10 @@ use Rattle.packed_path.specs.declared.PackedPath.{PackedPath}
 use Rattle.packed_path.specs.Packed.{with_first}
 use Rattle.path_fields.specs.Paths.{counted_sources, key_fields_code, keys_at, keys_code, path_at, path_code, set_at, set_code, sources_at}
 use Rattle.path_fields.specs.Paths.{starts_code}
-use Rattle.terms.specs.declared.Step.{Step}
+use Rattle.terms.specs.Terms.{Step}
 use Rattle.terms.specs.declared.TermKind.{TermKind}
 use Rattle.terms.specs.declared.TermKind.TheVariants.{OfVertex, OfResult, OfEntry, OfFinal}
-use Rattle.progress.specs.declared.Progress.{Progress}
+use Rattle.progress.specs.Progress.{Scan}
 use Rattle.terms.specs.Terms.{advanced, apply_step, index_step, kept_path, leaf_step, literal_step, literal_tag, path_step, read, reduce_step, set_step}
 use Rattle.terms.specs.Terms.{slot_of, refused_step, term_step}
 use Rattle.progress.specs.Progress.{blank, ended, started}
@@ -24,7 +24,7 @@ use Rattle.term_text.proofs.Fields.{code_range}
 use Rattle.query.specs.Query.{query_code, query_scan, term_kind}
 use Rattle.wire.specs.Header.{header_code, then}
 use Rattle.wire.proofs.Codes.{then_both, then_same}
-use Rattle.wire.proofs.Past.{get_d_any}
+use Rattle.wire.proofs.Past.{get_or_any}
 
 -- two texts that begin alike and are longer
 pub record Alike (s t : List ℕ) : Type 0 where
@@ -33,7 +33,7 @@ pub record Alike (s t : List ℕ) : Type 0 where
   pub longer : 2439 ≤ length t
 
 -- a reading has come no further than its terms take it; after a refusal it is at 0
-record Near (w : Progress) : Type 0 where
+record Near (w : Scan) : Type 0 where
   few : w.terms ≤ 64
   near : w.at ≤ 6 + 38 * w.terms
 
@@ -112,7 +112,7 @@ module _ (s t : List ℕ) (a : Alike s t) where
 
   -- the key count, which is there
   count_same : (i : ℕ) → i ≤ 2401 → get_or s i 0 ≡ get_or s i 256
-  count_same i h = get_d_any s i 0 256 (omega (arith, a.long))
+  count_same i h = get_or_any s i 0 256 (omega (arith, a.long))
 
   path_at_same : (i : ℕ) → i ≤ 2401 → get_or s i 256 ≤ 3 → path_at t i ≡ path_at s i
   unfolding path_at
@@ -146,14 +146,14 @@ module _ (s t : List ℕ) (a : Alike s t) where
       go true e = f (eqb-true c 0 e)
       go false e = refl
 
-  path_same : (w : Progress) → w.at ≤ 2400 → path_step t w ≡ path_step s w
+  path_same : (w : Scan) → w.at ≤ 2400 → path_step t w ≡ path_step s w
   unfolding path_step
   path_same w h =
       let i : ℕ = w.at + 1 in
       rw (path_code_same i (omega arith))
       (by_code (path_code s i) (λ e. rw (a.bytes i 256 (omega arith), path_at_same i (omega arith) (path_range i e)) refl))
 
-  set_same : (w : Progress) → w.at ≤ 2400 → set_step t w ≡ set_step s w
+  set_same : (w : Scan) → w.at ≤ 2400 → set_step t w ≡ set_step s w
   unfolding set_step
   set_same w h =
       let i : ℕ = w.at + 1 in
@@ -163,30 +163,30 @@ module _ (s t : List ℕ) (a : Alike s t) where
       let r = set_range i e in
       rw (a.bytes i 256 (omega arith), a.bytes (i + 1 + get_or s i 256) 256 (omega (arith, r.0)), set_at_same i (omega arith) r.0) refl))
 
-  reduce_same : (follow : ℕ) (w : Progress) → w.at ≤ 2400 → reduce_step follow t w ≡ reduce_step follow s w
+  reduce_same : (follow : ℕ) (w : Scan) → w.at ≤ 2400 → reduce_step follow t w ≡ reduce_step follow s w
   unfolding reduce_step
   reduce_same follow w h = rw (a.bytes (w.at + 1) 256 (omega arith)) refl
 
-  index_same : (w : Progress) (n : ℕ) → w.at ≤ 2400 → index_step t w n ≡ index_step s w n
+  index_same : (w : Scan) (n : ℕ) → w.at ≤ 2400 → index_step t w n ≡ index_step s w n
   unfolding index_step
   index_same w n h = rw (a.bytes (w.at + 1) 256 (omega arith)) refl
 
-  literal_same : (w : Progress) → w.at ≤ 2400 → literal_step t w ≡ literal_step s w
+  literal_same : (w : Scan) → w.at ≤ 2400 → literal_step t w ≡ literal_step s w
   unfolding literal_step
   literal_same w h = rw (a.bytes (w.at + 4) 256 (omega arith)) refl
 
-  apply_same : (kind : TermKind) (w : Progress) → w.at ≤ 2400 → apply_step kind t w ≡ apply_step kind s w
+  apply_same : (kind : TermKind) (w : Scan) → w.at ≤ 2400 → apply_step kind t w ≡ apply_step kind s w
   unfolding apply_step
   apply_same kind w h = rw (a.bytes (w.at + 1) 256 (omega arith)) refl
 
-  leaf_same : (kind : TermKind) (tag : ℕ) (w : Progress) → w.at ≤ 2400 → leaf_step kind tag t w ≡ leaf_step kind tag s w
+  leaf_same : (kind : TermKind) (tag : ℕ) (w : Scan) → w.at ≤ 2400 → leaf_step kind tag t w ≡ leaf_step kind tag s w
   unfolding leaf_step
   leaf_same OfVertex tag w h = rw (path_same w h, set_same w h) refl
   leaf_same OfResult tag w h = rw (reduce_same 1 w h, reduce_same 2 w h) refl
   leaf_same OfEntry tag w h = rw (index_same w w.paths h) refl
   leaf_same OfFinal tag w h = rw (index_same w w.reductions h) refl
 
-  term_same : (kind : TermKind) (left : ℕ) (w : Progress) → Near w → term_step kind left t w ≡ term_step kind left s w
+  term_same : (kind : TermKind) (left : ℕ) (w : Scan) → Near w → term_step kind left t w ≡ term_step kind left s w
   unfolding term_step
   term_same kind left w g =
       rw (lt-leb (length t) w.at (omega (arith, a.longer, g.few, g.near)), lt-leb (length s) w.at (omega (arith, a.long, g.few, g.near)))
@@ -209,11 +209,11 @@ module _ (s t : List ℕ) (a : Alike s t) where
   unfolding blank
   near_blank c = record { few = omega arith; near = omega arith }
 
-  near_next : (w : Progress) (next : ℕ) → w.terms < 64 → w.at ≤ 6 + 38 * w.terms → next ≤ w.at + 38 → Near (advanced w next)
+  near_next : (w : Scan) (next : ℕ) → w.terms < 64 → w.at ≤ 6 + 38 * w.terms → next ≤ w.at + 38 → Near (advanced w next)
   unfolding advanced
   near_next w next l g h = record { few = omega arith; near = omega arith }
 
-  near_kept : (w : Progress) (p : PackedPath) → Near w → Near (kept_path w p)
+  near_kept : (w : Scan) (p : PackedPath) → Near w → Near (kept_path w p)
   unfolding kept_path
   near_kept w p g = go (leb 8 i)
     where
@@ -235,7 +235,7 @@ module _ (s t : List ℕ) (a : Alike s t) where
   near_cond true p q = p refl
   near_cond false p q = q
 
-  near_path : (w : Progress) → w.terms < 64 → w.at ≤ 6 + 38 * w.terms → NearStep (path_step s w)
+  near_path : (w : Scan) → w.terms < 64 → w.at ≤ 6 + 38 * w.terms → NearStep (path_step s w)
   unfolding path_step
   near_path w l g =
       near_cond (eqb (path_code s (w.at + 1)) 0)
@@ -247,7 +247,7 @@ module _ (s t : List ℕ) (a : Alike s t) where
       })
       (near_refused (path_code s (w.at + 1)))
 
-  near_set : (w : Progress) → w.terms < 64 → w.at ≤ 6 + 38 * w.terms → NearStep (set_step s w)
+  near_set : (w : Scan) → w.terms < 64 → w.at ≤ 6 + 38 * w.terms → NearStep (set_step s w)
   unfolding set_step
   near_set w l g =
       let i = w.at + 1 in
@@ -261,7 +261,7 @@ module _ (s t : List ℕ) (a : Alike s t) where
       })
       (near_refused (set_code s i))
 
-  near_reduce : (follow : ℕ) (w : Progress) → w.terms < 64 → w.at ≤ 6 + 38 * w.terms → NearStep (reduce_step follow s w)
+  near_reduce : (follow : ℕ) (w : Scan) → w.terms < 64 → w.at ≤ 6 + 38 * w.terms → NearStep (reduce_step follow s w)
   unfolding reduce_step
   near_reduce follow w l g =
       let n = near_next w (w.at + 1 + 1) l g (omega arith) in
@@ -269,24 +269,24 @@ module _ (s t : List ℕ) (a : Alike s t) where
       (λ e. near_cond (leb 8 w.reductions) (λ f. near_refused 14) (record { progress = record { few = n.few; near = n.near } }))
       (near_refused (code_of (get_or s (w.at + 1) 256) 5))
 
-  near_index : (w : Progress) (n : ℕ) → w.terms < 64 → w.at ≤ 6 + 38 * w.terms → NearStep (index_step s w n)
+  near_index : (w : Scan) (n : ℕ) → w.terms < 64 → w.at ≤ 6 + 38 * w.terms → NearStep (index_step s w n)
   unfolding index_step
   near_index w n l g =
       near_cond (ltb 255 (get_or s (w.at + 1) 256)) (λ e. near_refused 1)
       (near_cond (leb n (get_or s (w.at + 1) 256)) (λ e. near_refused 16) (record { progress = near_next w (w.at + 1 + 1) l g (omega arith) }))
 
-  near_literal : (w : Progress) → w.terms < 64 → w.at ≤ 6 + 38 * w.terms → NearStep (literal_step s w)
+  near_literal : (w : Scan) → w.terms < 64 → w.at ≤ 6 + 38 * w.terms → NearStep (literal_step s w)
   unfolding literal_step
   near_literal w l g = near_cond (ltb 255 (get_or s (w.at + 4) 256)) (λ e. near_refused 1) (record { progress = near_next w (w.at + 4 + 1) l g (omega arith) })
 
-  near_apply : (kind : TermKind) (w : Progress) → w.terms < 64 → w.at ≤ 6 + 38 * w.terms → NearStep (apply_step kind s w)
+  near_apply : (kind : TermKind) (w : Scan) → w.terms < 64 → w.at ≤ 6 + 38 * w.terms → NearStep (apply_step kind s w)
   unfolding apply_step
   near_apply kind w l g =
       near_cond (eqb (code_of (get_or s (w.at + 1) 256) 11) 0)
       (λ e. record { progress = near_next w (w.at + 1 + 1) l g (omega arith) })
       (near_refused (code_of (get_or s (w.at + 1) 256) 11))
 
-  near_leaf : (kind : TermKind) (tag : ℕ) (w : Progress) → w.terms < 64 → w.at ≤ 6 + 38 * w.terms → NearStep (leaf_step kind tag s w)
+  near_leaf : (kind : TermKind) (tag : ℕ) (w : Scan) → w.terms < 64 → w.at ≤ 6 + 38 * w.terms → NearStep (leaf_step kind tag s w)
   unfolding leaf_step
   near_leaf OfVertex tag w l g =
       near_cond (eqb tag 0x10) (λ e. near_path w l g) (near_cond (eqb tag 0x13) (λ e. near_set w l g) (near_refused 9))
@@ -295,7 +295,7 @@ module _ (s t : List ℕ) (a : Alike s t) where
   near_leaf OfEntry tag w l g = near_cond (eqb tag 0x30) (λ e. near_index w w.paths l g) (near_refused 9)
   near_leaf OfFinal tag w l g = near_cond (eqb tag 0x31) (λ e. near_index w w.reductions l g) (near_refused 9)
 
-  near_term : (kind : TermKind) (left : ℕ) (w : Progress) → Near w → NearStep (term_step kind left s w)
+  near_term : (kind : TermKind) (left : ℕ) (w : Scan) → Near w → NearStep (term_step kind left s w)
   unfolding term_step
   near_term kind left w g = near_cond (leb (length s) w.at) (λ e. near_refused 1) (go (leb 64 w.terms) refl)
     where
@@ -316,14 +316,14 @@ module _ (s t : List ℕ) (a : Alike s t) where
           (near_cond (eqb tag (literal_tag kind + 1)) (λ f. near_apply kind w l g.near) (near_leaf kind tag w l g.near)))
 
   -- a term and all that it contains
-  read_same : (kind : TermKind) (left : ℕ) (w : Progress) → Near w → (read kind left t w ≡ read kind left s w) × Near (read kind left s w)
+  read_same : (kind : TermKind) (left : ℕ) (w : Scan) → Near w → (read kind left t w ≡ read kind left s w) × Near (read kind left s w)
   unfolding read
   read_same kind zero w g = rw (term_same kind zero w g) (go (eqb w.code 0))
     where
       h : Step
       h = term_step kind zero s w
 
-      go : (b : Bool) → (◌≡◌ {A = Progress} (cond b h.progress w) (cond b h.progress w)) × Near (cond b h.progress w)
+      go : (b : Bool) → (◌≡◌ {A = Scan} (cond b h.progress w) (cond b h.progress w)) × Near (cond b h.progress w)
       go true = (refl, (near_term kind zero w g).progress)
       go false = (refl, g)
   read_same kind (suc left) w g =
@@ -336,7 +336,7 @@ module _ (s t : List ℕ) (a : Alike s t) where
       n : Near here.progress
       n = (near_term kind (suc left) w g).progress
 
-      after : List ℕ → Step → Bool → Bool → Bool → Progress
+      after : List ℕ → Step → Bool → Bool → Bool → Scan
       after u h x y z =
           elim x [
             | true ↦ elim y [
@@ -349,7 +349,7 @@ module _ (s t : List ℕ) (a : Alike s t) where
             | false ↦ w
           ]
 
-      go : ((m : TermKind) (v : Progress) → Near v → (read m left t v ≡ read m left s v) × Near (read m left s v)) → (x y z : Bool)
+      go : ((m : TermKind) (v : Scan) → Near v → (read m left t v ≡ read m left s v) × Near (read m left s v)) → (x y z : Bool)
           → (after t here x y z ≡ after s here x y z) × Near (after s here x y z)
       go deeper true true z = (refl, n)
       go deeper true false true = deeper here.inner here.progress n
@@ -376,13 +376,13 @@ module _ (s t : List ℕ) (a : Alike s t) where
       refl
 
   -- left-over bytes: there are some in either text
-  ended_same : (w : Progress) → Near w → (ended t w ≡ ended s w) × ((ended s w).code ≡ 0 → ⊥)
+  ended_same : (w : Scan) → Near w → (ended t w ≡ ended s w) × ((ended s w).code ≡ 0 → ⊥)
   unfolding ended blank
   ended_same w g =
       rw (lt-ltb w.at (length t) (omega (arith, a.longer, g.few, g.near)), lt-ltb w.at (length s) (omega (arith, a.long, g.few, g.near)))
       (go (eqb w.code 0) refl)
     where
-      go : (b : Bool) → eqb w.code 0 ≡ b → (◌≡◌ {A = Progress} (cond b (blank 6) w) (cond b (blank 6) w))
+      go : (b : Bool) → eqb w.code 0 ≡ b → (◌≡◌ {A = Scan} (cond b (blank 6) w) (cond b (blank 6) w))
           × ((cond b (blank 6) w).code ≡ 0 → ⊥)
       go true e = (refl, λ z. omega arith)
       go false e = (refl, λ z. eqb-false w.code 0 e z)
@@ -405,11 +405,11 @@ module _ (s t : List ℕ) (a : Alike s t) where
       e : (ended t (read kind 16 s (started 6)) ≡ ended s (read kind 16 s (started 6))) × ((ended s (read kind 16 s (started 6))).code ≡ 0 → ⊥)
       e = ended_same (read kind 16 s (started 6)) r.1
 
-      whole : Progress
+      whole : Scan
       whole = ended s (read kind 16 s (started 6))
 
       go : (b : Bool) → eqb (opening_code 0x51 1 s) 0 ≡ b
-          → (◌≡◌ {A = Progress} (cond b whole (blank (opening_code 0x51 1 s))) (cond b whole (blank (opening_code 0x51 1 s))))
+          → (◌≡◌ {A = Scan} (cond b whole (blank (opening_code 0x51 1 s))) (cond b whole (blank (opening_code 0x51 1 s))))
           × ((cond b whole (blank (opening_code 0x51 1 s))).code ≡ 0 → ⊥)
       go true p = (refl, e.1)
       go false p = (refl, λ z. eqb-false (opening_code 0x51 1 s) 0 p z)

@@ -10,11 +10,12 @@ ghost use Rattle.wire.specs.Wire.{Returned};
 use engine::Limit;
 
 // A question is fused into a worksheet.
+// Kept: C interface. Both archives, this one and that of service, export `fuse` and `run`.
 #[unsafe(no_mangle)]
 pub extern "C" fn fuse(query: &[u8], out: &mut [u8]) -> u32
     ensures { Returned (fuse_reply query.now (length out.old)) result out.old out.new }
 {
-    fusion::fuse(query, out)
+    wire::number_of(fusion::fuse(query, out))
 }
 
 // A worksheet is run on a map, by push: the faster way, and the same bytes as by pull.
@@ -23,5 +24,5 @@ pub extern "C" fn run(plan: &[u8], graph: &[u8], out: &mut [u8]) -> u32
     ensures { Returned (run_reply Quiet plan.now graph.now (length out.old)) result out.old
         out.new }
 {
-    engine::push(plan, graph, Limit::Quiet, out)
+    wire::number_of(engine::push(plan, graph, Limit::Quiet, out))
 }

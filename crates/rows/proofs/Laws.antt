@@ -7,27 +7,31 @@ use native.Mathlib.Numerals.{add-one}
 use native.Mathlib.Omega.{arith}
 use borrow.Author.Tests.{eq-eqb, eqb-false, eqb-true, leb-false, leb-true, le-leb, le-ltb, lt-leb, lt-ltb, ne_eqb}
 use lib.Dec.{eqb, leb, ltb}
-use lib.ListN.{drop, get_or, length, replicate, take, length-append, length-drop, length-map, length-replicate, length-take}
-use lib.Seq.{get_or-drop, get_or-take}
+use lib.ListN.{drop, get_or, length, replicate, set, take, length-append, length-drop, length-map, length-replicate, length-take}
+use lib.Seq.{ext_get_or, get_or-drop, get_or-take}
+use Rattle.std.proofs.lemmas.List.{drop-replicate}
 use Rattle.meaning.specs.Run.{tabulate}
-use Rattle.meaning.proofs.Lists.{tabulate_length}
-use Rattle.value.specs.declared.Partial.{Partial}
-use Rattle.value.specs.declared.Partial.TheVariants.{Empty}
+use Rattle.meaning.proofs.Lists.{tabulate_at, tabulate_length}
+use Rattle.std.specs.Prelude.{Option, None}
 use Rattle.value.specs.declared.Row.{Row}
 use Rattle.value.specs.declared.Value.{Value}
 use Rattle.value.specs.declared.Value.TheVariants.{Absent, Number}
 use Rattle.value.specs.Steps.{finish, step}
 use Rattle.value.specs.Value.{reduce, values}
 use Rattle.value.proofs.Reduced.{reduced, snoc}
+use Rattle.wire.specs.declared.Refusal.{Refusal}
+use Rattle.wire.specs.declared.Refusal.TheVariants.{Short, Mark, Version, Vertices, Edges, Length, NoVertex, Capacity, Code}
+use Rattle.wire.specs.declared.Refusal.TheVariants.{KeyOrder, Deep, Terms, Source, Full, Room, NoRow, SourceOrder}
+use Rattle.wire.specs.Refusal.{number}
 use Rattle.plan.specs.Plan.{count_at}
-use Rattle.answer.specs.Answer.{answer_reply}
-use Rattle.answer.proofs.Reply.{reply_first}
+use Rattle.answer.specs.Answer.{answer_code, answer_reply}
+use Rattle.answer.proofs.Reply.{Fields, judged_right, reply_first}
 use Rattle.eval.specs.Steps.{body_found, eight, entries_end, entry_end, entry_found, entry_rows, final_found, leaf_in, lone_in}
 use Rattle.eval.specs.Steps.{results, row, rows_in}
 use Rattle.eval.proofs.Laws.{Lone, row_value}
-use Rattle.eval.proofs.Fill.{fill_at, fill_length, fill_past, fill_whole, filled, tabulate_more}
+use Rattle.eval.proofs.Fill.{fill_at, fill_blank, fill_length, fill_next, fill_past, fill_whole, filled, tabulate_more}
 use Rattle.table.specs.Table.{value_in}
-use Rattle.rows.specs.Steps.{few, many, rows_at, slot_of, used_slots, word_of}
+use Rattle.rows.specs.Steps.{many, padded, rows_at, slot_of, used_slots, word_of}
 
 rows_of : (g : ℕ → Value) (k i : ℕ) → map row (tabulate k i g) ≡ tabulate k i (λ j. row (g j))
 rows_of g zero i = refl
@@ -80,6 +84,20 @@ slot_at slots j = get_or slots j 0
 pub used_filled : (slots : List ℕ) (paths : ℕ) → used_slots slots paths ≡ filled 8 (slot_at slots) 8 (min paths 8)
 unfolding used_slots
 used_filled slots paths = refl
+
+-- laid over eight times 8
+slots_front : (slots : List ℕ) (count : ℕ) → count ≤ length slots → take count slots ≡ tabulate count zero (slot_at slots)
+slots_front slots count few =
+    ext_get_or 0 (take count slots) (tabulate count zero (slot_at slots))
+    (omega (arith, length-take count slots, tabulate_length count zero (slot_at slots)))
+    (λ i h. let b : i < count = omega (arith, length-take count slots) in
+    get_or-take count slots i 0 b ∙ sym (tabulate_at count i (slot_at slots) 0 b))
+
+pub used_laid : (slots : List ℕ) (paths count : ℕ) → length slots ≡ 8 → count ≡ min paths 8
+    → take count slots ++ drop count (replicate 8 8) ≡ used_slots slots paths
+used_laid slots paths count long e =
+    ap₂ (λ (l r : List ℕ). l ++ r) (slots_front slots count (omega arith)) (drop-replicate count 8 8)
+    ∙ ap (filled 8 (slot_at slots) 8) e ∙ sym (used_filled slots paths)
 
 -- THE SLOTS IN USE ARE ENOUGH: with them there need be no count of path reductions
 pub used_rows : (figures slots : List ℕ) (paths : ℕ) → rows_at figures slots paths ≡ rows_at figures (used_slots slots paths) 8
@@ -185,22 +203,24 @@ module _ (s : List ℕ) where
 
 module _ (s : List ℕ) (F : ℕ → List Row) (n : ℕ) where
   -- the rows of an entry at all vertices
-  pub entry_filled : (at : ℕ) → many (entry_rows s at F n) ≡ filled 256 (entry_row s F at) (row Absent) n
+  pub entry_filled : (size at : ℕ) → padded size (entry_rows s at F n) ≡ filled size (entry_row s F at) (row Absent) n
   unfolding entry_rows
-  entry_filled at = array_filled 256 (entry_row s F at) n
+  entry_filled size at = array_filled size (entry_row s F at) n
 
-  -- of few vertices
-  pub few_filled : (at : ℕ) → few (entry_rows s at F n) ≡ filled 16 (entry_row s F at) (row Absent) n
-  unfolding entry_rows
-  few_filled at = array_filled 16 (entry_row s F at) n
+  -- one more of them
+  pub entry_next : (size at v : ℕ) (rows : List Row) (value : Value) → rows ≡ filled size (entry_row s F at) (row Absent) v → v < size
+      → value ≡ entry_found s (F v) at → set rows v (row value) ≡ filled size (entry_row s F at) (row Absent) (v + 1)
+  entry_next size at v rows value e h x =
+      ap₂ (λ (rows : List Row) (value : Value). set rows v (row value)) e x ∙ fill_next size (entry_row s F at) (row Absent) v h
 
   -- WHAT IS WRITTEN OF THEM: the rows in an array are written as they are
-  pub entry_written : (at rounds : ℕ) (rest : List Row) (room : ℕ)
-      → answer_reply n rounds 0 (values (entry_rows s at F n ++ rest)) room ≡ answer_reply n rounds 0 (values (entry_rows s at F n)) room
+  pub entry_written : (size at rounds : ℕ) (array : List Row) (room : ℕ) → array ≡ padded size (entry_rows s at F n)
+      → answer_reply n rounds 0 (values array) room ≡ answer_reply n rounds 0 (values (entry_rows s at F n)) room
   unfolding entry_rows
-  entry_written at rounds rest room =
+  entry_written size at rounds array room e =
       let rows : List Row = tabulate n zero (entry_row s F at) in
-      ap (λ (vs : List Value). answer_reply n rounds 0 vs room) (map-append (λ (r : Row). r.value) rows rest)
+      let rest : List Row = replicate (size - length rows) (row Absent) in
+      ap (λ (vs : List Value). answer_reply n rounds 0 vs room) (ap values e ∙ map-append (λ (r : Row). r.value) rows rest)
       ∙ reply_first n rounds (values rows) (values rest) room (length-map rows (λ (r : Row). r.value) ∙ tabulate_length n zero (entry_row s F at))
 
   -- the result of the entry at a position; the row of entry k
@@ -223,10 +243,10 @@ module _ (s : List ℕ) (F : ℕ → List Row) (n : ℕ) where
       ∙ eight_filled (λ j. result_at (entries_end j s at)) k
 
   -- ITS RESULT VALUE BY VALUE: what the reduction r has reached after v vertices
-  abbrev pub reached : ℕ → ℕ → ℕ → Partial
-  reached r at v = foldl (step r) Empty (values (entry_rows s at F v))
+  abbrev pub reached : ℕ → ℕ → ℕ → Option Value
+  reached r at v = foldl (step r) None (values (entry_rows s at F v))
 
-  pub reached_none : (r at : ℕ) → Empty ≡ reached r at 0
+  pub reached_none : (r at : ℕ) → None ≡ reached r at 0
   unfolding entry_rows
   reached_none r at = refl
 
@@ -234,10 +254,10 @@ module _ (s : List ℕ) (F : ℕ → List Row) (n : ℕ) where
   unfolding entry_rows
   reached_next r at v =
       let f : ℕ → Row = entry_row s F at in
-      sym (ap (λ (k : ℕ). foldl (step r) Empty (values (tabulate k zero f))) (add-one v)
-      ∙ ap (λ (l : List Row). foldl (step r) Empty (values l)) (tabulate_more 256 f (row Absent) v 0)
-      ∙ snoc r Empty (tabulate v zero f) (f (0 + v))
-      ∙ ap (λ (k : ℕ). step r (foldl (step r) Empty (values (tabulate v zero f))) (f k).value) (let e : 0 + v ≡ v = omega arith in e))
+      sym (ap (λ (k : ℕ). foldl (step r) None (values (tabulate k zero f))) (add-one v)
+      ∙ ap (λ (l : List Row). foldl (step r) None (values l)) (tabulate_more 256 f (row Absent) v 0)
+      ∙ snoc r None (tabulate v zero f) (f (0 + v))
+      ∙ ap (λ (k : ℕ). step r (foldl (step r) None (values (tabulate v zero f))) (f k).value) (let e : 0 + v ≡ v = omega arith in e))
 
   pub reached_all : (r at : ℕ) → finish (reached r at n) ≡ reduce r (values (entry_rows s at F n))
   reached_all r at = reduced r (values (entry_rows s at F n))
@@ -248,6 +268,23 @@ module _ (s : List ℕ) (F : ℕ → List Row) (n : ℕ) where
 
   abbrev pub result_slot : ℕ → ℕ → ℕ
   result_slot at k = slot_of (result_at (entries_end k s at)) k
+
+  -- one more result: a number is set in its place, nothing where it is absent
+  module _ (at k : ℕ) (some : k < 8) where
+    pub number_word : (x : ℕ) → result_at (entries_end k s at) ≡ Number x
+        → set (filled 8 (result_word at) 0 k) k x ≡ filled 8 (result_word at) 0 (k + 1)
+    number_word x e = ap (set (filled 8 (result_word at) 0 k) k) (sym (ap word_of e)) ∙ fill_next 8 (result_word at) 0 k some
+
+    pub number_slot : (x : ℕ) → result_at (entries_end k s at) ≡ Number x
+        → set (filled 8 (result_slot at) 8 k) k k ≡ filled 8 (result_slot at) 8 (k + 1)
+    number_slot x e =
+        ap (set (filled 8 (result_slot at) 8 k) k) (sym (ap (λ (v : Value). slot_of v k) e)) ∙ fill_next 8 (result_slot at) 8 k some
+
+    pub absent_word : result_at (entries_end k s at) ≡ Absent → filled 8 (result_word at) 0 k ≡ filled 8 (result_word at) 0 (k + 1)
+    absent_word e = fill_blank 8 (result_word at) 0 k some (ap word_of e)
+
+    pub absent_slot : result_at (entries_end k s at) ≡ Absent → filled 8 (result_slot at) 8 k ≡ filled 8 (result_slot at) 8 (k + 1)
+    absent_slot e = fill_blank 8 (result_slot at) 8 k some (ap (λ (v : Value). slot_of v k) e)
 
   -- THE LEAVES OF THE FINAL EXPRESSION are the rows of the results
   pub results_leaves : (at e : ℕ) → e ≤ 8 → rows_in (filled 8 (result_word at) 0 e) (filled 8 (result_slot at) 8 e) 0 ≡ eight (results e s at F n)
@@ -286,6 +323,10 @@ module _ (s : List ℕ) (F : ℕ → List Row) (n : ℕ) where
       past i h b = none i b (fill_past 8 (result_slot at) 8 e i 0 h b)
 
 -- ---- the answer
+
+-- what the judge lets pass
+pub judged_fields : (n kind room : ℕ) → 0 ≡ answer_code n kind room → Fields n kind
+judged_fields n kind room z = (judged_right n kind room (sym z)).0
 
 module _ (plan figures slots : List ℕ) (paths n : ℕ) where
   -- by the slots in use: the body of kind 0

@@ -25,12 +25,12 @@ abbrev pub slot_of : Value → ℕ → ℕ
 slot_of Absent k = 8
 slot_of (Number x) k = k
 
--- rows in an array of 256, absent ones behind them; in one of sixteen
+-- rows in an array of so many, absent ones behind them; in one of 256
+abbrev pub padded : ℕ → List Row → List Row
+padded size l = l ++ replicate (size - length l) (row Absent)
+
 abbrev pub many : List Row → List Row
 many l = l ++ replicate (256 - length l) (row Absent)
-
-abbrev pub few : List Row → List Row
-few l = l ++ replicate (16 - length l) (row Absent)
 
 -- how many of the body's rows are rows of the answer: kind 0 has one for each of the n vertices, kind 1 has "one row"
 unfoldable pub body_count : List ℕ → ℕ → ℕ

@@ -17,11 +17,12 @@ use counters::Counters;
 use engine::Limit;
 
 // A question is fused into a worksheet.
+// Kept: C interface. Both archives, this one and that of grafs, export `fuse` and `run`.
 #[unsafe(no_mangle)]
 pub extern "C" fn fuse(query: &[u8], out: &mut [u8]) -> u32
     ensures { Returned (fuse_reply query.now (length out.old)) result out.old out.new }
 {
-    fusion::fuse(query, out)
+    wire::number_of(fusion::fuse(query, out))
 }
 
 // A worksheet is run on a map, by push: the faster way, and the same bytes as by pull.
@@ -30,17 +31,18 @@ pub extern "C" fn run(plan: &[u8], graph: &[u8], out: &mut [u8]) -> u32
     ensures { Returned (run_reply Quiet plan.now graph.now (length out.old)) result out.old
         out.new }
 {
-    engine::push(plan, graph, Limit::Quiet, out)
+    wire::number_of(engine::push(plan, graph, Limit::Quiet, out))
 }
 
 // ---- runs of a worksheet, by either way, to the first quiet round or for a given number of rounds
+// Kept: C interface. Each of the eight calls has a name of its own, and so has each of the eight that count.
 
 #[unsafe(no_mangle)]
 pub extern "C" fn grafs_pull(plan: &[u8], graph: &[u8], out: &mut [u8]) -> u32
     ensures { Returned (run_reply Quiet plan.now graph.now (length out.old)) result
         out.old out.new }
 {
-    engine::pull(plan, graph, Limit::Quiet, out)
+    wire::number_of(engine::pull(plan, graph, Limit::Quiet, out))
 }
 
 #[unsafe(no_mangle)]
@@ -48,7 +50,7 @@ pub extern "C" fn grafs_push(plan: &[u8], graph: &[u8], out: &mut [u8]) -> u32
     ensures { Returned (run_reply Quiet plan.now graph.now (length out.old)) result
         out.old out.new }
 {
-    engine::push(plan, graph, Limit::Quiet, out)
+    wire::number_of(engine::push(plan, graph, Limit::Quiet, out))
 }
 
 #[unsafe(no_mangle)]
@@ -56,7 +58,7 @@ pub extern "C" fn grafs_pull_rounds(plan: &[u8], graph: &[u8], rounds: u16, out:
     ensures { Returned (run_reply (Rounds rounds) plan.now graph.now (length out.old)) result
         out.old out.new }
 {
-    engine::pull(plan, graph, Limit::Rounds(rounds), out)
+    wire::number_of(engine::pull(plan, graph, Limit::Rounds(rounds), out))
 }
 
 #[unsafe(no_mangle)]
@@ -64,7 +66,7 @@ pub extern "C" fn grafs_push_rounds(plan: &[u8], graph: &[u8], rounds: u16, out:
     ensures { Returned (run_reply (Rounds rounds) plan.now graph.now (length out.old)) result
         out.old out.new }
 {
-    engine::push(plan, graph, Limit::Rounds(rounds), out)
+    wire::number_of(engine::push(plan, graph, Limit::Rounds(rounds), out))
 }
 
 // ---- boards of questions, likewise
@@ -74,7 +76,7 @@ pub extern "C" fn grafs_board_pull(board: &[u8], graph: &[u8], out: &mut [u8]) -
     ensures { Returned (board_reply Quiet board.now graph.now (length out.old)) result
         out.old out.new }
 {
-    board::pull(board, graph, Limit::Quiet, out)
+    wire::number_of(board::pull(board, graph, Limit::Quiet, out))
 }
 
 #[unsafe(no_mangle)]
@@ -82,7 +84,7 @@ pub extern "C" fn grafs_board_push(board: &[u8], graph: &[u8], out: &mut [u8]) -
     ensures { Returned (board_reply Quiet board.now graph.now (length out.old)) result
         out.old out.new }
 {
-    board::push(board, graph, Limit::Quiet, out)
+    wire::number_of(board::push(board, graph, Limit::Quiet, out))
 }
 
 #[unsafe(no_mangle)]
@@ -95,7 +97,7 @@ pub extern "C" fn grafs_board_pull_rounds(
     ensures { Returned (board_reply (Rounds rounds) board.now graph.now (length out.old)) result
         out.old out.new }
 {
-    board::pull(board, graph, Limit::Rounds(rounds), out)
+    wire::number_of(board::pull(board, graph, Limit::Rounds(rounds), out))
 }
 
 #[unsafe(no_mangle)]
@@ -108,7 +110,7 @@ pub extern "C" fn grafs_board_push_rounds(
     ensures { Returned (board_reply (Rounds rounds) board.now graph.now (length out.old)) result
         out.old out.new }
 {
-    board::push(board, graph, Limit::Rounds(rounds), out)
+    wire::number_of(board::push(board, graph, Limit::Rounds(rounds), out))
 }
 
 // ---- maps
@@ -118,12 +120,13 @@ pub extern "C" fn grafs_board_push_rounds(
 pub extern "C" fn grafs_sort_map(map: &[u8], out: &mut [u8]) -> u32
     ensures { Returned (sort_reply map.now (length out.old)) result out.old out.new }
 {
-    sorted_graph::sort(map, out)
+    wire::number_of(sorted_graph::sort(map, out))
 }
 
 // ---- the runs, counted
 
-// A counted run: the tally's numbers go by value, and are put back.
+// A counted run: the tally's numbers are lent to it as counters, and put back.
+// Kept: C interface. The tally is an array of three numbers there.
 fn tallied(
     way: Way,
     asked: &[u8],
@@ -135,15 +138,14 @@ fn tallied(
     ensures { Tallied (asked_reply way limit asked.now graph.now (length out.old)) result
         out.old out.new tally.old tally.new }
 {
-    let before = Counters {
+    let mut counters = Counters {
         asked: tally[0],
         answered: tally[1],
         refused: tally[2],
     };
-    let r = counted::by_value(way, asked, graph, limit, out, before);
-    let after = r.counters;
-    *tally = [after.asked, after.answered, after.refused];
-    r.number
+    let end = counted::run(way, asked, graph, limit, out, &mut counters);
+    *tally = [counters.asked, counters.answered, counters.refused];
+    wire::number_of(end)
 }
 
 #[unsafe(no_mangle)]

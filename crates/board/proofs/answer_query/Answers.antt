@@ -2,34 +2,32 @@ use Prim.Native.Nat.{ℕ}
 use mathlib.Core.Path.{subst}
 use mathlib.Core.List.{List}
 use native.Mathlib.Omega.{arith}
-use lib.ListN.{length, replicate, length-replicate}
-use Rattle.wire.specs.Wire.{Bytes, Returned}
-use Rattle.board.specs.Steps.{plan_reply}
-use Rattle.board.proofs.Loops.{FusedIn, fused_in}
+use lib.ListN.{length, replicate, length-replicate, take}
+use Rattle.wire.specs.Refusal.{number_of}
+use Rattle.wire.specs.Wire.{Returned}
+use Rattle.board.specs.Steps.{plan_reply, plan_values}
+use Rattle.board.proofs.Loops.{fused_in, plan_taken}
 use Rattle.board.proofs.answer_query.Goals as goal
 
-pub slice_bounds-plan-end : goal.slice_bounds-plan-end
-slice_bounds-plan-end c =
-    let fused : FusedIn c.args.query.now c.fuse-size.new.out c.fuse-size.result =
-    let b : Bytes c.args.query.now = λ i. omega (arith, c.shared_slice_known-1.given i) in
-    fused_in c.args.query.now (replicate 560 0) c.fuse-size.new.out c.fuse-size.result b c.requires (length-replicate {A = ℕ} 560 0)
-    c.fuse-size.ensures in
-    fused.within
+pub returns-in_err-size : goal.returns-in_err-size
+returns-in_err-size c =
+    let fused = fused_in c.args.query.now (replicate 560 0) c.fuse.new.out _ (λ i. omega (arith, c.type_inv.query i)) c.requires
+    (length-replicate {A = ℕ} 560 0) c.in_err-size.ensures in
+    absurd (omega (arith, fused.short))
 
-pub slice_bounds-answer_plan-end : goal.slice_bounds-answer_plan-end
-slice_bounds-answer_plan-end c =
-    let fused : FusedIn c.args.query.now c.fuse-size.new.out c.fuse-size.result =
-    let b : Bytes c.args.query.now = λ i. omega (arith, c.shared_slice_known-1.given i) in
-    fused_in c.args.query.now (replicate 560 0) c.fuse-size.new.out c.fuse-size.result b c.requires (length-replicate {A = ℕ} 560 0)
-    c.fuse-size.ensures in
-    fused.size
+pub returns-in_err-w : goal.returns-in_err-w
+returns-in_err-w c =
+    let fused = fused_in c.args.query.now (replicate 560 0) c.fuse.new.out _ (λ i. omega (arith, c.type_inv.query i)) c.requires
+    (length-replicate {A = ℕ} 560 0) c.in_ok-size.ensures in
+    absurd (plan_taken _ _ c.in_err-w.ensures fused.accepted)
 
 pub returns : goal.returns
+unfolding plan_reply plan_values
 returns c =
-    let fused : FusedIn c.args.query.now c.fuse-size.new.out c.fuse-size.result =
-    let b : Bytes c.args.query.now = λ i. omega (arith, c.shared_slice_known-1.given i) in
-    fused_in c.args.query.now (replicate 560 0) c.fuse-size.new.out c.fuse-size.result b c.requires (length-replicate {A = ℕ} 560 0)
-    c.fuse-size.ensures in
+    let fused = fused_in c.args.query.now (replicate 560 0) c.fuse.new.out _ (λ i. omega (arith, c.type_inv.query i)) c.requires
+    (length-replicate {A = ℕ} 560 0) c.in_ok-size.ensures in
     let a = c.args in
-    subst (λ (s : List ℕ). Returned (plan_reply s a.joint a.figures.now a.n a.rounds (length a.out.now)) c.answer_plan.result
-    a.out.now c.answer_plan.new.out) fused.first c.answer_plan.ensures
+    let written : Returned (plan_reply (take c.in_ok-size.field-0 c.fuse.new.out) a.joint a.figures.now a.n a.rounds (length a.out.now))
+    (number_of c.write.result) a.out.now c.write.new.out = rw (← c.in_ok-w.ensures, ← c.min-paths.ensures, ← c.slots_of-slots.ensures) c.write.ensures in
+    subst (λ (s : List ℕ). Returned (plan_reply s a.joint a.figures.now a.n a.rounds (length a.out.now)) (number_of c.write.result)
+    a.out.now c.write.new.out) fused.first written

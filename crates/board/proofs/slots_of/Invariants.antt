@@ -1,5 +1,5 @@
-use Prim.Native.Nat.{ℕ, ◌≤◌, ◌-◌}
 use mathlib.Core.Path.{◌≡◌}
+use Prim.Native.Nat.{ℕ}
 use mathlib.Core.List.{List}
 use lib.ListN.{get_or}
 use Rattle.eval.proofs.Fill.{filled}
@@ -13,7 +13,4 @@ abbrev pub slot : List PackedPath → List PackedPath → ℕ → ℕ
 slot own joint i = index_of (get_or own i no_path) joint
 
 abbrev pub invariant-loop-j : goal.invariant-loop-j
-invariant-loop-j l = (l.j ≤ l.paths) × (l.slots ≡ filled 8 (slot l.own l.joint) 0 l.j)
-
-abbrev pub decreases-loop-j : goal.decreases-loop-j
-decreases-loop-j l = l.paths - l.j
+invariant-loop-j l = l.slots ≡ filled 8 (slot l.own l.joint) 0 l.j

@@ -7,15 +7,15 @@ ghost use Rattle.io.specs.Counts.{IsPrefixLen};
 ghost use Rattle.std.specs.Prelude.{◌<◌, ◌≤◌, length};
 
 use engine::Limit;
+use graph::{EdgeRow, EdgeTable};
+use nodes::Term;
 use std::fs::File;
 use std::io::Read;
 use std::rt::Files;
+use wire::Refusal;
 
 // Found where what was written is wrong, and of a case that is cut or of no kind. No case expects it.
 const WRONG: u8 = 255;
-
-// An answer that no writer gives: 65,536 and WRONG.
-const NOT_WRITTEN: u32 = 65791;
 
 // What the lent buffer is filled with.
 const FILL: u8 = 0xa5;
@@ -40,6 +40,7 @@ struct Score {
 }
 
 // Reads until the buffer is full, the file ends or a read fails. Returns how many bytes it put at the buffer's start.
+// Kept: a while, since each read says how far it came; and a function that the program grafs_main has too, since a test stands on no program.
 fn read_full(file: &mut impl Read, buf: &mut [u8]) -> usize
     ensures { IsPrefixLen result buf.new }
 {
@@ -65,25 +66,17 @@ fn load(rt: &impl Files, path: &str, buf: &mut [u8]) -> usize
     read_full(&mut file, buf)
 }
 
-fn wide(b: u8) -> u16
-    ensures { result ≤ 255 }
-{
-    b as u16
-}
-
 // The 16-bit number at a position, 0 where there is none.
 fn number(s: &[u8], at: usize) -> u16 {
-    if at < s.len() {
-        if 2 <= s.len() - at {
-            return wide(s[at]) + 256 * wide(s[at + 1]);
-        }
+    if at < s.len() && 2 <= s.len() - at {
+        return u16::from_le_bytes([s[at], s[at + 1]]);
     }
     0
 }
 
 // The byte at a position, 0 where there is none.
 fn low(s: &[u8], at: usize) -> u8 {
-    if at < s.len() { s[at] } else { 0 }
+    s.get(at).copied().unwrap_or(0)
 }
 
 // The case at a position. One that is cut is of no kind and the last.
@@ -112,63 +105,81 @@ fn case_at(s: &[u8], at: usize) -> Case
     }
 }
 
-// Byte i of a buffer into which the first `done` bytes of a file were written.
-fn wanted(file: &[u8], done: usize, i: usize) -> u8 {
-    if i < done {
-        if i < file.len() {
-            return file[i];
-        }
-    }
-    FILL
-}
-
 // Whether the buffer holds the first `done` bytes of the file, and behind them what it was filled with.
 fn holds(out: &[u8], file: &[u8], done: usize) -> bool {
-    let mut i: usize = 0;
-    while i < out.len() {
-        if out[i] != wanted(file, done, i) {
-            return false;
-        }
-        i += 1;
-    }
-    true
+    let done = done.min(file.len()).min(out.len());
+    out[..done] == file[..done] && out[done..].iter().all(|b| *b == FILL)
 }
 
-// The number that a writer returned, if the buffer is as it should be: the file's bytes, or untouched.
-fn written(code: u32, file: &[u8], out: &[u8]) -> u8 {
-    if code < 65536 {
-        if code as usize == file.len() {
-            if holds(out, file, file.len()) {
-                return 0;
-            }
-        }
-        return WRONG;
+// The number of a judgement, 0 for none.
+fn code(judged: Result<(), Refusal>) -> u8 {
+    match judged {
+        Ok(()) => 0,
+        Err(refusal) => refusal as u8,
     }
-    let refusal = code - 65536;
-    if refusal < 255 {
-        if holds(out, file, 0) {
-            return refusal as u8;
-        }
+}
+
+// What a writer returned, if the buffer is as it should be: the file's bytes, or untouched. No case has a call that is none (None).
+fn written(ended: Option<Result<u16, Refusal>>, file: &[u8], out: &[u8]) -> u8 {
+    match ended {
+        Some(Ok(n)) if n as usize == file.len() && holds(out, file, file.len()) => 0,
+        Some(Err(refusal)) if holds(out, file, 0) => refusal as u8,
+        _ => WRONG,
     }
-    WRONG
+}
+
+// What is read of a map, of a question, of a worksheet; nothing where it is refused.
+fn read_graph(file: &[u8]) -> EdgeTable {
+    let blank = EdgeRow {
+        from: 0,
+        to: 0,
+        weight: 0,
+        capacity: 0,
+    };
+    graph::read(file).unwrap_or(EdgeTable {
+        vertices: 0,
+        count: 0,
+        rows: [blank; 1024],
+    })
+}
+
+fn read_query(file: &[u8]) -> query_form::Form {
+    match query_form::read(file) {
+        Ok(reading) => reading.form,
+        Err(_) => query_form::Form {
+            kind: 0,
+            count: 0,
+            nodes: [Term::Empty; 72],
+        },
+    }
+}
+
+fn read_plan(file: &[u8]) -> plan_form::Form {
+    plan_form::read(file).unwrap_or(plan_form::Form {
+        version: 0,
+        kind: 0,
+        paths: 0,
+        table: [packed_path::none(); 8],
+        entries: 0,
+        count: 0,
+        nodes: [Term::Empty; 72],
+    })
 }
 
 // A map is read, and its typed form is written with the counts of the case.
-fn write_graph(fields: &[u8], file: &[u8], out: &mut [u8]) -> u32 {
-    let reading = graph::read(file);
-    let mut table = reading.graph;
+fn write_graph(fields: &[u8], file: &[u8], out: &mut [u8]) -> Result<u16, Refusal> {
+    let mut table = read_graph(file);
     table.vertices = number(fields, 2);
     table.count = number(fields, 4);
-    graph::write(table, out)
+    graph::write(&table, out)
 }
 
 // A question likewise, with the kind and the count of terms.
-fn write_query(fields: &[u8], file: &[u8], out: &mut [u8]) -> u32 {
-    let reading = query_form::read(file);
-    let mut form = reading.form;
+fn write_query(fields: &[u8], file: &[u8], out: &mut [u8]) -> Result<u16, Refusal> {
+    let mut form = read_query(file);
     form.kind = low(fields, 2);
     form.count = number(fields, 4) as usize;
-    query_form::write(form, out)
+    query_form::write(&form, out)
 }
 
 // Where the worksheet ends that is read: where another file should be written, that stands behind it.
@@ -180,104 +191,103 @@ fn plan_end(fields: &[u8], file: &[u8]) -> usize
 }
 
 // A worksheet likewise, with the kind, the version, the count of chains, of entries, and of terms and entries.
-fn write_plan(fields: &[u8], file: &[u8], out: &mut [u8]) -> u32 {
-    let end = plan_end(fields, file);
-    let reading = plan_form::read(&file[0..end]);
-    let mut form = reading.form;
+fn write_plan(fields: &[u8], file: &[u8], out: &mut [u8]) -> Result<u16, Refusal> {
+    let mut form = read_plan(&file[..plan_end(fields, file)]);
     form.kind = low(fields, 2);
     form.version = low(fields, 3);
     form.paths = low(fields, 4);
     form.entries = low(fields, 5);
     form.count = number(fields, 6) as usize;
-    plan_form::write(form, out)
+    plan_form::write(&form, out)
 }
 
 // A question is fused.
-fn fuse_file(fields: &[u8], file: &[u8], out: &mut [u8]) -> u32 {
-    let end = answer_at(7, fields, file);
-    fusion::fuse(&file[0..end], out)
+fn fuse_file(fields: &[u8], file: &[u8], out: &mut [u8]) -> Result<u16, Refusal> {
+    fusion::fuse(&file[..answer_at(7, fields, file)], out)
 }
 
 // A map is sorted.
-fn sort_file(fields: &[u8], file: &[u8], out: &mut [u8]) -> u32 {
-    let end = answer_at(16, fields, file);
-    sorted_graph::sort(&file[0..end], out)
+fn sort_file(fields: &[u8], file: &[u8], out: &mut [u8]) -> Result<u16, Refusal> {
+    sorted_graph::sort(&file[..answer_at(16, fields, file)], out)
 }
 
 // A map is read, and its typed form is written sorted, with the counts of the case.
-fn write_sorted(fields: &[u8], file: &[u8], out: &mut [u8]) -> u32 {
-    let end = answer_at(17, fields, file);
-    let reading = graph::read(&file[0..end]);
-    let mut table = reading.graph;
+fn write_sorted(fields: &[u8], file: &[u8], out: &mut [u8]) -> Result<u16, Refusal> {
+    let mut table = read_graph(&file[..answer_at(17, fields, file)]);
     table.vertices = number(fields, 2);
     table.count = number(fields, 4);
-    sorted_graph::write(table, out)
+    sorted_graph::write(&table, out)
 }
 
-fn run(call: u8, rounds: u16, plan: &[u8], graph: &[u8], out: &mut [u8]) -> u32 {
-    match call {
-        0 => engine::pull(plan, graph, Limit::Quiet, out),
-        1 => engine::push(plan, graph, Limit::Quiet, out),
-        2 => engine::pull(plan, graph, Limit::Rounds(rounds), out),
-        3 => engine::push(plan, graph, Limit::Rounds(rounds), out),
-        _ => NOT_WRITTEN,
+// A worksheet, or a board, is run by the call of the case; None where there is no such call.
+fn run(
+    kind: u8,
+    call: u8,
+    rounds: u16,
+    asked: &[u8],
+    graph: &[u8],
+    out: &mut [u8],
+) -> Option<Result<u16, Refusal>> {
+    let limit = if call < 2 {
+        Limit::Quiet
+    } else {
+        Limit::Rounds(rounds)
+    };
+    match (kind < BOARDS, call) {
+        (true, 0 | 2) => Some(engine::pull(asked, graph, limit, out)),
+        (true, 1 | 3) => Some(engine::push(asked, graph, limit, out)),
+        (false, 0 | 2) => Some(board::pull(asked, graph, limit, out)),
+        (false, 1 | 3) => Some(board::push(asked, graph, limit, out)),
+        _ => None,
     }
-}
-
-fn run_board(call: u8, rounds: u16, board: &[u8], graph: &[u8], out: &mut [u8]) -> u32 {
-    match call {
-        0 => board::pull(board, graph, Limit::Quiet, out),
-        1 => board::push(board, graph, Limit::Quiet, out),
-        2 => board::pull(board, graph, Limit::Rounds(rounds), out),
-        3 => board::push(board, graph, Limit::Rounds(rounds), out),
-        _ => NOT_WRITTEN,
-    }
-}
-
-fn run_kind(kind: u8, call: u8, rounds: u16, asked: &[u8], graph: &[u8], out: &mut [u8]) -> u32 {
-    if kind < BOARDS {
-        return run(call, rounds, asked, graph, out);
-    }
-    run_board(call, rounds, asked, graph, out)
 }
 
 // A worksheet or a board is run on a map: the call, the rounds at which it is stopped, where what is asked and the map behind it end.
-fn run_files(kind: u8, fields: &[u8], file: &[u8], out: &mut [u8]) -> u32 {
+fn run_files(kind: u8, fields: &[u8], file: &[u8], out: &mut [u8]) -> Option<Result<u16, Refusal>> {
     let a = number(fields, 6) as usize;
     let b = number(fields, 8) as usize;
-    if a <= b {
-        if b <= file.len() {
-            return run_kind(
-                kind,
-                low(fields, 2),
-                number(fields, 4),
-                &file[0..a],
-                &file[a..b],
-                out,
-            );
-        }
+    if b < a || file.len() < b {
+        return None;
     }
-    NOT_WRITTEN
+    run(
+        kind,
+        low(fields, 2),
+        number(fields, 4),
+        &file[..a],
+        &file[a..b],
+        out,
+    )
 }
 
-fn write_file(kind: u8, fields: &[u8], file: &[u8], out: &mut [u8]) -> u32 {
+fn write_file(
+    kind: u8,
+    fields: &[u8],
+    file: &[u8],
+    out: &mut [u8],
+) -> Option<Result<u16, Refusal>> {
     match kind {
-        4 => write_graph(fields, file, out),
-        5 => write_query(fields, file, out),
-        6 => write_plan(fields, file, out),
-        7 => fuse_file(fields, file, out),
-        16 => sort_file(fields, file, out),
-        17 => write_sorted(fields, file, out),
+        4 => Some(write_graph(fields, file, out)),
+        5 => Some(write_query(fields, file, out)),
+        6 => Some(write_plan(fields, file, out)),
+        7 => Some(fuse_file(fields, file, out)),
+        16 => Some(sort_file(fields, file, out)),
+        17 => Some(write_sorted(fields, file, out)),
         _ => run_files(kind, fields, file, out),
     }
 }
 
 // The first `lent` bytes of the buffer are lent, if it has as many.
-fn lend(kind: u8, fields: &[u8], file: &[u8], lent: usize, out: &mut [u8]) -> u32 {
-    if lent <= out.len() {
-        return write_file(kind, fields, file, &mut out[..lent]);
+fn lend(
+    kind: u8,
+    fields: &[u8],
+    file: &[u8],
+    lent: usize,
+    out: &mut [u8],
+) -> Option<Result<u16, Refusal>> {
+    if out.len() < lent {
+        return None;
     }
-    NOT_WRITTEN
+    write_file(kind, fields, file, &mut out[..lent])
 }
 
 // Where what should be written starts: a writer writes the file that was read; or, as fusing, runs and sorting, what stands behind.
@@ -288,7 +298,7 @@ fn answer_at(kind: u8, fields: &[u8], file: &[u8]) -> usize
     if kind < 6 {
         return 0;
     }
-    if end <= file.len() { end } else { file.len() }
+    end.min(file.len())
 }
 
 // Ten bytes of fields, the length lent first, and files.
@@ -298,9 +308,8 @@ fn write_case(kind: u8, s: &[u8]) -> u8 {
     }
     let file = &s[10..];
     let mut out = [FILL; 20000];
-    let code = lend(kind, s, file, number(s, 0) as usize, &mut out);
-    let at = answer_at(kind, s, file);
-    written(code, &file[at..], &out)
+    let ended = lend(kind, s, file, number(s, 0) as usize, &mut out);
+    written(ended, &file[answer_at(kind, s, file)..], &out)
 }
 
 // The fields of an answer and the room.
@@ -308,59 +317,34 @@ fn judge_answer(s: &[u8]) -> u8 {
     if s.len() < 5 {
         return WRONG;
     }
-    answer::judge(number(s, 0), s[2], number(s, 3) as usize)
+    code(answer::judge(number(s, 0), s[2], number(s, 3) as usize))
 }
 
 // The number found for the bytes of a case.
 fn found(kind: u8, s: &[u8]) -> u8 {
     match kind {
-        0 => graph::judge(s),
-        1 => query::judge(s),
-        2 => plan::judge(s),
+        0 => code(graph::judge(s)),
+        1 => code(query::judge(s)),
+        2 => code(plan::judge(s)),
         3 => judge_answer(s),
         WRONG => WRONG,
         _ => write_case(kind, s),
     }
 }
 
-// Writes bytes to the standard output. What cannot be written is passed over.
-fn write_all(rt: &impl Print, bytes: &[u8]) {
-    let _ = rt.write_all(bytes);
-}
-
-// Likewise a number, in decimal.
-fn print_decimal(rt: &impl Print, x: u64) {
-    let _ = rt.print(x);
-}
-
-fn field(rt: &impl Print, name: &[u8], value: u64) {
-    write_all(rt, name);
-    print_decimal(rt, value);
-}
-
-fn line(rt: &impl Print, name: &[u8], value: u64) {
-    field(rt, name, value);
-    write_all(rt, b"\n");
-}
-
-fn report(rt: &impl Print, index: u64, expected: u8, number: u8) {
-    field(rt, b"case ", index);
-    field(rt, b" expected ", expected as u64);
-    line(rt, b" found ", number as u64);
-}
-
-fn more(x: u64) -> u64 {
-    std::num::wrapping_add_u64(x, 1)
+// What cannot be written, here and below, is passed over.
+fn line(rt: &impl Print, name: &str, value: u64) {
+    let _ = println!(rt; "{name} {value}");
 }
 
 // One case more of a kind.
 fn counted(score: Score, kind: u8) -> Score {
     let mut r = score;
-    let k = wide(kind) as usize;
+    let k = kind as usize;
     if k < 18 {
-        r.kinds[k] = more(score.kinds[k]);
+        r.kinds[k] = score.kinds[k].wrapping_add(1);
     }
-    r.cases = more(score.cases);
+    r.cases = score.cases.wrapping_add(1);
     r
 }
 
@@ -371,62 +355,63 @@ fn scored(rt: &impl Print, score: Score, c: Case, number: u8) -> Score {
         return r;
     }
     if score.differences < 10 {
-        report(rt, score.cases, c.expected, number);
+        let _ = println!(rt;
+            "case {} expected {} found {number}",
+            score.cases, c.expected
+        );
     }
-    r.differences = more(score.differences);
+    r.differences = score.differences.wrapping_add(1);
     r
 }
 
+// Kept: a while, since each case says where the next one starts.
 fn run_all(rt: &impl Print, s: &[u8]) -> Score {
-    let kinds = [0u64; 18];
     let mut score = Score {
         cases: 0,
         differences: 0,
-        kinds,
+        kinds: [0; 18],
     };
     let mut at: usize = 0;
     while at < s.len() {
         let c = case_at(s, at);
-        let body = c.body;
-        let next = c.next;
-        score = scored(rt, score, c, found(c.kind, &s[body..next]));
-        at = next;
+        score = scored(rt, score, c, found(c.kind, &s[c.body..c.next]));
+        at = c.next;
     }
     score
 }
 
 fn print_cases(rt: &impl Print, score: Score) {
-    line(rt, b"maps ", score.kinds[0]);
-    line(rt, b"questions ", score.kinds[1]);
-    line(rt, b"worksheets ", score.kinds[2]);
-    line(rt, b"answers ", score.kinds[3]);
-    line(rt, b"maps written ", score.kinds[4]);
-    line(rt, b"questions written ", score.kinds[5]);
-    line(rt, b"worksheets written ", score.kinds[6]);
-    line(rt, b"questions fused ", score.kinds[7]);
-    line(rt, b"differences ", score.differences);
+    line(rt, "maps", score.kinds[0]);
+    line(rt, "questions", score.kinds[1]);
+    line(rt, "worksheets", score.kinds[2]);
+    line(rt, "answers", score.kinds[3]);
+    line(rt, "maps written", score.kinds[4]);
+    line(rt, "questions written", score.kinds[5]);
+    line(rt, "worksheets written", score.kinds[6]);
+    line(rt, "questions fused", score.kinds[7]);
+    line(rt, "differences", score.differences);
 }
 
 fn print_runs(rt: &impl Print, score: Score) {
-    line(rt, b"trials run ", score.kinds[8]);
-    line(rt, b"traps run ", score.kinds[9]);
-    line(rt, b"worksheets run ", score.kinds[10]);
-    line(rt, b"refusals ", score.kinds[11]);
-    line(rt, b"lent lengths ", score.kinds[12]);
-    line(rt, b"differences ", score.differences);
+    line(rt, "trials run", score.kinds[8]);
+    line(rt, "traps run", score.kinds[9]);
+    line(rt, "worksheets run", score.kinds[10]);
+    line(rt, "refusals", score.kinds[11]);
+    line(rt, "lent lengths", score.kinds[12]);
+    line(rt, "differences", score.differences);
 }
 
 fn print_boards(rt: &impl Print, score: Score) {
-    line(rt, b"boards answered ", score.kinds[13]);
-    line(rt, b"boards refused ", score.kinds[14]);
-    line(rt, b"lent lengths of boards ", score.kinds[15]);
-    line(rt, b"differences ", score.differences);
+    line(rt, "boards answered", score.kinds[13]);
+    line(rt, "boards refused", score.kinds[14]);
+    line(rt, "lent lengths of boards", score.kinds[15]);
+    line(rt, "differences", score.differences);
 }
 
 fn print_sorts(rt: &impl Print, score: Score) {
-    line(rt, b"maps sorted ", score.kinds[16]);
-    line(rt, b"maps sorted with other counts ", score.kinds[17]);
-    line(rt, b"differences ", score.differences);
+    line(rt, "maps sorted", score.kinds[16]);
+    line(rt, "maps sorted with other counts", score.kinds[17]);
+    line(rt, "differences", score.differences);
 }
 
 fn main(rt: HostRuntime) {

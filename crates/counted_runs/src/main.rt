@@ -21,29 +21,23 @@ const REFUSED: u32 = 65536;
 // The bytes of an answer of one row.
 const ANSWER: usize = 19;
 
-// What is run: the marked worksheet on map A of document 01; the map as the worksheet; the worksheet as the map; a worksheet whose start,
-// 9, the map has not; a map without its rows.
-const MARKED: u8 = 0;
-
-const NO_PLAN: u8 = 1;
-
-const NO_GRAPH: u8 = 2;
-
-const SOURCE_9: u8 = 3;
-
-const CUT: u8 = 4;
-
-// A board of two questions on map A: the marked one, and the same from place 3, which is quiet in round 1 and whose result is 0. The board with
-// count 9; with a byte left over; with a map without its rows; with the start 9 in its second question.
-const BOARD: u8 = 5;
-
-const COUNT_9: u8 = 6;
-
-const LEFT_OVER: u8 = 7;
-
-const BOARD_CUT: u8 = 8;
-
-const BOARD_9: u8 = 9;
+// What is run on which map. Where nothing else is said the map is map A of the marked trial, with its rows.
+#[derive(Clone, Copy)]
+enum Files {
+    // The marked worksheet; the map as the worksheet; the worksheet as the map; a worksheet whose start, 9, the map has not; a map without its rows.
+    Marked,
+    NoPlan,
+    NoGraph,
+    Source9,
+    Cut,
+    // A board of two questions: the marked one, and the same from place 3, which is quiet in round 1 and whose result is 0. The board with count 9; with a
+    // byte left over; on a map without its rows; with the start 9 in its second question.
+    Board,
+    Count9,
+    LeftOver,
+    BoardCut,
+    Board9,
+}
 
 // What a run left: its number, and the tally.
 #[derive(Clone, Copy)]
@@ -81,40 +75,20 @@ fn lend(
         result.number out.old out.new counters result.counters }
 {
     let mut lent = counters;
-    let number = counted::run(way, asked, graph, limit, out, &mut lent);
+    let ended = counted::run(way, asked, graph, limit, out, &mut lent);
     Left {
-        number: number,
+        number: wire::number_of(ended),
         counters: lent,
     }
 }
 
-fn run(files: u8, way: Way, limit: Limit, out: &mut [u8], counters: Counters) -> Left
+fn run(files: Files, way: Way, limit: Limit, out: &mut [u8], counters: Counters) -> Left
     ensures { length out.new ≡ length out.old }
 {
     let plan = b"LPW\x01\0\x01\x01\x01\x01\0\0\0\0\x01\x02\x30\0\x31\0";
     let source_9 = b"LPW\x01\0\x01\x01\x01\x01\0\0\x09\0\x01\x02\x30\0\x31\0";
     let graph =
         b"LPM\x01\0\x04\0\x04\0\0\0\x01\0\x05\0\x0a\0\0\0\x02\0\x02\0\x04\0\x02\0\x01\0\x03\0\x14\0\x01\0\x03\0\0\0\x07\0";
-    match files {
-        MARKED => lend(way, plan, graph, limit, out, counters),
-        NO_PLAN => lend(way, graph, graph, limit, out, counters),
-        NO_GRAPH => lend(way, plan, plan, limit, out, counters),
-        SOURCE_9 => lend(way, source_9, graph, limit, out, counters),
-        CUT => lend(way, plan, b"LPM\x01\0\x04\0\x04\0", limit, out, counters),
-        _ => run_board(files, way, graph, limit, out, counters),
-    }
-}
-
-fn run_board(
-    files: u8,
-    way: Way,
-    graph: &[u8],
-    limit: Limit,
-    out: &mut [u8],
-    counters: Counters,
-) -> Left
-    ensures { length out.new ≡ length out.old }
-{
     let board =
         b"\x02\x0d\0LPQ\x01\0\x01\x20\x02\x10\x01\x01\0\0\x0d\0LPQ\x01\0\x01\x20\x02\x10\x01\x01\x03\0";
     let count_9 =
@@ -124,11 +98,16 @@ fn run_board(
     let board_9 =
         b"\x02\x0d\0LPQ\x01\0\x01\x20\x02\x10\x01\x01\0\0\x0d\0LPQ\x01\0\x01\x20\x02\x10\x01\x01\x09\0";
     match files {
-        BOARD => lend(way, board, graph, limit, out, counters),
-        COUNT_9 => lend(way, count_9, graph, limit, out, counters),
-        LEFT_OVER => lend(way, left_over, graph, limit, out, counters),
-        BOARD_CUT => lend(way, board, b"LPM\x01\0\x04\0\x04\0", limit, out, counters),
-        _ => lend(way, board_9, graph, limit, out, counters),
+        Files::Marked => lend(way, plan, graph, limit, out, counters),
+        Files::NoPlan => lend(way, graph, graph, limit, out, counters),
+        Files::NoGraph => lend(way, plan, plan, limit, out, counters),
+        Files::Source9 => lend(way, source_9, graph, limit, out, counters),
+        Files::Cut => lend(way, plan, b"LPM\x01\0\x04\0\x04\0", limit, out, counters),
+        Files::Board => lend(way, board, graph, limit, out, counters),
+        Files::Count9 => lend(way, count_9, graph, limit, out, counters),
+        Files::LeftOver => lend(way, left_over, graph, limit, out, counters),
+        Files::BoardCut => lend(way, board, b"LPM\x01\0\x04\0\x04\0", limit, out, counters),
+        Files::Board9 => lend(way, board_9, graph, limit, out, counters),
     }
 }
 
@@ -159,42 +138,23 @@ fn wanted_byte(w: Wanted, i: usize) -> u8 {
 }
 
 fn same_bytes(out: &[u8; 40], w: Wanted) -> bool {
-    let mut i: usize = 0;
-    while i < 40 {
+    for i in 0..40 {
         if out[i] != wanted_byte(w, i) {
             return false;
         }
-        i += 1;
     }
     true
 }
 
-fn same_counters(a: Counters, b: Counters) -> bool {
-    if a.asked != b.asked {
-        return false;
-    }
-    if a.answered != b.answered {
-        return false;
-    }
-    a.refused == b.refused
-}
-
 fn same(left: Left, w: Wanted, after: Counters, out: &[u8; 40]) -> bool {
-    if left.number != w.number {
-        return false;
-    }
-    let counters = left.counters;
-    if same_counters(counters, after) {
-        return same_bytes(out, w);
-    }
-    false
+    left.number == w.number && left.counters == after && same_bytes(out, w)
 }
 
 fn counts(asked: u64, answered: u64, refused: u64) -> Counters {
     Counters {
-        asked: asked,
-        answered: answered,
-        refused: refused,
+        asked,
+        answered,
+        refused,
     }
 }
 
@@ -203,35 +163,20 @@ fn from(score: Score, counters: Counters) -> Score {
     Score {
         cases: score.cases,
         differences: score.differences,
-        counters: counters,
+        counters,
     }
-}
-
-fn more(x: u64) -> u64 {
-    std::num::wrapping_add_u64(x, 1)
-}
-
-// Writes bytes to the standard output. What cannot be written is passed over.
-fn write_all(rt: &impl Print, bytes: &[u8]) {
-    let _ = rt.write_all(bytes);
-}
-
-// Likewise a number, in decimal.
-fn print_decimal(rt: &impl Print, x: u64) {
-    let _ = rt.print(x);
 }
 
 // One more case: what differs is named.
 fn scored(rt: &impl Print, score: Score, same: bool, counters: Counters) -> Score {
     let mut r = from(score, counters);
-    r.cases = more(score.cases);
+    r.cases = score.cases.wrapping_add(1);
     if same {
         return r;
     }
-    write_all(rt, b"differs: case ");
-    print_decimal(rt, score.cases);
-    write_all(rt, b"\n");
-    r.differences = more(score.differences);
+    // what cannot be written is passed over
+    let _ = println!(rt; "differs: case {}", score.cases);
+    r.differences = score.differences.wrapping_add(1);
     r
 }
 
@@ -239,7 +184,7 @@ fn scored(rt: &impl Print, score: Score, same: bool, counters: Counters) -> Scor
 fn case(
     rt: &impl Print,
     score: Score,
-    files: u8,
+    files: Files,
     way: Way,
     limit: Limit,
     room: usize,
@@ -267,10 +212,10 @@ fn answered(
 ) -> Score {
     let w = Wanted {
         number: 19,
-        rounds: rounds,
+        rounds,
         result: res,
     };
-    case(rt, score, MARKED, way, limit, 24, w, after)
+    case(rt, score, Files::Marked, way, limit, 24, w, after)
 }
 
 // A board that is answered: two answers.
@@ -285,17 +230,17 @@ fn board_answered(
 ) -> Score {
     let w = Wanted {
         number: 38,
-        rounds: rounds,
+        rounds,
         result: res,
     };
-    case(rt, score, BOARD, way, limit, 40, w, after)
+    case(rt, score, Files::Board, way, limit, 40, w, after)
 }
 
 // A run that is refused, and the tally after it; so many bytes are lent.
 fn refused_in(
     rt: &impl Print,
     score: Score,
-    files: u8,
+    files: Files,
     way: Way,
     limit: Limit,
     room: usize,
@@ -316,7 +261,7 @@ fn refused_in(
 fn refused(
     rt: &impl Print,
     score: Score,
-    files: u8,
+    files: Files,
     way: Way,
     limit: Limit,
     number: u32,
@@ -331,7 +276,7 @@ fn refused(
 fn board_refused(
     rt: &impl Print,
     score: Score,
-    files: u8,
+    files: Files,
     way: Way,
     limit: Limit,
     number: u32,
@@ -358,32 +303,64 @@ fn answers(rt: &impl Print, score: Score) -> Score {
 // Refusals for the worksheet (2), the map (2 and 6), a start (13) and the buffer (15).
 fn refusals(rt: &impl Print, score: Score) -> Score {
     let mut s = from(score, counts(0, 0, 0));
-    s = refused(rt, s, NO_PLAN, Way::Pull, Limit::Quiet, 2, counts(1, 0, 1));
     s = refused(
         rt,
         s,
-        NO_PLAN,
+        Files::NoPlan,
+        Way::Pull,
+        Limit::Quiet,
+        2,
+        counts(1, 0, 1),
+    );
+    s = refused(
+        rt,
+        s,
+        Files::NoPlan,
         Way::Push,
         Limit::Rounds(1),
         2,
         counts(2, 0, 2),
     );
-    s = refused(rt, s, NO_GRAPH, Way::Push, Limit::Quiet, 2, counts(3, 0, 3));
-    s = refused(rt, s, CUT, Way::Pull, Limit::Rounds(0), 6, counts(4, 0, 4));
     s = refused(
         rt,
         s,
-        SOURCE_9,
+        Files::NoGraph,
+        Way::Push,
+        Limit::Quiet,
+        2,
+        counts(3, 0, 3),
+    );
+    s = refused(
+        rt,
+        s,
+        Files::Cut,
+        Way::Pull,
+        Limit::Rounds(0),
+        6,
+        counts(4, 0, 4),
+    );
+    s = refused(
+        rt,
+        s,
+        Files::Source9,
         Way::Push,
         Limit::Quiet,
         13,
         counts(5, 0, 5),
     );
-    s = refused(rt, s, MARKED, Way::Pull, Limit::Quiet, 15, counts(6, 0, 6));
     s = refused(
         rt,
         s,
-        MARKED,
+        Files::Marked,
+        Way::Pull,
+        Limit::Quiet,
+        15,
+        counts(6, 0, 6),
+    );
+    s = refused(
+        rt,
+        s,
+        Files::Marked,
         Way::Push,
         Limit::Rounds(0),
         15,
@@ -396,9 +373,9 @@ fn refusals(rt: &impl Print, score: Score) -> Score {
 fn stays(rt: &impl Print, score: Score, full: Counters) -> Score {
     let mut s = from(score, full);
     s = answered(rt, s, Way::Pull, Limit::Quiet, 3, 2, full);
-    s = refused(rt, s, MARKED, Way::Push, Limit::Quiet, 15, full);
+    s = refused(rt, s, Files::Marked, Way::Push, Limit::Quiet, 15, full);
     s = answered(rt, s, Way::Push, Limit::Rounds(1), 1, 1, full);
-    refused(rt, s, NO_PLAN, Way::Pull, Limit::Rounds(1), 2, full)
+    refused(rt, s, Files::NoPlan, Way::Pull, Limit::Rounds(1), 2, full)
 }
 
 // Each of the three reaches its greatest, and from then on none changes.
@@ -410,7 +387,7 @@ fn reaches(rt: &impl Print, score: Score) -> Score {
     s = refused(
         rt,
         s,
-        CUT,
+        Files::Cut,
         Way::Pull,
         Limit::Quiet,
         6,
@@ -420,7 +397,7 @@ fn reaches(rt: &impl Print, score: Score) -> Score {
     s = refused(
         rt,
         s,
-        SOURCE_9,
+        Files::Source9,
         Way::Push,
         Limit::Quiet,
         13,
@@ -430,7 +407,7 @@ fn reaches(rt: &impl Print, score: Score) -> Score {
     s = refused(
         rt,
         s,
-        MARKED,
+        Files::Marked,
         Way::Pull,
         Limit::Quiet,
         15,
@@ -450,21 +427,21 @@ fn boards(rt: &impl Print, score: Score) -> Score {
     s = board_answered(rt, s, push, quiet, 3, 2, counts(7, 5, 2));
     s = board_answered(rt, s, pull, Limit::Rounds(1), 1, 1, counts(8, 6, 2));
     s = board_answered(rt, s, push, Limit::Rounds(0), 0, 0, counts(9, 7, 2));
-    s = board_refused(rt, s, COUNT_9, pull, quiet, 12, counts(10, 7, 3));
-    s = board_refused(rt, s, LEFT_OVER, push, quiet, 6, counts(11, 7, 4));
+    s = board_refused(rt, s, Files::Count9, pull, quiet, 12, counts(10, 7, 3));
+    s = board_refused(rt, s, Files::LeftOver, push, quiet, 6, counts(11, 7, 4));
     s = board_refused(
         rt,
         s,
-        BOARD_CUT,
+        Files::BoardCut,
         pull,
         Limit::Rounds(1),
         6,
         counts(12, 7, 5),
     );
-    s = board_refused(rt, s, BOARD_9, push, quiet, 13, counts(13, 7, 6));
-    s = board_refused(rt, s, BOARD, pull, quiet, 15, counts(14, 7, 7));
-    s = board_refused(rt, s, BOARD, Way::Pull, quiet, 2, counts(15, 7, 8));
-    s = refused(rt, s, MARKED, push, quiet, 12, counts(16, 7, 9));
+    s = board_refused(rt, s, Files::Board9, push, quiet, 13, counts(13, 7, 6));
+    s = board_refused(rt, s, Files::Board, pull, quiet, 15, counts(14, 7, 7));
+    s = board_refused(rt, s, Files::Board, Way::Pull, quiet, 2, counts(15, 7, 8));
+    s = refused(rt, s, Files::Marked, push, quiet, 12, counts(16, 7, 9));
     answered(rt, s, Way::Pull, quiet, 3, 2, counts(17, 8, 9))
 }
 
@@ -472,7 +449,7 @@ fn boards(rt: &impl Print, score: Score) -> Score {
 fn boards_stay(rt: &impl Print, score: Score, full: Counters) -> Score {
     let s = from(score, full);
     let t = board_answered(rt, s, Way::BoardPull, Limit::Quiet, 3, 2, full);
-    board_refused(rt, t, BOARD, Way::BoardPush, Limit::Quiet, 15, full)
+    board_refused(rt, t, Files::Board, Way::BoardPush, Limit::Quiet, 15, full)
 }
 
 fn main(rt: HostRuntime) {
@@ -490,9 +467,8 @@ fn main(rt: HostRuntime) {
     s = boards_stay(&rt, s, counts(MOST, 3, 2));
     s = boards_stay(&rt, s, counts(5, MOST, 2));
     s = boards_stay(&rt, s, counts(5, 3, MOST));
-    write_all(&rt, b"counted runs ");
-    print_decimal(&rt, s.cases);
-    write_all(&rt, b" cases ");
-    print_decimal(&rt, s.differences);
-    write_all(&rt, b" differences\n");
+    let _ = println!(rt;
+        "counted runs {} cases {} differences",
+        s.cases, s.differences
+    );
 }

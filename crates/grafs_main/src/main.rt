@@ -8,13 +8,12 @@ ghost use Rattle.io.specs.Counts.{IsPrefixLen};
 ghost use Rattle.answer.specs.Decode.{at64, row_in};
 
 use engine::Limit;
+use std::fmt;
 use std::fs::File;
 use std::io::Read;
 use std::rt::Files;
 use value::Value;
-
-// The refusals of the calls start here.
-const REFUSAL: u32 = 65536;
+use wire::Refusal;
 
 // Whether a file cannot be read on. At its end it can.
 fn broken(file: &mut impl Read) -> bool {
@@ -23,6 +22,7 @@ fn broken(file: &mut impl Read) -> bool {
 }
 
 // Reads until the buffer is full, the file ends or a read fails. Returns how many bytes it put at the buffer's start.
+// Kept: a while, since each read says how far it came.
 fn read_full(file: &mut impl Read, buf: &mut [u8]) -> usize
     ensures { IsPrefixLen result buf.new }
 {
@@ -53,16 +53,10 @@ fn load(rt: &impl Files, path: &str, buf: &mut [u8]) -> usize
     n
 }
 
-fn wide(x: u32) -> u64
-    ensures { (result ≡ x) × (result ≤ 4294967295) }
-{
-    x as u64
-}
-
 fn number(row: &[u8]) -> u64
     ensures { result ≡ at64 row.now 1 }
 {
-    wide(wire::word(row, 1)) + 4294967296 * wide(wire::word(row, 5))
+    u64::from(wire::word(row, 1)) + 4294967296 * u64::from(wire::word(row, 5))
 }
 
 // The row at the front: "a byte, 1 for a number and 0 for absent, and 64 bits".
@@ -75,41 +69,25 @@ fn first_row(rows: &[u8]) -> Value
     Value::Number(number(rows))
 }
 
-// Writes bytes to the standard output. What cannot be written is passed over.
-fn write_all(rt: &impl Print, bytes: &[u8]) {
-    let _ = rt.write_all(bytes);
+// A value, with `-` for absent.
+#[derive(Clone, Copy)]
+struct Shown(Value);
+
+impl fmt::Display for Shown {
+    fn fmt<W: fmt::Write>(&self, f: &mut fmt::Formatter<W>) -> fmt::Result {
+        match self.0 {
+            Value::Absent => f.write_str("-"),
+            Value::Number(x) => write!(f, "{x}"),
+        }
+    }
 }
 
-// Likewise a number, in decimal.
-fn print_decimal(rt: &impl Print, x: u64) {
-    let _ = rt.print(x);
-}
-
-fn line(rt: &impl Print, name: &[u8], value: u64) {
-    write_all(rt, name);
-    print_decimal(rt, value);
-    write_all(rt, b"\n");
-}
-
-// The end of a line: a value, with `-` for absent.
-fn print_value(rt: &impl Print, v: Value) {
-    let Value::Number(x) = v else {
-        write_all(rt, b" -\n");
-        return;
-    };
-    line(rt, b" ", x);
-}
-
-// The place and value lines.
+// The place and value lines. What cannot be written, here and below, is passed over.
 fn print_rows(rt: &impl Print, answer: &[u8], count: usize)
     requires { 10 + 9 * count ≤ length answer.now }
 {
-    let mut i: usize = 0;
-    while i < count {
-        let at = 10 + 9 * i;
-        print_decimal(rt, i as u64);
-        print_value(rt, first_row(&answer[at..]));
-        i += 1;
+    for i in 0..count {
+        let _ = println!(rt; "{i} {}", Shown(first_row(&answer[10 + 9 * i..])));
     }
 }
 
@@ -117,40 +95,35 @@ fn print_rows(rt: &impl Print, answer: &[u8], count: usize)
 fn print_answer(rt: &impl Print, answer: &[u8])
     requires { 2314 ≤ length answer.now }
 {
-    line(rt, b"rounds ", wide(wire::half(answer, 7)));
+    let _ = println!(rt; "rounds {}", wire::half(answer, 7));
     if wire::byte(answer, 9) != 0 {
-        write_all(rt, b"result");
-        print_value(rt, first_row(&answer[10..]));
+        let _ = println!(rt; "result {}", Shown(first_row(&answer[10..])));
         return;
     }
-    print_rows(
-        rt,
-        answer,
-        wire::lesser(wire::half(answer, 5) as usize, 256),
-    );
+    print_rows(rt, answer, (wire::half(answer, 5) as usize).min(256));
+}
+
+// "or `refused` and the number alone"
+fn print_refusal(rt: &impl Print, refusal: Refusal) {
+    let _ = println!(rt; "refused {}", refusal as u8);
 }
 
 // No answer is longer than 2,314 bytes (`size_most` of crate answer): 15 does not occur.
 fn run(rt: &impl Print, plan: &[u8], graph: &[u8]) {
     let mut answer = [0u8; 2314];
-    let done = engine::pull(plan, graph, Limit::Quiet, &mut answer);
-    if REFUSAL <= done {
-        line(rt, b"refused ", (done - REFUSAL) as u64);
-        return;
+    match engine::pull(plan, graph, Limit::Quiet, &mut answer) {
+        Ok(_) => print_answer(rt, &answer),
+        Err(refusal) => print_refusal(rt, refusal),
     }
-    print_answer(rt, &answer);
 }
 
 // No worksheet is longer than 560 bytes (`fuse_fits` of crate fusion): 15 does not occur here either.
 fn answer(rt: &impl Print, query: &[u8], graph: &[u8]) {
     let mut plan = [0u8; 560];
-    let done = fusion::fuse(query, &mut plan);
-    if REFUSAL <= done {
-        line(rt, b"refused ", (done - REFUSAL) as u64);
-        return;
+    match fusion::fuse(query, &mut plan) {
+        Ok(len) => run(rt, &plan[..(len as usize).min(560)], graph),
+        Err(refusal) => print_refusal(rt, refusal),
     }
-    let len = wire::lesser(done as usize, 560);
-    run(rt, &plan[..len], graph);
 }
 
 // A longer file is answered as its first bytes are (crate first_bytes, `long_query` and `long_graph`):

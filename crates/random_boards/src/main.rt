@@ -74,10 +74,9 @@ struct Wanted {
     most: u64,
 }
 
-// The rounds at which a run is stopped, the length lent, and what a call should return.
+// The length lent, and what a call should return.
 #[derive(Clone, Copy)]
 struct Given {
-    stop: u16,
     lent: usize,
     code: u32,
 }
@@ -101,12 +100,6 @@ fn next(seed: u64) -> u64 {
     seed % 2147483647 * 48271 % 2147483647
 }
 
-fn wide(x: u8) -> u64
-    ensures { result ≤ 255 }
-{
-    x as u64
-}
-
 // A number below k, or 0.
 fn below(seed: u64, k: u64) -> u64 {
     if k == 0 { 0 } else { seed % k }
@@ -114,49 +107,37 @@ fn below(seed: u64, k: u64) -> u64 {
 
 // One more, if it is so.
 fn count(x: u64, yes: bool) -> u64 {
-    std::num::wrapping_add_u64(x, if yes { 1 } else { 0 })
-}
-
-fn fewer(x: u64, k: u64) -> u64 {
-    if k <= x { x - k } else { 0 }
-}
-
-fn lesser(x: usize, y: usize) -> usize
-    ensures { result ≤ y }
-{
-    if x < y { x } else { y }
+    x.wrapping_add(u64::from(yes))
 }
 
 // A position further on; none is near the greatest number.
 fn plus(at: usize, i: usize) -> usize {
-    std::num::wrapping_add_usize(at, i)
+    at.wrapping_add(i)
 }
 
 // ---- bytes
 
 // The byte at a position, 0 where there is none.
 fn byte(s: &[u8], at: usize) -> u8 {
-    if at < s.len() { s[at] } else { 0 }
+    s.get(at).copied().unwrap_or(0)
 }
 
 // The 16-bit number at a position.
 fn number(s: &[u8], at: usize) -> u64
     ensures { result ≤ 65535 }
 {
-    wide(byte(s, at)) + 256 * wide(byte(s, plus(at, 1)))
+    u64::from(byte(s, at)) + 256 * u64::from(byte(s, plus(at, 1)))
 }
 
 // So many bytes of a number, the lowest first, as far as there is room. Returns where the next byte goes.
 fn put(out: &mut File, at: usize, x: u64, size: usize) -> usize {
-    let end = lesser(plus(at, size), 1024);
-    let mut a = at;
+    let end = plus(at, size).min(1024);
     let mut rest = x;
-    while a < end {
+    for a in at..end {
         out[a] = (rest % 256) as u8;
-        rest = rest / 256;
-        a += 1;
+        rest /= 256;
     }
-    a
+    at.max(end)
 }
 
 // ---- random boards
@@ -201,26 +182,29 @@ fn random_tag(seed: u64, res: bool, room: u64) -> u64 {
 
 // What is due behind a tag.
 fn due_behind(due: u64, tag: u64) -> u64 {
-    let rest = fewer(due, if tag < 0x20 { 1 } else { 256 });
+    let rest = due.saturating_sub(if tag < 0x20 { 1 } else { 256 });
     let more = match tag {
         0x12 | 0x23 => 2,
         0x20 => 1,
         0x22 => 512,
         _ => 0,
     };
-    std::num::wrapping_add_u64(rest, more)
+    rest.wrapping_add(more)
 }
 
 // A term more, without those below it: a path reduction, a literal, an operator or a reduction.
 fn put_term(out: &mut File, d: Draft) -> Draft {
     let s = next(d.seed);
     let code = s / 128;
-    let room = fewer(fewer(d.left, d.due / 256), d.due % 256);
+    let room = d
+        .left
+        .saturating_sub(d.due / 256)
+        .saturating_sub(d.due % 256);
     let tag = random_tag(s, d.due % 256 == 0, room) % 256;
     let mut r = d;
     r.seed = s;
     r.due = due_behind(d.due, tag);
-    r.left = fewer(d.left, 1);
+    r.left = d.left.saturating_sub(1);
     r.at = match tag % 16 {
         1 => put(out, d.at, tag + 256 * (code % 8), 5),
         2 => put(out, d.at, tag + 256 * (1 + code % 11), 2),
@@ -251,15 +235,13 @@ fn put_query(out: &mut File, d: Draft) -> Draft {
     r.due = 1 + 255 * kind;
     r.left = count(below(r.seed / 3, most), true);
     r.at = put(out, start, QUERY + SIXTH * kind, 6);
-    let mut i: u64 = 0;
-    while i < 80 {
+    for _ in 0..80 {
         if r.due != 0 {
             r = put_term(out, r);
         }
-        i += 1;
     }
-    let size = fewer(r.at as u64, start as u64);
-    put(out, d.at, std::num::wrapping_add_u64(size, wrong), 2);
+    let size = (r.at as u64).saturating_sub(start as u64);
+    put(out, d.at, size.wrapping_add(wrong), 2);
     r
 }
 
@@ -268,10 +250,8 @@ fn put_board(out: &mut File, d: Draft, queries: u64) -> Draft {
     let wrong = d.pool % 16 == 0;
     let mut r = d;
     r.at = put(out, 0, if wrong { d.seed % 12 } else { queries }, 1);
-    let mut i: u64 = 0;
-    while i < queries {
+    for _ in 0..queries {
         r = put_query(out, r);
-        i += 1;
     }
     r
 }
@@ -282,12 +262,10 @@ fn put_graph(out: &mut File, n: u64, seed: u64) -> usize {
     let numbers = 4 * edges as usize;
     put(out, 0, GRAPH + SIXTH * (n % 8 + 65536 * edges), 8);
     let mut s = seed;
-    let mut i: usize = 0;
-    while i < numbers {
+    for i in 0..numbers {
         s = next(s);
         let most = if i % 4 < 2 { n } else { 4 };
         put(out, 9 + 2 * i, count(below(s / 16, most), i % 4 == 3), 2);
-        i += 1;
     }
     9 + 2 * numbers
 }
@@ -298,19 +276,19 @@ fn put_graph(out: &mut File, n: u64, seed: u64) -> usize {
 fn change(file: &mut File, len: usize, seed: u64) {
     let i = (below(seed / 512, len as u64) % 1024) as usize;
     let by = if seed % 2 == 0 { 1 } else { seed / 2 };
-    let x = wide(file[i]);
+    let x = u64::from(file[i]);
     put(file, i, x + by % 256, 1);
 }
 
 // A length, seldom another one: one less, any that is less, up to three more.
 fn other_length(len: usize, seed: u64) -> usize {
     let other = match seed % 32 {
-        0 => fewer(len as u64, 1),
+        0 => (len as u64).saturating_sub(1),
         1 => below(seed / 32, len as u64),
-        2 => std::num::wrapping_add_u64(len as u64, 1 + seed / 32 % 3),
+        2 => (len as u64).wrapping_add(1 + seed / 32 % 3),
         _ => len as u64,
     };
-    lesser(other as usize, 1024)
+    (other as usize).min(1024)
 }
 
 // ---- the number expected
@@ -349,19 +327,12 @@ fn path_byte(s: &[u8], at: usize, i: usize) -> u64 {
     if term_size(s, at) <= a {
         return 256;
     }
-    wide(byte(s, plus(at, a)))
+    u64::from(byte(s, plus(at, a)))
 }
 
 // Is it the same path reduction at both positions? It has at most a key count, three keys and 16 starts.
 fn same_path(s: &[u8], a: usize, b: usize) -> bool {
-    let mut i: usize = 0;
-    while i < 36 {
-        if path_byte(s, a, i) != path_byte(s, b, i) {
-            return false;
-        }
-        i += 1;
-    }
-    true
+    (0..36).all(|i| path_byte(s, a, i) == path_byte(s, b, i))
 }
 
 // With the path reduction of a term: one that is known, perhaps from a query before this one, or another one, up to nine. Of its sources the last
@@ -369,18 +340,16 @@ fn same_path(s: &[u8], a: usize, b: usize) -> bool {
 fn with_path(s: &[u8], r: Reading, at: usize) -> Reading {
     let source = number(s, plus(at, term_size(s, at) - 2));
     let first = r.first;
-    let paths = lesser(r.paths, 9);
+    let paths = r.paths.min(9);
     let mut w = r;
     if r.last < source && source != 65535 {
         w.last = source;
     }
-    let mut j: usize = 0;
-    while j < paths {
-        if same_path(s, first[j], at) {
-            w.shared = r.shared || first[j] < r.at;
+    for known in &first[..paths] {
+        if same_path(s, *known, at) {
+            w.shared = r.shared || *known < r.at;
             return w;
         }
-        j += 1;
     }
     if paths < 9 {
         w.first[paths] = at;
@@ -389,7 +358,7 @@ fn with_path(s: &[u8], r: Reading, at: usize) -> Reading {
     w
 }
 
-// With the path reductions of a query, term by term.
+// With the path reductions of a query, term by term. Kept: a while, since each term says where the next one starts.
 fn with_query(s: &[u8], r: Reading, start: usize, end: usize) -> Reading {
     let mut w = r;
     let mut at = start;
@@ -406,20 +375,16 @@ fn with_query(s: &[u8], r: Reading, start: usize, end: usize) -> Reading {
 
 // "a missing length or one running past the end being 1"; then the query itself.
 fn read_query(s: &[u8], r: Reading, n: u64) -> Reading {
-    let at = lesser(r.at, s.len());
+    let at = r.at.min(s.len());
     let left = s.len() - at;
     let size = number(s, at) as usize;
-    if left < 2 {
-        return refused(r, 1, 1);
-    }
-    if left - 2 < size {
+    if left < 2 || left - 2 < size {
         return refused(r, 1, 1);
     }
     let start = at + 2;
     let end = start + size;
-    let code = query::judge(&s[start..end]);
-    if code != 0 {
-        return refused(r, 2, code);
+    if let Err(refusal) = query::judge(&s[start..end]) {
+        return refused(r, 2, refusal as u8);
     }
     let mut w = with_query(s, r, plus(start, 6), end);
     w.size = plus(r.size, answer_size(byte(s, plus(start, 5)), n));
@@ -443,12 +408,10 @@ fn read(s: &[u8], n: u64) -> Reading {
     if queries == 0 || 8 < queries {
         r = refused(r, 0, if s.len() == 0 { 1 } else { 12 });
     }
-    let mut i: u8 = 0;
-    while i < queries {
+    for _ in 0..queries {
         if r.number == 0 {
             r = read_query(s, r, n);
         }
-        i += 1;
     }
     r
 }
@@ -466,9 +429,8 @@ fn judge(s: &[u8], graph: &[u8]) -> Reading {
     if 8 < r.paths {
         return refused(r, 4, 14);
     }
-    let code = graph::judge(graph);
-    if code != 0 {
-        return refused(r, 5, code);
+    if let Err(refusal) = graph::judge(graph) {
+        return refused(r, 5, refusal as u8);
     }
     if n <= r.last {
         return refused(r, 6, 13);
@@ -480,23 +442,23 @@ fn judge(s: &[u8], graph: &[u8]) -> Reading {
 
 // The answer of the query behind a length, alone, from a position of the buffer on. Returns how many bytes it has.
 fn answer(s: &[u8], at: usize, graph: &[u8], limit: Limit, out: &mut [u8], done: usize) -> usize {
-    let start = lesser(plus(at, 2), s.len());
-    let end = start + lesser(number(s, at) as usize, s.len() - start);
+    let start = plus(at, 2).min(s.len());
+    let end = start + (number(s, at) as usize).min(s.len() - start);
     let mut plan = [0u8; 560];
-    let size = lesser(fusion::fuse(&s[start..end], &mut plan) as usize, 560);
-    let from = lesser(done, out.len());
-    engine::pull(&plan[..size], graph, limit, &mut out[from..]) as usize
+    let size = fusion::fuse(&s[start..end], &mut plan)
+        .map_or(560, usize::from)
+        .min(560);
+    let from = done.min(out.len());
+    wire::number_of(engine::pull(&plan[..size], graph, limit, &mut out[from..])) as usize
 }
 
 // "except that rounds is the greatest of the separate counts"
 fn put_rounds(out: &mut File, queries: u8, n: u64, rounds: u64) {
     let mut at: usize = 0;
-    let mut i: u8 = 0;
-    while i < queries {
+    for _ in 0..queries {
         put(out, plus(at, 7), rounds, 2);
-        let kind = out[lesser(plus(at, 9), 1023)];
+        let kind = out[plus(at, 9).min(1023)];
         at = plus(at, answer_size(kind, n));
-        i += 1;
     }
 }
 
@@ -507,15 +469,13 @@ fn expected(s: &[u8], graph: &[u8], limit: Limit, queries: u8) -> Wanted {
     let mut most: u64 = 0;
     let mut at: usize = 1;
     let mut done: usize = 0;
-    let mut i: u8 = 0;
-    while i < queries {
+    for _ in 0..queries {
         let size = answer(s, at, graph, limit, &mut out, done);
         let rounds = number(&out, plus(done, 7));
-        least = fewer(least, fewer(least, rounds));
-        most = if most < rounds { rounds } else { most };
+        least = least.min(rounds);
+        most = most.max(rounds);
         done = plus(done, size);
         at = plus(plus(at, 2), number(s, at) as usize);
-        i += 1;
     }
     put_rounds(&mut out, queries, number(graph, 5), most);
     Wanted { out, least, most }
@@ -523,37 +483,27 @@ fn expected(s: &[u8], graph: &[u8], limit: Limit, queries: u8) -> Wanted {
 
 // ---- calls
 
-fn run(call: u8, rounds: u16, s: &[u8], graph: &[u8], out: &mut [u8]) -> u32 {
-    match call {
-        0 => board::pull(s, graph, Limit::Quiet, out),
-        1 => board::push(s, graph, Limit::Quiet, out),
-        2 => board::pull(s, graph, Limit::Rounds(rounds), out),
-        _ => board::push(s, graph, Limit::Rounds(rounds), out),
-    }
+#[derive(Clone, Copy)]
+enum Way {
+    Pull,
+    Push,
 }
 
-fn differ(x: &File, y: &File) -> bool {
-    let mut i: usize = 0;
-    while i < 1024 {
-        if x[i] != y[i] {
-            return true;
-        }
-        i += 1;
-    }
-    false
+fn run(way: Way, limit: Limit, s: &[u8], graph: &[u8], out: &mut [u8]) -> u32 {
+    wire::number_of(match way {
+        Way::Pull => board::pull(s, graph, limit, out),
+        Way::Push => board::push(s, graph, limit, out),
+    })
 }
 
 // 1 where a call returns something else, or leaves other bytes.
-fn differs(call: u8, g: Given, s: &[u8], graph: &[u8], want: &File) -> u64
+fn differs(way: Way, limit: Limit, g: Given, s: &[u8], graph: &[u8], want: &File) -> u64
     ensures { result ≤ 1 }
 {
-    let lent = lesser(g.lent, 1024);
+    let lent = g.lent.min(1024);
     let mut out = [FILL; 1024];
-    let code = run(call, g.stop, s, graph, &mut out[..lent]);
-    if code != g.code {
-        return 1;
-    }
-    if differ(&out, want) { 1 } else { 0 }
+    let code = run(way, limit, s, graph, &mut out[..lent]);
+    u64::from(code != g.code || out != *want)
 }
 
 // ---- boards
@@ -574,8 +524,8 @@ fn scored(score: Score, r: Reading, w: Wanted) -> Score {
 
 // What is expected, nothing where the board is refused, then the four calls.
 fn try_files(score: Score, board: File, len: usize, map: File, end: usize, seed: u64) -> Score {
-    let a = lesser(len, 1024);
-    let b = lesser(end, 1024);
+    let a = len.min(1024);
+    let b = end.min(1024);
     let s = &board[..a];
     let graph = &map[..b];
     let mut r = judge(s, graph);
@@ -587,18 +537,22 @@ fn try_files(score: Score, board: File, len: usize, map: File, end: usize, seed:
     let mut code = 65536 + r.number as u32;
     let mut queries: u8 = 0;
     if r.number == 0 {
-        code = lesser(r.size, 1024) as u32;
+        code = r.size.min(1024) as u32;
         queries = byte(s, 0);
     }
-    let g = Given { stop, lent, code };
+    let g = Given { lent, code };
     let whole = expected(s, graph, Limit::Quiet, queries);
     let stopped = expected(s, graph, Limit::Rounds(stop), queries);
     let quiet = whole.out;
     let early = stopped.out;
-    let x = differs(0, g, s, graph, &quiet) + differs(1, g, s, graph, &quiet);
-    let y = differs(2, g, s, graph, &early) + differs(3, g, s, graph, &early);
+    let to_quiet = Limit::Quiet;
+    let to_stop = Limit::Rounds(stop);
+    let x = differs(Way::Pull, to_quiet, g, s, graph, &quiet)
+        + differs(Way::Push, to_quiet, g, s, graph, &quiet);
+    let y = differs(Way::Pull, to_stop, g, s, graph, &early)
+        + differs(Way::Push, to_stop, g, s, graph, &early);
     let mut t = scored(score, r, whole);
-    t.differences = std::num::wrapping_add_u64(score.differences, x + y);
+    t.differences = score.differences.wrapping_add(x + y);
     t
 }
 
@@ -643,33 +597,19 @@ fn try_all() -> Score {
         apart: 0,
         differences: 0,
     };
-    let mut i: u64 = 0;
-    while i < BOARDS {
+    for i in 0..BOARDS {
         score = try_board(score, 1 + i % 8);
-        i += 1;
     }
     score
 }
 
-// Writes bytes to the standard output. What cannot be written is passed over.
-fn write_all(rt: &impl Print, bytes: &[u8]) {
-    let _ = rt.write_all(bytes);
-}
-
-// Likewise a number, in decimal.
-fn print_decimal(rt: &impl Print, x: u64) {
-    let _ = rt.print(x);
-}
-
-fn line(rt: &impl Print, name: &[u8], counts: &[u64]) {
-    write_all(rt, name);
-    let mut i: usize = 0;
-    while i < counts.len() {
-        write_all(rt, b" ");
-        print_decimal(rt, counts[i]);
-        i += 1;
+// A line that starts with a name, and numbers. What cannot be written is passed over.
+fn line(rt: &impl Print, name: &str, counts: &[u64]) {
+    let _ = print!(rt; "{name}");
+    for count in counts {
+        let _ = print!(rt; " {count}");
     }
-    write_all(rt, b"\n");
+    let _ = println!(rt;);
 }
 
 fn main(rt: HostRuntime) {
@@ -678,17 +618,17 @@ fn main(rt: HostRuntime) {
     let others = [score.shared, score.eight, score.apart, score.differences];
     line(
         &rt,
-        b"boards of 1, of 2, .. of 8 questions, each:",
+        "boards of 1, of 2, .. of 8 questions, each:",
         &[BOARDS / 8],
     );
     line(
         &rt,
-        b"refused for the count, a length, a question, left-over bytes, a ninth chain, the map, a start, the length lent; answered:",
+        "refused for the count, a length, a question, left-over bytes, a ninth chain, the map, a start, the length lent; answered:",
         &causes,
     );
     line(
         &rt,
-        b"answered with a chain in two questions, with eight chains, with separate rounds that differ; calls that differ:",
+        "answered with a chain in two questions, with eight chains, with separate rounds that differ; calls that differ:",
         &others,
     );
 }

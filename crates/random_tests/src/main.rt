@@ -11,6 +11,7 @@ ghost use Rattle.std.specs.Prelude.{◌<◌, ◌≤◌};
 use engine::Limit;
 use value::{Row, Value};
 use walked::PathReduction;
+use wire::Refusal;
 
 const CASES: u64 = 50000;
 
@@ -137,18 +138,6 @@ fn next(seed: u64) -> u64
     seed % 2147483647 * 48271 % 2147483647
 }
 
-fn wide(x: u16) -> u64
-    ensures { result ≤ 65535 }
-{
-    x as u64
-}
-
-fn wide8(x: u8) -> u64
-    ensures { result ≤ 255 }
-{
-    x as u64
-}
-
 // A number below k, which is small.
 fn below(seed: u64, k: u64) -> u64
     ensures { result < 1000 }
@@ -162,22 +151,7 @@ fn below(seed: u64, k: u64) -> u64
 
 // One more, if it is so.
 fn count(x: u64, yes: bool) -> u64 {
-    if yes {
-        return std::num::wrapping_add_u64(x, 1);
-    }
-    x
-}
-
-fn fewer(x: u64, k: u64) -> u64
-    ensures { result ≤ x }
-{
-    if k <= x { x - k } else { 0 }
-}
-
-fn lesser(x: usize, y: usize) -> usize
-    ensures { result ≤ y }
-{
-    if x < y { x } else { y }
+    x.wrapping_add(u64::from(yes))
 }
 
 fn pick(yes: bool, x: u8, y: u8) -> u8 {
@@ -186,27 +160,20 @@ fn pick(yes: bool, x: u8, y: u8) -> u8 {
 
 // A sum of two small numbers, else 0: a position in a file.
 fn plus(at: usize, i: usize) -> usize {
-    if at < 1000 {
-        if i < 1000 {
-            return at + i;
-        }
-    }
-    0
+    if at < 1000 && i < 1000 { at + i } else { 0 }
 }
 
 // ---- bytes
 
 // So many bytes of a number, the lowest first. Returns where the next byte goes.
 fn put(out: &mut File, at: usize, x: u64, size: usize) -> usize {
-    let end = lesser(plus(at, size), 560);
-    let mut a = at;
+    let end = plus(at, size).min(560);
     let mut rest = x;
-    while a < end {
+    for a in at..end {
         out[a] = (rest % 256) as u8;
-        rest = rest / 256;
-        a += 1;
+        rest /= 256;
     }
-    a
+    at.max(end)
 }
 
 // "a byte, 1 for a number and 0 for absent, and 64 bits, 0 when absent"
@@ -219,16 +186,14 @@ fn put_row(out: &mut File, at: usize, v: Value) -> usize {
 }
 
 fn byte(q: &File, i: usize) -> u8 {
-    if i < 560 { q[i] } else { 0 }
+    q.get(i).copied().unwrap_or(0)
 }
 
 // The number that so many bytes have, up to six.
 fn number_at(q: &File, at: usize, size: usize) -> u64 {
     let mut x: u64 = 0;
-    let mut i = size;
-    while 0 < i {
-        i -= 1;
-        x = x % SIXTH * 256 + wide8(byte(q, plus(at, i)));
+    for i in (0..size).rev() {
+        x = x % SIXTH * 256 + u64::from(byte(q, plus(at, i)));
     }
     x
 }
@@ -253,7 +218,7 @@ fn set_size(set: u64) -> u64
 
 // The source that the lowest byte stands for.
 fn source(set: u64) -> u16 {
-    fewer(set % 256, 1) as u16
+    (set % 256).saturating_sub(1) as u16
 }
 
 // "a 16-bit start (0 to 255, or 65,535 for anywhere)"
@@ -267,9 +232,7 @@ fn start_at(q: &File, at: usize) -> u64
 // So many starts, as the sources of a path reduction.
 fn starts_at(q: &File, at: usize, count: u8) -> u64 {
     let mut set: u64 = 0;
-    let mut i = count as usize;
-    while 0 < i {
-        i -= 1;
+    for i in (0..count as usize).rev() {
         set = set % FOURTH * 256 + start_at(q, plus(at, 2 * i));
     }
     set
@@ -278,9 +241,9 @@ fn starts_at(q: &File, at: usize, count: u8) -> u64 {
 fn put_starts(out: &mut File, at: usize, set: u64) -> usize {
     let mut a = at;
     let mut rest = set;
-    while 0 < rest {
-        a = put(out, a, wide(source(rest)), 2);
-        rest = rest / 256;
+    for _ in 0..set_size(set) {
+        a = put(out, a, u64::from(source(rest)), 2);
+        rest /= 256;
     }
     a
 }
@@ -320,10 +283,8 @@ fn put_listed(out: &mut File, at: usize, version: u64, path: u64) -> usize {
 // The position of path reduction j of a plan.
 fn slot(q: &File, j: u8) -> usize {
     let mut at: usize = 7;
-    let mut i: u8 = 0;
-    while i < j {
+    for _ in 0..j {
         at = plus(at, listed_size(q, at));
-        i += 1;
     }
     at
 }
@@ -381,10 +342,7 @@ fn path_of(x: u64) -> PathReduction {
 
 // Has a reduction of a query, or an entry by its reduction byte, a condition?
 fn has_condition(tag: u8) -> bool {
-    if tag == 0x23 {
-        return true;
-    }
-    128 <= tag
+    tag == 0x23 || 128 <= tag
 }
 
 // How many terms there are below a term, or behind the reduction byte of an entry: below 0x10 without, from 128 on with a condition.
@@ -423,14 +381,12 @@ fn term_size(q: &File, at: usize) -> usize {
 fn behind(q: &File, at: usize, terms: u8) -> usize {
     let mut p = at;
     let mut due = terms as usize;
-    let mut i: usize = 0;
-    while i < 80 {
+    for _ in 0..80 {
         if due == 0 {
             return p;
         }
-        due = due - 1 + arity(byte(q, p)) as usize;
+        due = (due - 1).saturating_add(arity(byte(q, p)) as usize);
         p = plus(p, term_size(q, p));
-        i += 1;
     }
     p
 }
@@ -442,7 +398,7 @@ fn random_case(seed: u64, query: bool) -> Case {
     let a = next(seed);
     let b = next(a);
     let kind = a / 4 % 8;
-    let entries = fewer(kind, if query { 8 } else { 4 });
+    let entries = kind.saturating_sub(if query { 8 } else { 4 });
     let part = 1 + a / 32 % 4;
     let n = 1 + (a % 4) as u16;
     Case {
@@ -454,7 +410,7 @@ fn random_case(seed: u64, query: bool) -> Case {
         kind: kind / 4,
         paths: a / 128 % 9,
         entries,
-        share: fewer(64 / (1 + entries), 1) / part,
+        share: (64 / (1 + entries)).saturating_sub(1) / part,
         depth: 16 / part,
         odds: 1 + b % 8,
         at: 0,
@@ -473,7 +429,7 @@ fn random_case(seed: u64, query: bool) -> Case {
 fn random_number(i: usize, n: u16, seed: u64) -> u16 {
     let j = (i % 4) as u16;
     if j < 2 {
-        return below(seed / 16, wide(n)) as u16;
+        return below(seed / 16, u64::from(n)) as u16;
     }
     if seed % 16 == 0 {
         return 65535 - (j - 2);
@@ -485,15 +441,13 @@ fn random_number(i: usize, n: u16, seed: u64) -> u16 {
 fn random_graph(graph: &mut File, rows: &mut Rows, n: u16, seed: u64) -> u64 {
     let edges = seed % 7;
     let count = 4 * edges as usize;
-    put(graph, 0, GRAPH + SIXTH * (wide(n) + 65536 * edges), 8);
+    put(graph, 0, GRAPH + SIXTH * (u64::from(n) + 65536 * edges), 8);
     let mut s = seed;
-    let mut i: usize = 0;
-    while i < count {
+    for i in 0..count {
         s = next(s);
         let x = random_number(i, n, s);
         rows[i] = x;
-        put(graph, 9 + 2 * i, wide(x), 2);
-        i += 1;
+        put(graph, 9 + 2 * i, u64::from(x), 2);
     }
     s
 }
@@ -503,7 +457,7 @@ fn with_source(set: u64, v: u8, bit: u64) -> u64 {
     if bit == 0 {
         return set;
     }
-    set % FOURTH * 256 + wide8(v) + 1
+    set % FOURTH * 256 + u64::from(v) + 1
 }
 
 // Any of the vertices, one at least; seldom with one more that is no vertex.
@@ -515,7 +469,7 @@ fn random_set(seed: u64, n: u16) -> u64 {
         _ => 15,
     };
     let bits = 1 + below(seed / 64, all);
-    let none = if seed % 64 == 0 { wide(n) + 1 } else { 0 };
+    let none = if seed % 64 == 0 { u64::from(n) + 1 } else { 0 };
     let a = with_source(none, 3, bits / 8 % 2);
     let b = with_source(a, 2, bits / 4 % 2);
     let c = with_source(b, 1, bits / 2 % 2);
@@ -527,10 +481,10 @@ fn random_set(seed: u64, n: u16) -> u64 {
 fn random_sources(seed: u64, n: u16, several: bool) -> u64 {
     let x = seed % 64;
     if 48 < x {
-        return 1 + below(seed / 64, wide(n));
+        return 1 + below(seed / 64, u64::from(n));
     }
     if x == 48 {
-        return wide(n) + 1;
+        return u64::from(n) + 1;
     }
     if several {
         return if x < 16 { 0 } else { random_set(seed / 64, n) };
@@ -555,11 +509,9 @@ fn random_path(seed: u64, n: u16, several: bool) -> u64 {
 fn random_paths(table: &mut Table, c: Case, seed: u64) -> u64 {
     let count = (c.paths % 9) as usize;
     let mut s = seed;
-    let mut j: usize = 0;
-    while j < count {
+    for path in &mut table[..count] {
         s = next(s);
-        table[j] = random_path(s, c.n, c.query || c.version == 2);
-        j += 1;
+        *path = random_path(s, c.n, c.query || c.version == 2);
     }
     s
 }
@@ -575,13 +527,11 @@ fn drawn(table: &Table, c: Case) -> Paths {
 // A plan as far as its path reductions. Returns where the next byte goes.
 fn put_paths(out: &mut File, p: Paths, version: u64, kind: u64) -> usize {
     let list = p.list;
-    let count = lesser(p.count, 8);
+    let count = p.count.min(8);
     let head = PLAN + FOURTH * (version % 256);
     let mut at = put(out, 0, head + SIXTH * (kind % 2 + 256 * count as u64), 7);
-    let mut j: usize = 0;
-    while j < count {
-        at = put_listed(out, at, version, list[j]);
-        j += 1;
+    for path in &list[..count] {
+        at = put_listed(out, at, version, *path);
     }
     at
 }
@@ -641,10 +591,8 @@ fn leaf_tag(seed: u64, c: Case, res: bool, room: u64) -> u8 {
 fn random_tag(c: Case, res: bool, left: u64) -> u8 {
     let seed = c.seed;
     let most = room(c, left);
-    if 2 <= most {
-        if seed % 8 < c.odds {
-            return pick(res, 0x22, 0x12);
-        }
+    if 2 <= most && seed % 8 < c.odds {
+        return pick(res, 0x22, 0x12);
     }
     if seed / 8 % 8 == 0 {
         return pick(res, 0x21, 0x11);
@@ -661,7 +609,7 @@ fn random_code(seed: u64, c: Case, tag: u8) -> u64 {
         0x31 => below(seed, c.entries),
         0x30 => below(seed, c.paths),
         0x10 => below(seed, c.paths) + 8 * (seed / 1024 % 2),
-        _ => wide8(OPERATORS[(seed % 16) as usize]),
+        _ => u64::from(OPERATORS[(seed % 16) as usize]),
     }
 }
 
@@ -675,7 +623,7 @@ fn put_term(out: &mut File, table: &Table, at: usize, tag: u8, code: u64) -> usi
         0x11 | 0x21 => 5,
         _ => 2,
     };
-    put(out, at, wide8(tag) + 256 * (code % SOURCE), size)
+    put(out, at, u64::from(tag) + 256 * (code % SOURCE), size)
 }
 
 // Behind a tag and its code, or behind the byte of an entry: its terms, the condition first, are due here.
@@ -683,7 +631,7 @@ fn begun(c: Case, tag: u8, at: usize) -> Case {
     let mut r = c;
     r.at = at;
     r.tag = tag;
-    r.free = fewer(c.free, wide8(arity(tag)));
+    r.free = c.free.saturating_sub(u64::from(arity(tag)));
     if has_condition(tag) {
         r.condition = at;
     }
@@ -692,10 +640,7 @@ fn begun(c: Case, tag: u8, at: usize) -> Case {
 
 // Is it a reduction, or an entry?
 fn reduces(tag: u8) -> bool {
-    match tag {
-        0x20 | 0x23 | 0x31 => true,
-        _ => false,
-    }
+    matches!(tag, 0x20 | 0x23 | 0x31)
 }
 
 // One term more, with so much depth left, without those below it.
@@ -704,16 +649,16 @@ fn put_one(out: &mut File, table: &Table, c: Case, tag: u8, code: u64, left: u64
     r.terms = count(c.terms, true);
     r.path_terms = count(c.path_terms, tag % 32 == 16);
     r.reductions = count(c.reductions, reduces(tag));
-    r.least = fewer(c.least, fewer(c.least, left));
+    r.least = c.least.min(left);
     r
 }
 
 // A condition that compares a path reduction with a literal.
 fn put_comparison(out: &mut File, table: &Table, c: Case, left: u64) -> Case {
-    let inner = fewer(left, 1);
+    let inner = left.saturating_sub(1);
     let seed = next(c.seed);
     let operator = COMPARING[(c.seed / 64 % 4) as usize];
-    let mut r = put_one(out, table, c, 0x12, wide8(operator), left);
+    let mut r = put_one(out, table, c, 0x12, u64::from(operator), left);
     let tag = leaf_tag(seed, c, false, 0);
     r = put_one(out, table, r, tag, random_code(seed / 64, c, tag), inner);
     r.seed = next(seed);
@@ -722,12 +667,7 @@ fn put_comparison(out: &mut File, table: &Table, c: Case, left: u64) -> Case {
 
 // Does a condition start here that is to compare? Half of them, where there is room.
 fn compares(c: Case, left: u64) -> bool {
-    if has_condition(c.tag) {
-        if 2 <= room(c, left) {
-            return c.seed / 1024 % 2 == 0;
-        }
-    }
-    false
+    has_condition(c.tag) && 2 <= room(c, left) && c.seed / 1024 % 2 == 0
 }
 
 // One term more, with so much depth left, without those below it, or a whole condition.
@@ -762,7 +702,7 @@ fn make(out: &mut File, table: &Table, c: Case, res: bool, left: u64) -> Case {
 // With a share of terms: one, and those that may be added.
 fn with_share(c: Case) -> Case {
     let mut r = c;
-    r.free = count(std::num::wrapping_add_u64(c.free, c.share), true);
+    r.free = count(c.free.wrapping_add(c.share), true);
     r
 }
 
@@ -778,7 +718,7 @@ fn random_reduction(seed: u64) -> u8 {
 // An entry more, with its share of terms: its byte, the condition's expression where it has one, then the value's.
 fn make_entry(out: &mut File, table: &Table, c: Case) -> Case {
     let tag = random_reduction(c.seed);
-    let mut r = begun(with_share(c), tag, put(out, c.at, wide8(tag), 1));
+    let mut r = begun(with_share(c), tag, put(out, c.at, u64::from(tag), 1));
     if has_condition(tag) {
         r = make(out, table, r, false, c.depth);
     }
@@ -788,7 +728,7 @@ fn make_entry(out: &mut File, table: &Table, c: Case) -> Case {
 // The expression whose values are asked for, with its share of terms.
 fn make_last(out: &mut File, table: &Table, c: Case, res: bool) -> Case {
     let mut r = with_share(c);
-    r.free = fewer(r.free, 1);
+    r.free = r.free.saturating_sub(1);
     r.root = c.at;
     make(out, table, r, res, c.depth)
 }
@@ -806,23 +746,13 @@ fn make_file(out: &mut File, table: &Table, c: Case) -> Case {
     let count = c.entries % 4;
     let mut r = c;
     r.at = put_head(out, table, c);
-    let mut k: u64 = 0;
-    while k < count {
+    for _ in 0..count {
         r = make_entry(out, table, r);
-        k += 1;
     }
     make_last(out, table, r, c.kind == 1)
 }
 
 // ---- what is expected
-
-const EQUAL: u8 = 0;
-
-const NO_VERTEX: u8 = 1;
-
-const SEVERAL: u8 = 2;
-
-const CHANGED: u8 = 3;
 
 // Is one of the sources none of the n vertices? The greatest comes last.
 fn no_vertex(set: u64, n: u16) -> bool {
@@ -832,44 +762,39 @@ fn no_vertex(set: u64, n: u16) -> bool {
         2 => set / 256,
         _ => set,
     };
-    wide(n) < last % 256
+    u64::from(n) < last % 256
 }
 
-// Is a path reduction the number x, has it a source that is none of the n vertices, two sources or more, or do walks of one edge more than
-// x change a figure?
-fn is_so(test: u8, path: u64, x: u64, rows: &Rows, n: u16) -> bool {
-    match test {
-        EQUAL => path == x,
-        NO_VERTEX => no_vertex(path / SOURCE, n),
-        SEVERAL => 256 <= path / SOURCE,
-        _ => !walked::unchanged(rows, n, path_of(path), x as usize),
-    }
+// Do walks of one edge more than x change a figure of a path reduction?
+fn changes(path: u64, x: u16, rows: &Rows, n: u16) -> bool {
+    !walked::unchanged(rows, n, path_of(path), x as usize)
+}
+
+// Has it two sources or more?
+fn several(path: u64) -> bool {
+    256 <= path / SOURCE
 }
 
 // Is it so of one of them?
-fn any(p: Paths, test: u8, x: u64, rows: &Rows, n: u16) -> bool {
+fn any<F: Fn(u64) -> bool>(p: Paths, is_so: F) -> bool
+    requires { F.IsAlwaysCallable is_so }
+{
     let list = p.list;
-    let count = lesser(p.count, 8);
-    let mut j: usize = 0;
-    while j < count {
-        if is_so(test, list[j], x, rows, n) {
+    for path in &list[..p.count.min(8)] {
+        if is_so(*path) {
             return true;
         }
-        j += 1;
     }
     false
 }
 
 // With the path reduction of a term of a query, if it is not there.
-fn with_path(p: Paths, q: &File, at: usize, rows: &Rows) -> Paths {
-    let tag = byte(q, at);
-    if tag != 0x10 {
-        if tag != 0x13 {
-            return p;
-        }
+fn with_path(p: Paths, q: &File, at: usize) -> Paths {
+    if !matches!(byte(q, at), 0x10 | 0x13) {
+        return p;
     }
     let path = path_at(q, at);
-    if any(p, EQUAL, path, rows, 0) {
+    if any(p, |other| other == path) {
         return p;
     }
     let i = p.count;
@@ -883,7 +808,7 @@ fn with_path(p: Paths, q: &File, at: usize, rows: &Rows) -> Paths {
 
 // The path reductions of a plan: as it is written, or for a query from term to term. "Fusing puts equal chains together, in order of
 // first writing".
-fn gathered(table: &Table, c: Case, q: &File, rows: &Rows) -> Paths {
+fn gathered(table: &Table, c: Case, q: &File) -> Paths {
     let mut r = drawn(table, c);
     if !c.query {
         return r;
@@ -891,19 +816,17 @@ fn gathered(table: &Table, c: Case, q: &File, rows: &Rows) -> Paths {
     r.count = 0;
     let count = c.terms % 65;
     let mut at: usize = 6;
-    let mut i: u64 = 0;
-    while i < count {
-        r = with_path(r, q, at, rows);
+    for _ in 0..count {
+        r = with_path(r, q, at);
         at = plus(at, term_size(q, at));
-        i += 1;
     }
     r
 }
 
 // A plan as far as they go. "Fusing writes version 2 .. when some set has two or more; else version 1."
-fn fused_head(p: Paths, c: Case, rows: &Rows) -> File {
+fn fused_head(p: Paths, c: Case) -> File {
     let mut out = [0u8; 560];
-    let version = if any(p, SEVERAL, 0, rows, 0) { 2 } else { 1 };
+    let version = if any(p, several) { 2 } else { 1 };
     put_paths(&mut out, p, version, c.kind);
     out
 }
@@ -986,9 +909,8 @@ fn worth(q: &File, at: usize, rows: &Rows, n: usize, vertex: usize, most: u16, l
     let mut found = [Row {
         value: Value::Absent,
     }; 256];
-    let count = lesser(n, 4);
-    let mut v: usize = 0;
-    while v < count {
+    let count = n.min(4);
+    for v in 0..count {
         let condition = if first == last {
             Value::Number(1)
         } else {
@@ -998,9 +920,8 @@ fn worth(q: &File, at: usize, rows: &Rows, n: usize, vertex: usize, most: u16, l
             let x = worth(q, last, rows, n, v, most, left - 1);
             found[v] = Row { value: x };
         }
-        v += 1;
     }
-    value::reduce_rows(byte(q, entry) % 128, found, count)
+    value::reduce_rows(byte(q, entry) % 128, &found, count)
 }
 
 // "n rows for kind 0 or one row for kind 1"
@@ -1010,7 +931,7 @@ fn row_count(c: Case) -> usize
     if c.kind != 0 {
         return 1;
     }
-    lesser(c.n as usize, 4)
+    (c.n as usize).min(4)
 }
 
 // The buffer after a run: the answer over walks of at most so many edges, or nothing where it is refused.
@@ -1023,15 +944,13 @@ fn wanted(code: u32, c: Case, rounds: u16, most: u16, q: &File, rows: &Rows) -> 
     let mut at = put(
         &mut out,
         5,
-        wide(c.n) + 65536 * wide(rounds) + SOURCE * (c.kind % 2),
+        u64::from(c.n) + 65536 * u64::from(rounds) + SOURCE * (c.kind % 2),
         5,
     );
     let count = row_count(c);
-    let mut v: usize = 0;
-    while v < count {
+    for v in 0..count {
         let x = worth(q, c.root, rows, c.n as usize, v, most, 40);
         at = put_row(&mut out, at, x);
-        v += 1;
     }
     out
 }
@@ -1039,12 +958,10 @@ fn wanted(code: u32, c: Case, rounds: u16, most: u16, q: &File, rows: &Rows) -> 
 // "the smallest r, one or more, for which each figure of each chain at each place is the same over walks of at most r passages as
 // over walks of at most r - 1"; 0, which no run reports, if there is none up to 2n.
 fn rounds_of(p: Paths, rows: &Rows, n: u16, most: u16) -> u16 {
-    let mut r: u16 = 0;
-    while r < most {
-        if !any(p, CHANGED, wide(r), rows, n) {
+    for r in 0..most {
+        if !any(p, |path| changes(path, r, rows, n)) {
             return r + 1;
         }
-        r += 1;
     }
     0
 }
@@ -1053,7 +970,7 @@ fn rounds_of(p: Paths, rows: &Rows, n: u16, most: u16) -> u16 {
 fn expected_code(p: Paths, rows: &Rows, n: u16, size: usize, lent: usize) -> u32
     requires { size ≤ 46 }
 {
-    if any(p, NO_VERTEX, 0, rows, n) {
+    if any(p, |path| no_vertex(path / SOURCE, n)) {
         return 65549;
     }
     if lent < size {
@@ -1065,36 +982,45 @@ fn expected_code(p: Paths, rows: &Rows, n: u16, size: usize, lent: usize) -> u32
 // What the runs of a file should return. Seldom a byte less is lent than the answer takes, else up to three bytes more.
 fn expect(c: Case, graph: &File, rows: &Rows, p: Paths) -> Expected {
     let size = 10 + 9 * row_count(c);
-    let lent = size - 1 + lesser((c.seed % 16) as usize, 4);
+    let lent = size - 1 + ((c.seed % 16) as usize).min(4);
     Expected {
         code: expected_code(p, rows, c.n, size, lent),
         file: c.at,
         graph: 9 + 8 * byte(graph, 7) as usize,
         lent,
         rounds: rounds_of(p, rows, c.n, c.most),
-        stop: below(c.seed / 16, wide(c.most) + 1) as u16,
+        stop: below(c.seed / 16, u64::from(c.most) + 1) as u16,
     }
 }
 
 // ---- calls
 
-const PULL: u8 = 0;
+#[derive(Clone, Copy)]
+enum Call {
+    Pull,
+    Push,
+    PullRounds,
+    PushRounds,
+    Fuse,
+    Judge,
+    Sort,
+}
 
-const FUSE: u8 = 4;
+// A judged file has written nothing.
+fn judge(file: &[u8]) -> Result<u16, Refusal> {
+    plan::judge(file)?;
+    Ok(0)
+}
 
-const JUDGE: u8 = 5;
-
-const SORT: u8 = 6;
-
-fn run(call: u8, rounds: u16, file: &[u8], graph: &[u8], out: &mut [u8]) -> u32 {
+fn run(call: Call, rounds: u16, file: &[u8], graph: &[u8], out: &mut [u8]) -> Result<u16, Refusal> {
     match call {
-        0 => engine::pull(file, graph, Limit::Quiet, out),
-        1 => engine::push(file, graph, Limit::Quiet, out),
-        2 => engine::pull(file, graph, Limit::Rounds(rounds), out),
-        3 => engine::push(file, graph, Limit::Rounds(rounds), out),
-        4 => fusion::fuse(file, out),
-        6 => sorted_graph::sort(file, out),
-        _ => plan::judge(file) as u32,
+        Call::Pull => engine::pull(file, graph, Limit::Quiet, out),
+        Call::Push => engine::push(file, graph, Limit::Quiet, out),
+        Call::PullRounds => engine::pull(file, graph, Limit::Rounds(rounds), out),
+        Call::PushRounds => engine::push(file, graph, Limit::Rounds(rounds), out),
+        Call::Fuse => fusion::fuse(file, out),
+        Call::Judge => judge(file),
+        Call::Sort => sorted_graph::sort(file, out),
     }
 }
 
@@ -1106,12 +1032,13 @@ struct Ran {
 }
 
 // The files are cut to what was written, and the first bytes of a buffer are lent.
-fn lend(call: u8, e: Expected, file: File, graph: File) -> Ran {
-    let p = lesser(e.file, 560);
-    let g = lesser(e.graph, 560);
-    let lent = lesser(e.lent, 560);
+fn lend(call: Call, e: Expected, file: File, graph: File) -> Ran {
+    let p = e.file.min(560);
+    let g = e.graph.min(560);
+    let lent = e.lent.min(560);
     let mut out = [FILL; 560];
-    let code = run(call, e.stop, &file[..p], &graph[..g], &mut out[..lent]);
+    let ended = run(call, e.stop, &file[..p], &graph[..g], &mut out[..lent]);
+    let code = wire::number_of(ended);
     Ran { code, out }
 }
 
@@ -1119,18 +1046,12 @@ fn lend(call: u8, e: Expected, file: File, graph: File) -> Ran {
 fn differ(x: &File, y: &File, len: usize) -> u64
     ensures { result ≤ 1 }
 {
-    let mut i: usize = 0;
-    while i < len {
-        if byte(x, i) != byte(y, i) {
-            return 1;
-        }
-        i += 1;
-    }
-    0
+    let n = len.min(560);
+    u64::from(x[..n] != y[..n])
 }
 
 // 1 where a call returns something else, or leaves other bytes.
-fn differs(call: u8, e: Expected, file: File, graph: File, want: File) -> u64
+fn differs(call: Call, e: Expected, file: File, graph: File, want: File) -> u64
     ensures { result ≤ 1 }
 {
     let ran = lend(call, e, file, graph);
@@ -1145,10 +1066,10 @@ fn differs(call: u8, e: Expected, file: File, graph: File, want: File) -> u64
 fn runs_differ(e: Expected, file: File, graph: File, whole: File, stopped: File) -> u64
     ensures { result ≤ 4 }
 {
-    let a = differs(PULL, e, file, graph, whole);
-    let b = differs(1, e, file, graph, whole);
-    let c = differs(2, e, file, graph, stopped);
-    let d = differs(3, e, file, graph, stopped);
+    let a = differs(Call::Pull, e, file, graph, whole);
+    let b = differs(Call::Push, e, file, graph, whole);
+    let c = differs(Call::PullRounds, e, file, graph, stopped);
+    let d = differs(Call::PushRounds, e, file, graph, stopped);
     a + b + c + d
 }
 
@@ -1157,13 +1078,13 @@ fn sorted_differ(e: Expected, file: File, graph: File, whole: File, stopped: Fil
     ensures { result ≤ 6 }
 {
     let mut f = e;
-    f.code = lesser(e.graph, 560) as u32;
+    f.code = e.graph.min(560) as u32;
     f.file = e.graph;
     f.lent = 560;
-    let ran = lend(SORT, f, graph, graph);
+    let ran = lend(Call::Sort, f, graph, graph);
     let made = ran.out;
-    let a = differs(SORT, f, graph, graph, made);
-    let b = differs(SORT, f, made, made, made);
+    let a = differs(Call::Sort, f, graph, graph, made);
+    let b = differs(Call::Sort, f, made, made, made);
     a + b + runs_differ(e, file, made, whole, stopped)
 }
 
@@ -1179,16 +1100,16 @@ fn both_differ(e: Expected, file: File, graph: File, whole: File, stopped: File)
 fn fused_differ(e: Expected, q: File, head: File, graph: File, whole: File, stopped: File) -> u64 {
     let mut f = e;
     f.lent = 560;
-    let ran = lend(FUSE, f, q, graph);
+    let ran = lend(Call::Fuse, f, q, graph);
     let made = ran.out;
     let size = ran.code as usize;
     let a = differ(&made, &head, slot(&head, byte(&head, 6)));
     f.code = ran.code;
     f.lent = size;
-    let b = differs(FUSE, f, q, graph, made);
+    let b = differs(Call::Fuse, f, q, graph, made);
     f.code = 65551;
-    f.lent = fewer(size as u64, 1) as usize;
-    let c = differs(FUSE, f, q, graph, [FILL; 560]);
+    f.lent = (size as u64).saturating_sub(1) as usize;
+    let c = differs(Call::Fuse, f, q, graph, [FILL; 560]);
     let mut g = e;
     g.file = size;
     a + b + c + both_differ(g, made, graph, whole, stopped)
@@ -1204,18 +1125,13 @@ fn damage(file: &mut File, len: usize, seed: u64) -> usize {
         return i;
     }
     let by = 1 + below(s / 8, 1 + s / 4 % 2 * 254);
-    put(file, i, wide8(byte(file, i)) + by, 1);
+    put(file, i, u64::from(byte(file, i)) + by, 1);
     len
 }
 
 // May a reader refuse by this number? Each but 15, of a query also but 16.
 fn may_refuse(query: bool, number: u32) -> bool {
-    match number {
-        1..=14 => true,
-        16 => !query,
-        17 => true,
-        _ => false,
-    }
+    matches!(number, 1..=14 | 17) || number == 16 && !query
 }
 
 // 1 where a refusal is by no number of those that may be or changes the buffer; or where the reader of plans does not take what was
@@ -1225,17 +1141,17 @@ fn damaged_differ(e: Expected, query: bool, ran: Ran, file: File, graph: File) -
     let out = ran.out;
     let blank = [FILL; 560];
     if 65536 <= code {
-        if !may_refuse(query, std::num::wrapping_sub_u32(code, 65536)) {
+        if !may_refuse(query, code.wrapping_sub(65536)) {
             return 1;
         }
         return differ(&out, &blank, 560);
     }
     if !query {
-        return differs(JUDGE, e, file, graph, blank);
+        return differs(Call::Judge, e, file, graph, blank);
     }
     let mut f = e;
     f.file = code as usize;
-    differs(JUDGE, f, out, graph, blank)
+    differs(Call::Judge, f, out, graph, blank)
 }
 
 // ---- counts
@@ -1249,11 +1165,11 @@ fn with_differences(rt: &impl Print, score: Score, differences: u64) -> Score {
     if score.differences < 10 {
         line(
             rt,
-            b"\ndiffers in case, by so many calls, after so many, seed",
+            "differs in case, by so many calls, after so many, seed",
             [score.cases, differences, score.differences, score.seed],
         );
     }
-    r.differences = std::num::wrapping_add_u64(score.differences, differences);
+    r.differences = score.differences.wrapping_add(differences);
     r
 }
 
@@ -1267,7 +1183,7 @@ fn scored(score: Score, c: Case, e: Expected, paths: u64, first: u8) -> Score {
     r.several = count(score.several, 1 < c.reductions);
     r.eight = count(score.eight, paths == 8);
     r.full = count(score.full, c.terms == 64);
-    r.deep = count(score.deep, c.least == fewer(17, c.depth));
+    r.deep = count(score.deep, c.least == 17u64.saturating_sub(c.depth));
     r
 }
 
@@ -1314,12 +1230,8 @@ fn try_file(
     let e = expect(c, &graph, rows, p);
     let whole = wanted(e.code, c, e.rounds, c.most, &file, rows);
     let stopped = wanted(e.code, c, e.stop, e.stop, &file, rows);
-    let head = if c.query {
-        fused_head(p, c, rows)
-    } else {
-        file
-    };
-    let sets = with_sets(score, c, e, head[3], any(p, SEVERAL, 0, rows, 0));
+    let head = if c.query { fused_head(p, c) } else { file };
+    let sets = with_sets(score, c, e, head[3], any(p, several));
     let r = with_condition(
         scored(sets, c, e, p.count as u64, whole[10]),
         c,
@@ -1349,7 +1261,7 @@ fn try_damaged(
         rounds: 0,
         stop: 0,
     };
-    let ran = lend(pick(query, FUSE, PULL), e, file, graph);
+    let ran = lend(if query { Call::Fuse } else { Call::Pull }, e, file, graph);
     let mut r = score;
     r.damaged = count(score.damaged, true);
     r.refused = count(score.refused, 65536 <= ran.code);
@@ -1375,15 +1287,7 @@ fn try_case(rt: &impl Print, score: Score, query: bool) -> Score {
         let len = damage(&mut file, c.at, r.seed);
         return try_damaged(rt, r, query, len, file, graph);
     }
-    try_file(
-        rt,
-        r,
-        c,
-        &rows,
-        gathered(&table, c, &file, &rows),
-        file,
-        graph,
-    )
+    try_file(rt, r, c, &rows, gathered(&table, c, &file), file, graph)
 }
 
 fn try_all(rt: &impl Print, query: bool) -> Score {
@@ -1410,71 +1314,49 @@ fn try_all(rt: &impl Print, query: bool) -> Score {
         outside: 0,
         differences: 0,
     };
-    let mut i: u64 = 0;
-    while i < CASES {
+    for _ in 0..CASES {
         score = try_case(rt, score, query);
-        i += 1;
     }
     score
 }
 
-// Writes bytes to the standard output. What cannot be written is passed over.
-fn write_all(rt: &impl Print, bytes: &[u8]) {
-    let _ = rt.write_all(bytes);
-}
-
-// Likewise a number, in decimal.
-fn print_decimal(rt: &impl Print, x: u64) {
-    let _ = rt.print(x);
-}
-
-fn number(rt: &impl Print, x: u64) {
-    write_all(rt, b" ");
-    print_decimal(rt, x);
-}
-
-// A name, which starts a line, and four numbers.
-fn line(rt: &impl Print, name: &[u8], counts: [u64; 4]) {
-    write_all(rt, name);
-    let mut i: usize = 0;
-    while i < 4 {
-        number(rt, counts[i]);
-        i += 1;
-    }
+// A line that starts with a name, and four numbers. What cannot be written is passed over.
+fn line(rt: &impl Print, name: &str, [a, b, c, d]: [u64; 4]) {
+    let _ = print!(rt; "\n{name} {a} {b} {c} {d}");
 }
 
 fn print(rt: &impl Print, score: Score) {
     line(
         rt,
-        b"\ncases, refused, damaged, damaged and read:",
+        "cases, refused, damaged, damaged and read:",
         [score.cases, score.refused, score.damaged, score.read],
     );
     line(
         rt,
-        b"\na number in the first row, more rounds than places, more chain terms than chains, eight chains:",
+        "a number in the first row, more rounds than places, more chain terms than chains, eight chains:",
         [score.numbers, score.long, score.shared, score.eight],
     );
     line(
         rt,
-        b"\na condition, the last one absent at place 0, 0 there, above 1:",
+        "a condition, the last one absent at place 0, 0 there, above 1:",
         [score.conditions, score.absent, score.zero, score.above],
     );
     line(
         rt,
-        b"\na worksheet of version 2, a chain from two starts or more, more rounds than places with one, 13 with one:",
+        "a worksheet of version 2, a chain from two starts or more, more rounds than places with one, 13 with one:",
         [score.second, score.sets, score.long_sets, score.outside],
     );
     line(
         rt,
-        b"\ntwo reductions or more, 64 terms, depth 16, calls that differ:",
+        "two reductions or more, 64 terms, depth 16, calls that differ:",
         [score.several, score.full, score.deep, score.differences],
     );
 }
 
 fn main(rt: HostRuntime) {
-    write_all(&rt, b"worksheets");
+    let _ = print!(rt; "worksheets");
     print(&rt, try_all(&rt, false));
-    write_all(&rt, b"\nquestions");
+    let _ = print!(rt; "\nquestions");
     print(&rt, try_all(&rt, true));
-    write_all(&rt, b"\n");
+    let _ = println!(rt;);
 }

@@ -110,7 +110,7 @@ fn run(push: bool, board: &[u8], graph: &[u8], limit: Limit, out: &mut [u8]) -> 
         out.new }
 {
     let w = board_text::scan(board)?;
-    engine::judge(&w, graph)?;
+    engine::judge(&Ok(w), graph)?;
     let n = engine::vertices(graph);
     let count = wire::byte(board, 0);
     let queries = &board[1..];

@@ -64,8 +64,23 @@ pub fn front(s: &[u8], len: usize) -> &[u8]
     &s[..len.min(s.len())]
 }
 
-// The end of a writer by draft: refuses by the number that its bytes were judged by, or lays them (no layout has more than 65,535).
-pub fn deliver(bytes: &[u8], judged: Result<(), Refusal>, out: &mut [u8]) -> Result<u16, Refusal>
+// The end of a writer by draft: refuses by the number that its bytes were judged by, 0 for none, or lays them (no layout has more than 65,535).
+// Kept: a number, any byte, and a number as result, since no refusal has the numbers above 17 and the promise is of each (DECISIONS 126).
+pub fn deliver(bytes: &[u8], code: u8, out: &mut [u8]) -> u32
+    ensures { Returned (unless code (fitted (take 65535 bytes.now) (length out.old))) result out.old out.new }
+{
+    if code != 0 {
+        return 65536 + u32::from(code);
+    }
+    wire::number_of(wire::lay(bytes, 65535, out))
+}
+
+// The same by what the bytes were judged as.
+pub fn deliver_judged(
+    bytes: &[u8],
+    judged: Result<(), Refusal>,
+    out: &mut [u8],
+) -> Result<u16, Refusal>
     ensures { Returned (unless (code judged) (fitted (take 65535 bytes.now) (length out.old))) (number_of result) out.old out.new }
 {
     judged?;

@@ -130,6 +130,11 @@ pub run_ended : (limit : Limit) (s m : List ℕ) → Bytes s → (room : ℕ) (e
     → run_reply limit s m room ≡ refused (number e)
 run_ended limit s m bytes room e k = run_refused limit s m bytes room (number e) k (number_some e)
 
+-- a refused reading is refused by its own number
+pub read_refused : (e : Refusal) (m : List ℕ) → run_code (blank (number e)) m ≡ number e
+unfolding run_code blank
+read_refused e m = rw (ne_eqb (number e) 0 (number_some e)) refl
+
 -- so where the worksheet's reader refuses
 pub scan_ended : (limit : Limit) (s m : List ℕ) → Bytes s → (room : ℕ) (e : Refusal) → blank (number e) ≡ plan_scan s
     → run_reply limit s m room ≡ refused (number e)

@@ -3,7 +3,7 @@
 
 ghost use Rattle.std.specs.Prelude.{◌≡◌, ◌+◌, ◌*◌, ◌≤◌, length, map};
 ghost use Rattle.wire.specs.Refusal.{code, number_of};
-ghost use Rattle.progress.specs.Progress.{going};
+ghost use Rattle.progress.specs.Progress.{going, scan_of};
 ghost use Rattle.walks.specs.Lists.{All};
 ghost use Rattle.meaning.specs.Limits.{PathFits};
 ghost use Rattle.graph.specs.Graph.{graph_code, graph_of};
@@ -61,9 +61,9 @@ fn judge_sources(paths: &[PackedPath], n: u64) -> Result<(), Refusal>
     Ok(())
 }
 
-// "A run judges the worksheet, the map, starts in chain order": the first refusal, of a worksheet that was read.
+// The refusal of the map, of the starts, of a worksheet that was read.
 #[tactic(auto, using(std::proofs::lemmas::List::take_min), unfolding(crate::specs::Steps::run_code))]
-pub fn judge(w: &Progress, graph: &[u8]) -> Result<(), Refusal>
+fn judge_read(w: &Progress, graph: &[u8]) -> Result<(), Refusal>
     ensures { code result ≡ run_code (going w.now) graph.now }
 {
     graph::judge(graph)?;
@@ -71,6 +71,17 @@ pub fn judge(w: &Progress, graph: &[u8]) -> Result<(), Refusal>
     let table: &[PackedPath] = &w.table;
     let count = w.paths.min(table.len());
     judge_sources(&table[..count], u64::from(n))
+}
+
+// "A run judges the worksheet, the map, starts in chain order": the first refusal.
+#[tactic(auto, using(crate::proofs::Meant::read_refused))]
+pub fn judge(read: &Result<Progress, Refusal>, graph: &[u8]) -> Result<(), Refusal>
+    ensures { code result ≡ run_code (scan_of read.now) graph.now }
+{
+    match read {
+        Ok(w) => judge_read(w, graph),
+        Err(refusal) => Err(*refusal),
+    }
 }
 
 impl Limit {
@@ -143,7 +154,7 @@ fn run(push: bool, plan: &[u8], graph: &[u8], limit: Limit, out: &mut [u8]) -> R
         out.new }
 {
     let w = plan::scan(plan)?;
-    judge(&w, graph)?;
+    judge(&Ok(w), graph)?;
     answer::judge(vertices(graph), wire::byte(plan, 5), out.len())?;
     if rounds::is_small(graph) {
         return answer_in(push, limit, plan, &w, graph, &mut [0u64; 176], out);

@@ -276,8 +276,7 @@ pub fn scan(s: &[u8]) -> Result<Progress, Refusal>
     let mut w = progress::start(7);
     read_paths(s, &mut w, count, wire::byte(s, 3))?;
     body(s, &mut w, kind)?;
-    progress::finish(s, &w)?;
-    Ok(w)
+    progress::finish(s, Ok(w))
 }
 
 // The first refusal, where there is one.

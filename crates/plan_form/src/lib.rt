@@ -120,5 +120,5 @@ pub fn write(form: &Form, out: &mut [u8]) -> Result<u16, Refusal>
     let mut bytes = [0u8; 3072];
     let n = put_form(form, &mut bytes);
     let text = draft::front(&bytes, n);
-    draft::deliver(text, plan::judge(text), out)
+    draft::deliver_judged(text, plan::judge(text), out)
 }

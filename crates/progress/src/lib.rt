@@ -3,7 +3,7 @@
 #![tactic(auto)]
 
 ghost use Rattle.std.specs.Prelude.{◌≡◌};
-ghost use Rattle.progress.specs.Progress.{going, scanned, started, ended};
+ghost use Rattle.progress.specs.Progress.{going, scan_of, started, ended};
 
 use packed_path::PackedPath;
 use wire::Refusal;
@@ -34,13 +34,14 @@ pub fn start(at: usize) -> Progress
     }
 }
 
-// After the last term: 6 where bytes are left over.
-#[tactic(auto, unfolding(crate::specs::Progress::ended))]
-pub fn finish(s: &[u8], w: &Progress) -> Result<(), Refusal>
-    ensures { scanned result w.now ≡ ended s.now (going w.now) }
+// After the last term: 6 where bytes are left over. A refusal is handed on.
+#[tactic(auto, unfolding(crate::specs::Progress::ended, crate::specs::Progress::blank))]
+pub fn finish(s: &[u8], read: Result<Progress, Refusal>) -> Result<Progress, Refusal>
+    ensures { scan_of result ≡ ended s.now (scan_of read) }
 {
+    let w = read?;
     if w.at < s.len() {
         return Err(Refusal::Length);
     }
-    Ok(())
+    Ok(w)
 }

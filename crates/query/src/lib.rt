@@ -31,8 +31,7 @@ pub fn scan(s: &[u8]) -> Result<Progress, Refusal>
     let kind = term_kind(fields::byte(s, 5));
     let mut w = progress::start(6);
     terms::read_term(s, &mut w, kind, 16)?;
-    progress::finish(s, &w)?;
-    Ok(w)
+    progress::finish(s, Ok(w))
 }
 
 // The first refusal, where there is one.

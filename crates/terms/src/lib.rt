@@ -2,7 +2,7 @@
 // numbers 1, 12, 11, 9 and then its fields. It moves a reading on, or gives the refusal.
 #![tactic(auto)]
 
-ghost use Rattle.std.specs.Prelude.{◌≡◌, ◌+◌, ◌<◌, ◌≤◌, IfOk, MatchOption, length};
+ghost use Rattle.std.specs.Prelude.{◌≡◌, ◌+◌, ◌<◌, ◌≤◌, IfOk, MatchOption, OnErr, length};
 ghost use Rattle.progress.specs.Progress.{going, scanned};
 ghost use Rattle.terms.specs.Terms.{kept_path, slot_of, path_step, set_step, reduce_step, index_step};
 ghost use Rattle.terms.specs.Terms.{literal_step, apply_step, stepped, tagged_step, read};
@@ -42,10 +42,11 @@ fn slot(w: &Progress, path: PackedPath) -> Option<usize>
     None
 }
 
-// The path reduction put into the table: 14 where it is a ninth.
+// The path reduction put into the table: 14 where it is a ninth, and the reading is as it was.
 #[tactic(auto, unfolding(crate::specs::Terms::kept_path))]
 pub fn keep_path(w: &mut Progress, path: PackedPath) -> Result<(), Refusal>
-    ensures { scanned result w.new ≡ kept_path (going w.old) path }
+    ensures kept { scanned result w.new ≡ kept_path (going w.old) path }
+    ensures refused { OnErr result (w.new ≡ w.old) }
 {
     let i = slot(w, path).ok_or(Refusal::Full)?;
     w.table[i] = path;
@@ -177,9 +178,9 @@ fn head_of(s: &[u8], w: &mut Progress, kind: TermKind, tag: u8) -> Result<Head, 
     }
 }
 
-// A term and all that it contains, from w on, with `left` levels of depth left: "for a term 1, 12, 11, 9, then each field".
+// A term and all that it contains, from w on, with `left` levels of depth left: "for a term 1, 12, 11, 9, then each field". A refusal leaves w where it was met.
 #[tactic(auto, using(crate::proofs::Reading::reading))]
-pub fn read_term(s: &[u8], w: &mut Progress, kind: TermKind, left: usize) -> Result<(), Refusal>
+fn read_on(s: &[u8], w: &mut Progress, kind: TermKind, left: usize) -> Result<(), Refusal>
     ensures { scanned result w.new ≡ read kind left s.now (going w.old) }
 {
     if s.len() <= w.at {
@@ -195,7 +196,18 @@ pub fn read_term(s: &[u8], w: &mut Progress, kind: TermKind, left: usize) -> Res
     w.at = term.end;
     w.terms += 1;
     for _ in 0..term.follow {
-        read_term(s, w, term.inner, left - 1)?;
+        read_on(s, w, term.inner, left - 1)?;
     }
+    Ok(())
+}
+
+// The same for a caller's reading, which a refusal leaves as it was: it is copied once, and not at each term.
+pub fn read_term(s: &[u8], w: &mut Progress, kind: TermKind, left: usize) -> Result<(), Refusal>
+    ensures read { scanned result w.new ≡ read kind left s.now (going w.old) }
+    ensures refused { OnErr result (w.new ≡ w.old) }
+{
+    let mut next = *w;
+    read_on(s, &mut next, kind, left)?;
+    *w = next;
     Ok(())
 }

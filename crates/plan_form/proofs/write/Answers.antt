@@ -17,4 +17,4 @@ returns c =
       ← text,
       ← c.judge.ensures,
       ← delivered found.result.now _ room (omega (arith, put.ensures.1, ap length text)),
-    ) c.deliver.ensures
+    ) c.deliver_judged.ensures

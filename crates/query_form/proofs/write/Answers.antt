@@ -12,4 +12,4 @@ returns c =
     let put = c.put_form-n in
     let room = length c.args.out.now in
     let text = found.ensures ∙ put.ensures.0 in
-    rw (← text, ← c.judge.ensures, ← delivered found.result.now _ room (omega (arith, put.ensures.1, ap length text))) c.deliver.ensures
+    rw (← text, ← c.judge.ensures, ← delivered found.result.now _ room (omega (arith, put.ensures.1, ap length text))) c.deliver_judged.ensures

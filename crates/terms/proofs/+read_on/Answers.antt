@@ -5,7 +5,7 @@ use lib.ListN.{get_or}
 use Rattle.progress.specs.Progress.{going}
 use Rattle.terms.specs.Terms.{Step, advanced}
 use Rattle.terms.proofs.Reading.{read_several, tagged_counts}
-use Rattle.terms.proofs.+read_term.Goals as goal
+use Rattle.terms.proofs.+read_on.Goals as goal
 
 pub overflow_add-w : goal.overflow_add-w
 unfolding advanced

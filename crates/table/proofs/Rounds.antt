@@ -9,6 +9,7 @@ use borrow.Author.Tests.{eq-eqb, le-ltb, lt-ltb, ne_eqb}
 use lib.Dec.{ltb}
 use lib.ListN.{length, get_or}
 use Rattle.wire.specs.Wire.{at16}
+use Rattle.graph.specs.Graph.{edge_in}
 use Rattle.incoming.specs.declared.IndexedGraph.{IndexedGraph}
 use Rattle.incoming.proofs.Ends.{ends}
 use Rattle.incoming.proofs.Sizes.{few_vertices}
@@ -47,13 +48,21 @@ right_one : (a b : Bool) → (a && b) ≡ true → b ≡ true
 right_one true b q = q
 right_one false b q = absurd (false≢true q)
 
-module _ (x : IndexedGraph) (c : PathConstants) (j : ℕ) (old work : List ℕ) (q : Quiet x.graph.bytes.now c j old work) where
-  abbrev s : List ℕ
-  s = x.graph.bytes.now
+-- what these laws ask of a graph and its successors: at most 256 vertices, edges that start at vertices, and successors that are vertices
+pub record Inside (s successors : List ℕ) : Type 0 where
+  pub few_vertices : at16 s 5 ≤ 256
+  pub starts_inside : (i : ℕ) → i < at16 s 7 → (edge_in s i).from < at16 s 5
+  pub leads_inside : (f v : ℕ) → f < at16 s 5 → v < 256 → member successors f v ≡ true → v < at16 s 5
 
-  abbrev successors : List ℕ
-  successors = x.successors.now
+-- an indexed graph has it
+pub inside : (x : IndexedGraph) → Inside x.graph.bytes.now x.successors.now
+inside x = record {
+  few_vertices = few_vertices x.graph.bytes.now x.graph.accepted;
+  starts_inside = λ i h. (ends x.graph.bytes.now x.graph.bytes_fit x.graph.accepted i h).0;
+  leads_inside = x.leads_inside;
+}
 
+module _ {s successors : List ℕ} (fits : Inside s successors) (c : PathConstants) (j : ℕ) (old work : List ℕ) (q : Quiet s c j old work) where
   abbrev n : ℕ
   n = at16 s 5
 
@@ -64,7 +73,7 @@ module _ (x : IndexedGraph) (c : PathConstants) (j : ℕ) (old work : List ℕ) 
   touched = touches (at16 s 5) j old successors
 
   few : at16 s 5 ≤ 256
-  few = few_vertices s x.graph.accepted
+  few = fits.few_vertices
 
   slot : j < 8
   slot = q.slot
@@ -99,7 +108,7 @@ module _ (x : IndexedGraph) (c : PathConstants) (j : ℕ) (old work : List ℕ) 
       work_fits = omega (arith, room, replaced_length work₁ 1 (λ k. 0));
       walked_fit = λ v h e.
           let p = some_where (λ g. member old j g && member successors g v) (at16 s 5) (sym (chosen_is v h) ∙ e) in
-          x.leads_inside p.0 v p.1 h (right_one (member old j p.0) (member successors p.0 v) p.2);
+          fits.leads_inside p.0 v p.1 h (right_one (member old j p.0) (member successors p.0 v) p.2);
     }
 
     pub walk_blank : Blank (emptied work₁ 1)
@@ -114,7 +123,7 @@ module _ (x : IndexedGraph) (c : PathConstants) (j : ℕ) (old work : List ℕ) 
     next_same : (v : ℕ) → v < at16 s 5 → next_word s c j (lent_in s l₁) l₁ v ≡ next_word s c j L old v
     next_same v h =
         ap (λ (x : ℕ). reduced_upto s c (lent_in s l₁) x v (at16 s 7)) (word_was j v slot h)
-        ∙ reduced_same s c L (lent_in s l₁) (word_in old j v) v (at16 s 7) (λ k i. t.relent.words _ (ends s x.graph.bytes_fit x.graph.accepted k i).0)
+        ∙ reduced_same s c L (lent_in s l₁) (word_in old j v) v (at16 s 7) (λ k i. t.relent.words _ (fits.starts_inside k i))
 
     -- THE VERTICES ARE WALKED
     module _ (l₂ work₂ : List ℕ) (p : Walked s c j l₁ (emptied work₁ 1) l₂ work₂ 256) where

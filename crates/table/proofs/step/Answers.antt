@@ -1,6 +1,6 @@
 use native.Mathlib.Omega.{arith}
 use mathlib.Core.Path.{◌∙◌}
-use Rattle.table.proofs.Rounds.{lends_not, stepped, walk_blank, walk_ready}
+use Rattle.table.proofs.Rounds.{inside, lends_not, stepped, walk_blank, walk_ready}
 use Rattle.table.proofs.step.Goals as goal
 
 pub walk-requires : goal.walk-requires
@@ -9,8 +9,8 @@ walk-requires c =
     let t = rw c.vertices-n.ensures.0 at
     c.touch.ensures in
     rw c.clear.ensures (
-      walk_ready a.indexed.now a.c a.j a.figures.now a.work.now c.requires _ _ t,
-      walk_blank a.indexed.now a.c a.j a.figures.now a.work.now c.requires _ _ t,
+      walk_ready (inside a.indexed.now) a.c a.j a.figures.now a.work.now c.requires _ _ t,
+      walk_blank (inside a.indexed.now) a.c a.j a.figures.now a.work.now c.requires _ _ t,
     )
 
 pub unlend-requires : goal.unlend-requires
@@ -24,7 +24,7 @@ unlend-requires c =
       v.1,
       omega (arith, v.0, c.requires.table_fits, t.relent.size, p.size),
       rw v.0
-          (lends_not a.indexed.now a.c a.j a.figures.now a.work.now c.requires _ _ t _ _ p),
+          (lends_not (inside a.indexed.now) a.c a.j a.figures.now a.work.now c.requires _ _ t _ _ p),
     )
 
 pub returns : goal.returns
@@ -36,6 +36,6 @@ returns c =
     in
     let z = rw e at c.unlend.ensures in (
       rw (c.mark.ensures.0, c.mark.ensures.1)
-          (stepped a.indexed.now a.c a.j a.figures.now a.work.now c.requires _ _ t _ _ p _ z),
+          (stepped (inside a.indexed.now) a.c a.j a.figures.now a.work.now c.requires _ _ t _ _ p _ z),
       c.walk.auto.work ∙ c.clear.auto.words ∙ c.touch.auto.work,
     )

@@ -214,14 +214,20 @@ module _ (s : List ℕ) (F : ℕ → List Row) (n : ℕ) where
       ap₂ (λ (rows : List Row) (value : Value). set rows v (row value)) e x ∙ fill_next size (entry_row s F at) (row Absent) v h
 
   -- WHAT IS WRITTEN OF THEM: the rows in an array are written as they are
-  pub entry_written : (size at rounds : ℕ) (array : List Row) (room : ℕ) → array ≡ padded size (entry_rows s at F n)
-      → answer_reply n rounds 0 (values array) room ≡ answer_reply n rounds 0 (values (entry_rows s at F n)) room
+  pub entry_written : (at rounds : ℕ) (rest : List Row) (room : ℕ)
+      → answer_reply n rounds 0 (values (entry_rows s at F n ++ rest)) room ≡ answer_reply n rounds 0 (values (entry_rows s at F n)) room
   unfolding entry_rows
-  entry_written size at rounds array room e =
+  entry_written at rounds rest room =
       let rows : List Row = tabulate n zero (entry_row s F at) in
-      let rest : List Row = replicate (size - length rows) (row Absent) in
-      ap (λ (vs : List Value). answer_reply n rounds 0 vs room) (ap values e ∙ map-append (λ (r : Row). r.value) rows rest)
+      ap (λ (vs : List Value). answer_reply n rounds 0 vs room) (map-append (λ (r : Row). r.value) rows rest)
       ∙ reply_first n rounds (values rows) (values rest) room (length-map rows (λ (r : Row). r.value) ∙ tabulate_length n zero (entry_row s F at))
+
+  -- of an array with absent ones behind them
+  pub array_written : (size at rounds : ℕ) (array : List Row) (room : ℕ) → array ≡ padded size (entry_rows s at F n)
+      → answer_reply n rounds 0 (values array) room ≡ answer_reply n rounds 0 (values (entry_rows s at F n)) room
+  array_written size at rounds array room e =
+      ap (λ (l : List Row). answer_reply n rounds 0 (values l) room) e
+      ∙ entry_written at rounds (replicate (size - length (entry_rows s at F n)) (row Absent)) room
 
   -- the result of the entry at a position; the row of entry k
   abbrev pub result_at : ℕ → Value

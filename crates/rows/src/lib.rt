@@ -89,7 +89,7 @@ impl Body<'_> {
     }
 
     // The answer of kind 0, of the entry at `at`.
-    #[tactic(auto, using(crate::proofs::Laws::entry_written))]
+    #[tactic(auto, using(crate::proofs::Laws::array_written))]
     fn write_rows(&self, at: usize, rounds: u16, out: &mut [u8]) -> Result<u16, Refusal>
         ensures { Returned (answer_reply self.now.n rounds 0
             (values (entry_rows self.now.plan.now at (rows_at self.now.figures.now self.now.slots.now 8) self.now.n)) (length out.old)) (number_of result)

@@ -14,7 +14,7 @@ use Rattle.answer.specs.Answer.{answer_code, answer_reply, row_count}
 use Rattle.answer.proofs.Reply.{enough_rows, reply_one, reply_refused}
 use Rattle.eval.specs.Steps.{body_found, entry_rows, final_found, row}
 use Rattle.rows.specs.Steps.{many, rows_at}
-use Rattle.rows.proofs.Laws.{body_each, body_one, entry_written, full_rows, judged_fields}
+use Rattle.rows.proofs.Laws.{body_each, body_one, array_written, full_rows, judged_fields}
 use Rattle.wire.proofs.Codes.{number_some}
 use Rattle.rows.proofs.write.Goals as goal
 
@@ -55,7 +55,7 @@ returns-then-kind-eq0 c =
     ∙ body_each plan figures a.slots a.paths a.n few kind in
     let F : ℕ → List Row = rows_at figures c.slots_used-used.result 8 in
     let at = c.count_at-at.result + 1 in
-    let reply = sym (entry_written plan F a.n 256 at a.rounds (many (entry_rows plan at F a.n)) room refl)
+    let reply = sym (array_written plan F a.n 256 at a.rounds (many (entry_rows plan at F a.n)) room refl)
     ∙ ap₂ (λ (k : ℕ) (rows : List Row). answer_reply a.n a.rounds k (values (many rows)) room) (sym kind) rows in
     let written = c.write_rows.ensures in
     (written.0 ∙ ap reply_number reply, written.1 ∙ ap (λ (r : Reply). reply_buffer r a.out.now) reply)

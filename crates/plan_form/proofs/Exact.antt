@@ -40,8 +40,8 @@ use Rattle.walks.specs.Lists.{All}
 use Rattle.wire.specs.Wire.{Bytes, done, le16}
 use Rattle.plan_form.specs.declared.Form.{Form}
 use Rattle.plan_form.specs.Form.{all_listed_text, body_nodes, condition_nodes, entries_nodes, form_bytes, form_of, held_code, listed_text}
-use Rattle.plan_form.specs.Form.{plan_reading, write_reply}
-use Rattle.plan_form.specs.Steps.{form_after}
+use Rattle.plan_form.specs.Form.{plan_judged, plan_reading, write_reply}
+use Rattle.plan_form.specs.Steps.{form_after, judged_after}
 use Rattle.plan_form.proofs.Written.{held_legal}
 
 -- the bytes behind the entry count
@@ -159,12 +159,21 @@ read_form p l =
     let rest = behind (plan_scan s) in
     ((read_complete p l).accepted, (rest, reading_is s ∙ ap (λ (q : Plan). form_of q rest) (plan_back p l)))
 
--- THE PROGRAM READS AS IS SAID, all accepted bytes
-pub read_steps : (s : List ℕ) → Bytes s → plan_code s ≡ 0 → form_after s (plan_scan s) ≡ plan_reading s
+-- the program reads as is said, accepted bytes
+pub read_steps_accepted : (s : List ℕ) → Bytes s → plan_code s ≡ 0 → form_after s (plan_scan s) ≡ plan_reading s
 unfolding plan_reading
-read_steps s b z =
+read_steps_accepted s b z =
     let p = plan_read s b z in
     subst (λ (t : List ℕ). form_after t (plan_scan t) ≡ form_of (plan_of s) (behind (plan_scan t))) p.1 (form_made (plan_of s) p.0)
+
+-- THE PROGRAM READS AS IS SAID, all bytes
+pub read_steps : (s : List ℕ) → Bytes s → judged_after s (plan_scan s) ≡ plan_judged s
+unfolding judged_after plan_judged
+read_steps s b = go (eqb (plan_code s) 0) refl
+  where
+    go : (t : Bool) → eqb (plan_code s) 0 ≡ t → judged_after s (plan_scan s) ≡ plan_judged s
+    go false e = rw e refl
+    go true e = rw (e, read_steps_accepted s b (eqb-true (plan_code s) 0 e)) refl
 
 -- a node for each term and each entry
 condition_size : (c : Option (Term ℕ)) → length (condition_nodes c) ≡ condition_terms c

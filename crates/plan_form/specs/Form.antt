@@ -1,5 +1,5 @@
 -- Plans in their typed form, and what reading and writing them says (document 01: worksheet `LPW`).
-use Rattle.std.specs.Prelude.{ℕ, ◌+◌, Bool, cond, List, [], ◌∷◌, ◌++◌, map, leb, eqb, length, drop, take}
+use Rattle.std.specs.Prelude.{ℕ, ◌+◌, Bool, cond, List, [], ◌∷◌, ◌++◌, map, Result, Ok, Err, leb, eqb, length, drop, take}
 use Rattle.std.specs.List.{list_any}
 use Rattle.std.proofs.Math.Option.{Option, none, some}
 use Rattle.meaning.specs.Limits.{plan_terms}
@@ -78,3 +78,7 @@ write_reply f room =
 -- THE READING OF ACCEPTED BYTES: the typed form of the plan that they write; behind its path reductions the table holds what the scan leaves there
 unfoldable pub plan_reading : List ℕ → Form
 plan_reading s = let w = plan_scan s in form_of (plan_of s) (drop w.paths w.table)
+
+-- THE READING OF ANY BYTES: that of accepted ones, or the number of the refusal
+unfoldable pub plan_judged : List ℕ → Result Form ℕ
+plan_judged s = cond (eqb (plan_code s) 0) (Ok (plan_reading s)) (Err (plan_code s))

@@ -1,5 +1,5 @@
--- The reader as the program goes. Nothing to believe: `read_steps` (proofs/Exact) says that of accepted bytes it gives `plan_reading`.
-use Rattle.std.specs.Prelude.{ℕ, ◌+◌, min, List, get_or}
+-- The reader as the program goes. Nothing to believe: `read_steps` (proofs/Exact) says that of all bytes it gives `plan_judged`.
+use Rattle.std.specs.Prelude.{ℕ, ◌+◌, min, cond, List, Result, Ok, Err, eqb, get_or}
 use Rattle.nodes.specs.Steps.{nodes_read}
 use Rattle.plan.specs.Plan.{count_at}
 use Rattle.progress.specs.Progress.{Scan}
@@ -18,3 +18,7 @@ form_after s w =
       count = count;
       nodes = nodes_read count s (count_at s + 1);
     }
+
+-- the whole reading: the typed form, or the number of the refusal
+unfoldable pub judged_after : List ℕ → Scan → Result Form ℕ
+judged_after s w = cond (eqb w.code 0) (Ok (form_after s w)) (Err w.code)

@@ -1,9 +1,11 @@
 -- READING GIVES THE TYPED FORM OF A QUERY, AND WRITING IT GIVES ITS BYTES. Assumes nothing.
 use Prim.Native.Nat.{ℕ, ◌+◌, ◌≤◌}
 use mathlib.Core.Path.{◌≡◌, refl, sym, ap, ◌∙◌}
+use mathlib.Core.Bool.{Bool, true, false}
 use mathlib.Core.List.{List, [], ◌∷◌, ◌++◌, map, append-nil}
 use native.Mathlib.Omega.{arith}
-use borrow.Author.Tests.{le-ltb}
+use borrow.Author.Tests.{eqb-true, le-ltb}
+use lib.Dec.{eqb}
 use lib.ListN.{length}
 use Rattle.meaning.specs.Limits.{QueryLegal, query_reductions, query_terms}
 use Rattle.meaning.specs.Plan.{put_all}
@@ -24,8 +26,8 @@ use Rattle.term_text.specs.Text.{query_bytes}
 use Rattle.wire.specs.Header.{header_bytes}
 use Rattle.wire.specs.Wire.{Bytes, done}
 use Rattle.query_form.specs.declared.Reading.{Reading}
-use Rattle.query_form.specs.Form.{form_bytes, form_of, query_reading, write_reply}
-use Rattle.query_form.specs.Steps.{form_after, read_after}
+use Rattle.query_form.specs.Form.{form_bytes, form_of, query_judged, query_reading, write_reply}
+use Rattle.query_form.specs.Steps.{form_after, judged_after, read_after}
 
 -- the terms behind the six bytes
 nodes_are : (q : Query) → QueryLegal 256 q → nodes_read (query_terms q) (encode q) 6 ≡ (form_of q).nodes
@@ -71,15 +73,24 @@ read_form q l =
       },
     )
 
--- THE PROGRAM READS AS IS SAID, all accepted bytes
-pub read_steps : (s : List ℕ) → Bytes s → query_code s ≡ 0 → read_after s (query_scan s) ≡ query_reading s
+-- the program reads as is said, accepted bytes
+pub read_steps_accepted : (s : List ℕ) → Bytes s → query_code s ≡ 0 → read_after s (query_scan s) ≡ query_reading s
 unfolding read_after query_reading
-read_steps s b z =
+read_steps_accepted s b z =
     let q = query_read s b z in
     let n = query_terms (query_of s) in
     let count : (query_scan s).terms ≡ n = ap (λ (t : List ℕ). (query_scan t).terms) (sym q.1) ∙ (read_complete (query_of s) q.0).terms in
     let made : form_after s n ≡ form_of (query_of s) = ap (λ (t : List ℕ). form_after t n) (sym q.1) ∙ form_made (query_of s) q.0 in
     rw (count, made) refl
+
+-- THE PROGRAM READS AS IS SAID, all bytes
+pub read_steps : (s : List ℕ) → Bytes s → judged_after s (query_scan s) ≡ query_judged s
+unfolding judged_after query_judged
+read_steps s b = go (eqb (query_code s) 0) refl
+  where
+    go : (t : Bool) → eqb (query_code s) 0 ≡ t → judged_after s (query_scan s) ≡ query_judged s
+    go false e = rw e refl
+    go true e = rw (e, read_steps_accepted s b (eqb-true (query_code s) 0 e)) refl
 
 -- WRITTEN, THE TYPED FORM IS THE BYTES
 pub write_form : (q : Query) → QueryLegal 256 q → form_bytes (form_of q) ≡ encode q

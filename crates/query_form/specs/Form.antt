@@ -1,5 +1,5 @@
 -- Queries in their typed form, and what reading and writing them says (document 01: question `LPQ`).
-use Rattle.std.specs.Prelude.{ℕ, List, ◌∷◌, ◌++◌, take}
+use Rattle.std.specs.Prelude.{ℕ, cond, List, ◌∷◌, ◌++◌, Result, Ok, Err, eqb, take}
 use Rattle.meaning.specs.Limits.{query_terms}
 use Rattle.meaning.specs.Query.{Query, each, result, single, vertex}
 use Rattle.nodes.specs.Text.{nodes_text}
@@ -31,3 +31,7 @@ unfoldable pub query_reading : List ℕ → Reading
 query_reading s =
     let w = query_scan s in
     record { form = form_of (query_of s); paths = w.paths; table = w.table; reductions = w.reductions }
+
+-- THE READING OF ANY BYTES: that of accepted ones, or the number of the refusal
+unfoldable pub query_judged : List ℕ → Result Reading ℕ
+query_judged s = cond (eqb (query_code s) 0) (Ok (query_reading s)) (Err (query_code s))

@@ -3,7 +3,7 @@ use native.Mathlib.Omega.{arith}
 use Rattle.progress.specs.Progress.{Scan}
 use Rattle.plan.specs.Plan.{plan_code}
 use Rattle.plan_form.specs.Steps.{form_after}
-use Rattle.plan_form.proofs.Exact.{read_steps}
+use Rattle.plan_form.proofs.Exact.{read_steps_accepted}
 use Rattle.plan_form.proofs.read.Goals as goal
 
 pub returns-clause-ok : goal.returns-clause-ok
@@ -20,4 +20,4 @@ returns-clause-ok c =
       c.min.ensures,
       c.min-2.ensures,
       c.min-entries.ensures,
-    ) (ap (form_after s) found ∙ read_steps s (λ i. omega (arith, c.type_inv.s i)) accepted)
+    ) (ap (form_after s) found ∙ read_steps_accepted s (λ i. omega (arith, c.type_inv.s i)) accepted)

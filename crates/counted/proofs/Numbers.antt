@@ -88,15 +88,24 @@ told Push limit s m bs bm room = told_run limit s m room
 told BoardPull limit s m bs bm room = told_board limit s m bs bm room
 told BoardPush limit s m bs bm room = told_board limit s m bs bm room
 
--- a number of 16 bits is that of a reply that is done, and a refusal's of one that is not
-told_is : (r : Reply) → Told r → (e : Result ℕ Refusal) → IfOk e (λ n. n < 65536) → number_of e ≡ reply_number r → is_done r ≡ is_ok e
-told_is r t (Ok n) h k = sym t ∙ rw (← k) (lt-ltb n 65536 h)
-told_is r t (Err e) h k = sym t ∙ rw (← k) (le-ltb (65536 + number e) 65536 (omega arith))
+-- SO A RUN WHOSE END IS COUNTED BY ITS NUMBER IS A COUNTED RUN
+pub counted_run : (way : Way) (limit : Limit) (s m before : List ℕ) {after : List ℕ} (c : Counters) {k n : ℕ} {d : Counters} → Bytes s → Bytes m
+    → Returned (asked_reply way limit s m (length before)) k before after → (n ≡ k) × (d ≡ counted_by c (ltb k 65536))
+    → Counted (asked_reply way limit s m (length before)) n before after c d
+counted_run way limit s m before c {k} bs bm run e = (
+  (e.0 ∙ run.0, run.1),
+  e.1 ∙ ap (λ (j : ℕ). counted_by c (ltb j 65536)) run.0 ∙ ap (counted_by c) (told way limit s m bs bm (length before)),
+)
 
--- SO A RUN WHOSE END IS COUNTED IS A COUNTED RUN
-pub counted_run : (way : Way) (limit : Limit) (s m before : List ℕ) {after : List ℕ} (c : Counters) {d : Counters} → Bytes s → Bytes m
+-- a number of 16 bits, and not a refusal's, is under 65,536
+ok_is : (e : Result ℕ Refusal) → IfOk e (λ n. n < 65536) → is_ok e ≡ ltb (number_of e) 65536
+ok_is (Ok n) h = sym (lt-ltb n 65536 h)
+ok_is (Err e) h = sym (le-ltb (65536 + number e) 65536 (omega arith))
+
+-- and so is one whose end is counted as it is, a number or a refusal
+pub counted_result : (way : Way) (limit : Limit) (s m before : List ℕ) {after : List ℕ} (c : Counters) {d : Counters} → Bytes s → Bytes m
     → (e : Result ℕ Refusal) → IfOk e (λ n. n < 65536) → Returned (asked_reply way limit s m (length before)) (number_of e) before after
     → d ≡ counted_by c (is_ok e)
     → Counted (asked_reply way limit s m (length before)) (number_of e) before after c d
-counted_run way limit s m before c bs bm e fits run count =
-    (run, count ∙ ap (counted_by c) (sym (told_is _ (told way limit s m bs bm (length before)) e fits run.0)))
+counted_result way limit s m before c bs bm e fits run count =
+    counted_run way limit s m before c bs bm run (refl, count ∙ ap (counted_by c) (ok_is e fits))

@@ -15,6 +15,7 @@ use Rattle.graph.proofs.Rows.{edge_there, edges_count}
 use Rattle.incoming.specs.Incoming.{Successors}
 use Rattle.incoming.proofs.Ends.{ends}
 use Rattle.incoming.proofs.Gathered.{gather_outside}
+use Rattle.incoming.proofs.Threads.{leads_inside}
 use Rattle.packed_path.specs.declared.PackedPath.{PackedPath}
 use Rattle.packed_path.specs.Packed.{no_path, path_of}
 use Rattle.packed_figures.specs.Packed.{constants}
@@ -24,6 +25,7 @@ use Rattle.vertex_set.proofs.Sets.{member_filled, replaced_length, replaced_othe
 use Rattle.table.specs.Steps.{Quiet, Stepped, touches, word_in}
 use Rattle.table.specs.Table.{Idle, Sound, changed_in, figures_in, path_at}
 use Rattle.table.proofs.Cells.{cell_mark, cells_same, replaced_words}
+use Rattle.table.proofs.Rounds.{Inside}
 use Rattle.rounds.specs.Prepared.{graph_in, vertices_in}
 use Rattle.rounds.specs.Run.{PullRound, PushRound, Round}
 use Rattle.rounds.specs.Steps.{no_constants}
@@ -48,6 +50,14 @@ module _ (s : List ℕ) (path : PackedPath) (g : Given s path) (j : ℕ) (slot :
   edge_is : (i : ℕ) → i < at16 s 7 → N.edge i ≡ edge_in s i
   edge_is i h = edge_there s i h
 
+  -- what a round asks of the graph
+  pub step_inside : Inside s successors
+  step_inside = record {
+    few_vertices = few;
+    starts_inside = from_in;
+    leads_inside = leads_inside s g.bytes g.accepted successors leads;
+  }
+
   -- ---- WHERE THE TABLE IS GIVEN with some marks, by which the edges that pass the test `live` count
 
   pub record Given_table (given : List ℕ) (live : ℕ → Bool) : Type 0 where
@@ -58,7 +68,7 @@ module _ (s : List ℕ) (path : PackedPath) (g : Given s path) (j : ℕ) (slot :
     pub size : length given ≡ length old
 
   module _ (given : List ℕ) (live : ℕ → Bool) (t : Given_table given live) where
-    -- what a round asks
+    -- and of the table
     pub step_quiet : (work : List ℕ) → 8 ≤ length work → Quiet s (constants (path_of path).keys) j given work
     step_quiet work room = record {
       sound = legal_sound c.keys (path_legal s path g);

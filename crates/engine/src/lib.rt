@@ -154,7 +154,7 @@ fn run(push: bool, plan: &[u8], graph: &[u8], limit: Limit, out: &mut [u8]) -> R
         out.new }
 {
     let w = plan::scan(plan)?;
-    judge(&Ok(w), graph)?;
+    judge_read(&w, graph)?;
     answer::judge(vertices(graph), wire::byte(plan, 5), out.len())?;
     if rounds::is_small(graph) {
         return answer_in(push, limit, plan, &w, graph, &mut [0u64; 176], out);

@@ -178,7 +178,8 @@ fn head_of(s: &[u8], w: &mut Progress, kind: TermKind, tag: u8) -> Result<Head, 
     }
 }
 
-// A term and all that it contains, from w on, with `left` levels of depth left: "for a term 1, 12, 11, 9, then each field". A refusal leaves w where it was met.
+// A term and all that it contains, from w on, with `left` levels of depth left: "for a term 1, 12, 11, 9, then each field". A refusal leaves w where it was
+// met.
 #[tactic(auto, using(crate::proofs::Reading::reading))]
 fn read_on(s: &[u8], w: &mut Progress, kind: TermKind, left: usize) -> Result<(), Refusal>
     ensures { scanned result w.new ≡ read kind left s.now (going w.old) }
